@@ -1,0 +1,7 @@
+pub mod Xor
+pub mod Linear
+pub mod Table
+pub mod Lookup
+pub mod Runs
+pub mod GateArray
+pub mod Examples
