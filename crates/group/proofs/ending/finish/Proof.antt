@@ -1,0 +1,103 @@
+use borrow.Author.Needs.{needs}
+use Rattle.group.proofs.ending.finish.Statement.{statement}
+use Rattle.group.proofs.ending.finish.Tie as tie
+use Rattle.group.proofs.ending.finish.Reads as reads
+use Rattle.group.proofs.ending.finish.Lts as lts
+use Rattle.group.proofs.ending.group_status.Reads as group-status-reads
+use Rattle.group.proofs.ending.seal.Reads as seal-reads
+use Rattle.group.proofs.ending.zero_reply.Reads as zero-reply-reads
+
+-- src/ending.rt:67:21
+enum-known-tally : tie.Need-enum-known-tally
+enum-known-tally c = search needs
+
+-- src/ending.rt:67:30
+zero-reply-requires : tie.Need-zero-reply-requires
+zero-reply-requires c κs = search needs
+
+-- src/ending.rt:68:32
+enum-told : tie.Need-enum-told
+enum-told c = search needs
+
+-- src/ending.rt:68:42
+group-status-requires : tie.Need-group-status-requires
+group-status-requires c κs = search needs
+
+-- src/ending.rt:68:27
+seal-requires : tie.Need-seal-requires
+seal-requires c κs = search needs
+
+-- src/ending.rt:69:30
+enum-told-2 : tie.Need-enum-told-2
+enum-told-2 c = search needs
+
+-- src/ending.rt:69:40
+group-status-requires-2 : tie.Need-group-status-requires-2
+group-status-requires-2 c κs = search needs
+
+-- src/ending.rt:69:25
+seal-requires-2 : tie.Need-seal-requires-2
+seal-requires-2 c κs = search needs
+
+-- src/ending.rt:70:30
+enum-told-3 : tie.Need-enum-told-3
+enum-told-3 c = search needs
+
+-- src/ending.rt:70:40
+group-status-requires-3 : tie.Need-group-status-requires-3
+group-status-requires-3 c κs = search needs
+
+-- src/ending.rt:70:25
+seal-requires-3 : tie.Need-seal-requires-3
+seal-requires-3 c κs = search needs
+
+-- src/ending.rt:61:1
+returns : tie.Need-returns
+returns c = ?
+
+-- src/ending.rt:61:1
+same-length : tie.Need-same-length
+same-length c = search needs
+
+-- src/ending.rt:61:1
+returns-2 : tie.Need-returns-2
+returns-2 c = ?
+
+-- src/ending.rt:61:1
+same-length-2 : tie.Need-same-length-2
+same-length-2 c = search needs
+
+-- src/ending.rt:61:1
+returns-3 : tie.Need-returns-3
+returns-3 c = ?
+
+-- src/ending.rt:61:1
+same-length-3 : tie.Need-same-length-3
+same-length-3 c = search needs
+
+-- src/ending.rt:61:1
+returns-4 : tie.Need-returns-4
+returns-4 c = ?
+
+pub finish-spec : {M : Type 1} → statement M
+finish-spec =
+    tie.close
+    (tie.spec
+    enum-known-tally
+    zero-reply-requires
+    enum-told
+    group-status-requires
+    seal-requires
+    enum-told-2
+    group-status-requires-2
+    seal-requires-2
+    enum-told-3
+    group-status-requires-3
+    seal-requires-3
+    returns
+    same-length
+    returns-2
+    same-length-2
+    returns-3
+    same-length-3
+    returns-4)

@@ -1,0 +1,93 @@
+use borrow.Author.Needs.{needs}
+use Rattle.group.proofs.ending.seal.Statement.{statement}
+use Rattle.group.proofs.ending.seal.Tie as tie
+use Rattle.group.proofs.ending.seal.Reads as reads
+use Rattle.group.proofs.ending.seal.Lts as lts
+use Rattle.fcs.proofs.fcs.Reads as fcs-reads
+use Rattle.group.proofs.ending.zero_reply.Reads as zero-reply-reads
+use Rattle.group.proofs.fragment.fits.Reads as fits-reads
+
+-- src/ending.rt:30:9
+fits-requires : tie.Need-fits-requires
+fits-requires c κs = search needs
+
+-- src/ending.rt:31:9
+zero-reply-requires : tie.Need-zero-reply-requires
+zero-reply-requires c κs = search needs
+
+-- src/ending.rt:31:9
+returns : tie.Need-returns
+returns c = ?
+
+-- src/ending.rt:33:5
+mul-reply : tie.Need-mul-reply
+mul-reply c = ?
+
+-- src/ending.rt:33:5
+slice-write-reply : tie.Need-slice-write-reply
+slice-write-reply c = ?
+
+-- src/ending.rt:34:39
+add-fcs : tie.Need-add-fcs
+add-fcs c = ?
+
+-- src/ending.rt:34:29
+sub-fcs : tie.Need-sub-fcs
+sub-fcs c = search needs
+
+-- src/ending.rt:34:29
+part-fcs-start : tie.Need-part-fcs-start
+part-fcs-start c = search needs
+
+-- src/ending.rt:34:29
+part-fcs-end : tie.Need-part-fcs-end
+part-fcs-end c = ?
+
+-- src/ending.rt:34:20
+fcs-requires : tie.Need-fcs-requires
+fcs-requires c κs = search needs
+
+-- src/ending.rt:34:11
+add-reply : tie.Need-add-reply
+add-reply c = ?
+
+-- src/ending.rt:34:5
+mul-reply-2 : tie.Need-mul-reply-2
+mul-reply-2 c = ?
+
+-- src/ending.rt:34:5
+slice-write-reply-2 : tie.Need-slice-write-reply-2
+slice-write-reply-2 c = ?
+
+-- src/ending.rt:37:16
+add-t5 : tie.Need-add-t5
+add-t5 c = ?
+
+-- src/ending.rt:27:1
+same-length : tie.Need-same-length
+same-length c = search needs
+
+-- src/ending.rt:27:1
+returns-2 : tie.Need-returns-2
+returns-2 c = ?
+
+pub seal-spec : {M : Type 1} → statement M
+seal-spec =
+    tie.close
+    (tie.spec
+    fits-requires
+    zero-reply-requires
+    returns
+    mul-reply
+    slice-write-reply
+    add-fcs
+    sub-fcs
+    part-fcs-start
+    part-fcs-end
+    fcs-requires
+    add-reply
+    mul-reply-2
+    slice-write-reply-2
+    add-t5
+    same-length
+    returns-2)
