@@ -135,6 +135,15 @@ laid-snoc ws at new w n e h =
     ∙ sym (ap (λ (l : List ℕ). set ((take at ws ++ new) ++ l) (at + n) w) (drop-cons ws (at + length new) 0 k)
     ∙ set-at (take at ws ++ new) (getD ws (at + length new) 0) (drop (suc (at + length new)) ws) w (at + n) lp)
 
+-- a turn of a copy: of the words from i on, the word at i set, and those behind it laid
+pub laid-drop : (ws : List ℕ) (at i : ℕ) (new : List ℕ) → i < length new → at + length new ≤ length ws → laid ws (at + i) (drop i new) ≡ laid (set ws (at + i) (getD new i 0)) (at + (i + 1)) (drop (i + 1) new)
+laid-drop ws at i new h m =
+    let l : at + i + suc (length (drop (suc i) new)) ≤ length ws = simp length-drop (omega arith) in
+    let e : at + i + 1 ≡ at + (i + 1) = omega arith in
+    ap (laid ws (at + i)) (drop-cons new i 0 h)
+    ∙ laid-cons ws (at + i) (getD new i 0) (drop (suc i) new) l
+    ∙ rw (e, add-one i)
+
 -- words laid over a whole run are the run
 pub laid-whole : (ws new : List ℕ) → length new ≡ length ws → laid ws 0 new ≡ new
 unfolding laid

@@ -1,2 +1,5 @@
 pub mod Clock
 pub mod Sets
+pub mod Answers
+pub mod Behind
+pub mod Seals

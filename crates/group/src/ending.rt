@@ -1,5 +1,6 @@
 // The end of a group, and a single slave's reply.
 ghost use mathlib.Core.Path.{_≡_};
+ghost use Prim.Native.Nat.{_<_};
 ghost use Rattle.group.specs.Kind.{answer};
 ghost use Rattle.group.specs.Fragment.{assembly};
 ghost use Rattle.group.specs.Ending.{zeroReply, sent, sealed, errorBit, groupStatus, endOf};
@@ -40,7 +41,7 @@ pub fn seal(reply: &mut [u16], w: usize, status: u16) -> Reply
 
 // Bit 9 of the group's status word.
 fn error_bit(tally: Tally) -> u16
-    ensures { λ r. ⌜ r ≡ errorBit tally ⌝ }
+    ensures { λ r. ⌜ (r ≡ errorBit tally) × (r < 2) ⌝ }
 {
     match tally {
         Tally::Nothing => 1,

@@ -1,3 +1,7 @@
+use Rattle.base.proofs.Pick.{yes, no, via}
+use mathlib.Core.Path.{_≡_, refl, sym, ap, _∙_}
+use Rattle.group.specs.declared.Tally.{Tally}
+use Rattle.group.specs.Ending.{sent, sealed, groupStatus, endBy, endOf}
 use borrow.Author.Needs.{needs}
 use Rattle.group.proofs.ending.finish.Statement.{statement}
 use Rattle.group.proofs.ending.finish.Tie as tie
@@ -53,7 +57,8 @@ seal-requires-3 c κs = search needs
 
 -- src/ending.rt:61:1
 returns : tie.Need-returns
-returns c = ?
+unfolding endOf
+returns c = via (λ (t : Tally). endBy t (c .before .before .before .before .before .args .reply .now) (c .before .before .before .before .before .args .built .words) (c .before .before .before .before .before .args .own)) (c .before .before .tally .given .1) (ap (sent (c .before .before .before .before .before .args .reply .now)) (c .zero-reply .ensures))
 
 -- src/ending.rt:61:1
 same-length : tie.Need-same-length
@@ -61,7 +66,8 @@ same-length c = search needs
 
 -- src/ending.rt:61:1
 returns-2 : tie.Need-returns-2
-returns-2 c = ?
+unfolding endOf
+returns-2 c = via (λ (t : Tally). endBy t (c .before .before .before .before .before .before .before .before .args .reply .now) (c .before .before .before .before .before .before .before .before .args .built .words) (c .before .before .before .before .before .before .before .before .args .own)) (c .before .before .before .before .before .enum-told .given .1) (c .before .before .seal .ensures ∙ ap (sealed (c .before .before .before .before .before .before .before .before .args .reply .now) (c .before .before .before .before .before .before .before .before .args .built .words)) (c .before .before .before .group-status .ensures ∙ ap (λ (t : Tally). groupStatus t (c .before .before .before .before .before .before .before .before .args .own)) (c .before .before .before .before .before .enum-told .given .1)))
 
 -- src/ending.rt:61:1
 same-length-2 : tie.Need-same-length-2
@@ -69,7 +75,8 @@ same-length-2 c = search needs
 
 -- src/ending.rt:61:1
 returns-3 : tie.Need-returns-3
-returns-3 c = ?
+unfolding endOf
+returns-3 c = via (λ (t : Tally). endBy t (c .before .before .before .before .before .before .before .before .args .reply .now) (c .before .before .before .before .before .before .before .before .args .built .words) (c .before .before .before .before .before .before .before .before .args .own)) (c .before .before .before .before .before .enum-told2 .given .1) (c .before .before .seal2 .ensures ∙ ap (sealed (c .before .before .before .before .before .before .before .before .args .reply .now) (c .before .before .before .before .before .before .before .before .args .built .words)) (c .before .before .before .group-status2 .ensures ∙ ap (λ (t : Tally). groupStatus t (c .before .before .before .before .before .before .before .before .args .own)) (c .before .before .before .before .before .enum-told2 .given .1)))
 
 -- src/ending.rt:61:1
 same-length-3 : tie.Need-same-length-3
@@ -77,7 +84,8 @@ same-length-3 c = search needs
 
 -- src/ending.rt:61:1
 returns-4 : tie.Need-returns-4
-returns-4 c = ?
+unfolding endOf
+returns-4 c = via (λ (t : Tally). endBy t (c .before .before .before .before .before .before .before .before .args .reply .now) (c .before .before .before .before .before .before .before .before .args .built .words) (c .before .before .before .before .before .before .before .before .args .own)) (c .before .before .before .before .before .enum-told3 .given .1) (c .before .before .seal3 .ensures ∙ ap (sealed (c .before .before .before .before .before .before .before .before .args .reply .now) (c .before .before .before .before .before .before .before .before .args .built .words)) (c .before .before .before .group-status3 .ensures ∙ ap (λ (t : Tally). groupStatus t (c .before .before .before .before .before .before .before .before .args .own)) (c .before .before .before .before .before .enum-told3 .given .1)))
 
 pub finish-spec : {M : Type 1} → statement M
 finish-spec =

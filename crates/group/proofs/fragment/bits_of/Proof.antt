@@ -1,3 +1,6 @@
+use Rattle.base.proofs.Pick.{yes, no, via}
+use Rattle.group.specs.Fragment.{bitsOf}
+use Rattle.group.specs.declared.Kind.{Kind}
 use borrow.Author.Needs.{needs}
 use Rattle.group.proofs.fragment.bits_of.Statement.{statement}
 use Rattle.group.proofs.fragment.bits_of.Tie as tie
@@ -48,11 +51,11 @@ returns-3 c = search needs
 
 -- src/fragment.rt:70:1
 returns-4 : tie.Need-returns-4
-returns-4 c = ?
+returns-4 c = via (λ (k : Kind). bitsOf k (c .before .before .before .before .before .args .words .now)) (c .before .before .kind .given .1) (c .fault-bits .ensures)
 
 -- src/fragment.rt:70:1
 returns-5 : tie.Need-returns-5
-returns-5 c = ?
+returns-5 c = via (λ (k : Kind). bitsOf k (c .before .before .before .before .args .words .now)) (c .before .enum-told4 .given .1) (c .slave-bits .ensures)
 
 pub bits-of-spec : {M : Type 1} → statement M
 bits-of-spec =

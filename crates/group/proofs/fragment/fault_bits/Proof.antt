@@ -1,3 +1,6 @@
+use Rattle.base.proofs.Pick.{yes, no, via}
+use Rattle.group.specs.Fragment.{faultBits}
+use Rattle.group.specs.declared.Fault.{Fault}
 use borrow.Author.Needs.{needs}
 use Rattle.group.proofs.fragment.fault_bits.Statement.{statement}
 use Rattle.group.proofs.fragment.fault_bits.Tie as tie
@@ -47,7 +50,7 @@ returns-4 c = search needs
 
 -- src/fragment.rt:57:1
 returns-5 : tie.Need-returns-5
-returns-5 c = ?
+returns-5 c = via (λ (f : Fault). faultBits f (c .before .before .before .before .args .words .now)) (c .before .enum-told5 .given .1) (c .slave-bits .ensures)
 
 pub fault-bits-spec : {M : Type 1} → statement M
 fault-bits-spec =

@@ -1,3 +1,4 @@
+use mathlib.Core.Path.{_≡_, refl, sym, ap, _∙_}
 use borrow.Author.Needs.{needs}
 use Rattle.group.proofs.fragment.status_of.Statement.{statement}
 use Rattle.group.proofs.fragment.status_of.Tie as tie
@@ -26,7 +27,7 @@ status-word-requires c κs = search needs
 
 -- src/fragment.rt:90:1
 returns : tie.Need-returns
-returns c = ?
+returns c = c .status-word .ensures ∙ cc
 
 pub status-of-spec : {M : Type 1} → statement M
 status-of-spec =

@@ -1,3 +1,5 @@
+use mathlib.Core.Path.{_≡_, refl, sym, ap, _∙_}
+use Rattle.group.specs.Fragment.{statusWord}
 use borrow.Author.Needs.{needs}
 use Rattle.group.proofs.fragment.status_word.Statement.{statement}
 use Rattle.group.proofs.fragment.status_word.Tie as tie
@@ -34,7 +36,8 @@ add-result-3 c = search needs
 
 -- src/fragment.rt:83:1
 returns : tie.Need-returns
-returns c = ?
+unfolding statusWord
+returns c = refl
 
 pub status-word-spec : {M : Type 1} → statement M
 status-word-spec =

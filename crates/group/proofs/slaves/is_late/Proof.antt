@@ -1,4 +1,5 @@
 use lib.Dec.{leb}
+use native.Mathlib.Omega.{arith}
 use mathlib.Core.Path.{_≡_, refl, sym, ap, _∙_}
 use Rattle.group.specs.Time.{isLate}
 use Rattle.group.proofs.Clock.{wrapped-elapsed}
@@ -16,7 +17,8 @@ wrapping-sub-u32-requires c κs = search needs
 -- src/slaves.rt:10:1
 returns : tie.Need-returns
 unfolding isLate
-returns c = ap (leb 60) (wrapped-elapsed _ _ _ (omega arith) (omega arith) (omega arith) (c .wrapping-sub-u32 .ensures))
+returns c = let s = c .before .args in
+    ap (leb 60) (wrapped-elapsed (c .wrapping-sub-u32 .result) (s .clock) (s .asked) (omega arith) (omega arith) (omega arith) (c .wrapping-sub-u32 .ensures))
 
 pub is-late-spec : {M : Type 1} → statement M
 is-late-spec = tie.close (tie.spec wrapping-sub-u32-requires returns)
