@@ -1,3 +1,14 @@
+use mathlib.Core.Path.{_≡_, refl, sym, ap, _∙_}
+use native.Mathlib.Omega.{arith}
+use native.Mathlib.Nat.{sub-zero}
+use mathlib.Core.List.{List, _∷_, []}
+use Prim.Native.Nat.{ℕ, _-_, _<_}
+use lib.ListN.{length, take, getD, length-take}
+use Rattle.group.specs.Kind.{Answer, answer, datOf, kindOf}
+use Rattle.group.specs.Fragment.{dataOf, framed, assembly, behind, taken}
+use Rattle.group.specs.declared.Kind.{Kind}
+use Rattle.group.proofs.Answers.{data-tells, WholeReply, whole-tells}
+use Rattle.group.proofs.Behind.{taken-by}
 use borrow.Author.Needs.{needs}
 use Rattle.group.proofs.fragment.take_answer.Statement.{statement}
 use Rattle.group.proofs.fragment.take_answer.Tie as tie
@@ -20,6 +31,22 @@ tallied-requires c κs = search needs
 -- src/fragment.rt:152:9
 status-of-requires : tie.Need-status-of-requires
 status-of-requires c κs = search needs
+
+-- the answer
+abbrev said : tie.After-status-of → Answer
+said c = let s = c .before .before .before .before .before .args in answer (s .heard) (s .words .now)
+
+-- in an arm of the match: the fragment of what the arm lays is that of the answer
+by : (c : tie.After-status-of) (kind : Kind) (ws : List ℕ) → c .before .before .kind-of .result ≡ kind → ws ≡ dataOf kind (said c)
+    → behind (assembly (c .before .before .before .before .before .args .reply .now) (c .before .before .before .before .before .args .built)) (c .before .tallied .result) (framed ws (c .status-of .result))
+    ≡ taken (assembly (c .before .before .before .before .before .args .reply .now) (c .before .before .before .before .before .args .built)) (c .before .before .before .before .before .args .left) (c .before .before .before .before .before .args .slave) (said c)
+by c kind ws e f =
+    let s = c .before .before .before .before .before .args in
+    taken-by (assembly (s .reply .now) (s .built)) (s .left) (s .slave) (said c) (c .before .before .kind-of .result) (c .before .tallied .result) (c .status-of .result) ws
+    (c .before .before .kind-of .ensures) (c .before .tallied .ensures) (c .status-of .ensures) (f ∙ sym (ap (λ (k : Kind). dataOf k (said c)) e))
+
+whole : (c : tie.After-status-of) → c .before .before .kind-of .result ≡ Kind.Whole → WholeReply (c .before .before .before .before .before .args .words .now) (c .before .before .before .before .before .args .built .words) (c .before .before .before .before .before .args .left)
+whole c e = whole-tells (said c) _ _ (sym (c .before .before .kind-of .ensures) ∙ e)
 
 -- src/fragment.rt:154:27
 enum-told : tie.Need-enum-told
@@ -83,7 +110,7 @@ counted-requires c κs = search needs
 
 -- src/fragment.rt:161:54
 shared-slice-read-t33 : tie.Need-shared-slice-read-t33
-shared-slice-read-t33 c = ?
+shared-slice-read-t33 c = data-tells (said (c .before .before .before .before)) _ _ (ap datOf (sym (c .before .before .before .before .before .before .kind-of .ensures) ∙ c .before .before .enum-told4 .given .1)) .0
 
 -- src/fragment.rt:162:37
 slice-aggregate-lay-2 : tie.Need-slice-aggregate-lay-2
@@ -99,7 +126,7 @@ enum-told-5 c = search needs
 
 -- src/fragment.rt:164:58
 sub-lay-3 : tie.Need-sub-lay-3
-sub-lay-3 c = ?
+sub-lay-3 c = whole (c .before .before .before) (c .before .enum-told5 .given .1) .two
 
 -- src/fragment.rt:164:48
 sub-lay-4 : tie.Need-sub-lay-4
@@ -115,7 +142,7 @@ part-lay-end-3 c = search needs
 
 -- src/fragment.rt:164:24
 lay-requires-5 : tie.Need-lay-requires-5
-lay-requires-5 c κs = ?
+lay-requires-5 c κs = simp length-take (omega (arith, whole (c .before .before .before .before) (c .before .before .enum-told5 .given .1) .room))
 
 -- src/fragment.rt:145:1
 same-length : tie.Need-same-length
@@ -123,7 +150,7 @@ same-length c = search needs
 
 -- src/fragment.rt:145:1
 returns : tie.Need-returns
-returns c = ?
+returns c = c .before .before .lay .ensures ∙ by (c .before .before .before .before .before .before .before) _ _ (c .before .before .before .before .before .enum-told .given .1) refl
 
 -- src/fragment.rt:145:1
 same-length-2 : tie.Need-same-length-2
@@ -131,7 +158,7 @@ same-length-2 c = search needs
 
 -- src/fragment.rt:145:1
 returns-2 : tie.Need-returns-2
-returns-2 c = ?
+returns-2 c = c .before .before .lay2 .ensures ∙ by (c .before .before .before .before .before .before .before) _ _ (c .before .before .before .before .before .enum-told2 .given .1) refl
 
 -- src/fragment.rt:145:1
 same-length-3 : tie.Need-same-length-3
@@ -139,7 +166,7 @@ same-length-3 c = search needs
 
 -- src/fragment.rt:145:1
 returns-3 : tie.Need-returns-3
-returns-3 c = ?
+returns-3 c = c .before .before .lay3 .ensures ∙ by (c .before .before .before .before .before .before .before) _ _ (c .before .before .before .before .before .enum-told3 .given .1) refl
 
 -- src/fragment.rt:145:1
 same-length-4 : tie.Need-same-length-4
@@ -147,7 +174,9 @@ same-length-4 c = search needs
 
 -- src/fragment.rt:145:1
 returns-4 : tie.Need-returns-4
-returns-4 c = ?
+returns-4 c = let h = c .before .before .before .before .before .before .before .before .before .before .before .before .before .before .args .heard in
+    let ws = c .before .before .before .before .before .before .before .before .before .before .before .before .before .before .args .words .now in
+    c .before .before .lay4 .ensures ∙ by (c .before .before .before .before .before .before .before .before .before) _ _ (c .before .before .before .before .before .before .before .enum-told4 .given .1) (ap (λ (n : ℕ). h .«rx_status» ∷ n ∷ getD ws 0 0 ∷ []) (c .before .before .before .before .before .before .counted .ensures))
 
 -- src/fragment.rt:145:1
 same-length-5 : tie.Need-same-length-5
@@ -155,7 +184,8 @@ same-length-5 c = search needs
 
 -- src/fragment.rt:145:1
 returns-5 : tie.Need-returns-5
-returns-5 c = ?
+returns-5 c = let ws = c .before .before .before .before .before .before .before .before .before .before .before .before .args .words .now in
+    c .before .before .lay5 .ensures ∙ by (c .before .before .before .before .before .before .before) _ _ (c .before .before .before .before .before .enum-told5 .given .1) (ap (λ (n : ℕ). take n ws) (sub-zero (length ws - 2)))
 
 pub take-answer-spec : {M : Type 1} → statement M
 take-answer-spec =
