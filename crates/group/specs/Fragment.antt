@@ -1,6 +1,7 @@
 -- The fragment of a slave's answer, and how it is laid behind those built: 01 'Group assembly', sections 6.3 and 6.4 of the
 -- note. Assumes nothing.
-use Prim.Native.Nat.{ℕ, min, _+_, _-_, _*_, _/_, _%_}
+use Prim.Native.Nat.{ℕ, min, _+_, _-_, _*_, _/_, _%_, _≤_, _<_}
+use mathlib.Core.Path.{_≡_}
 use mathlib.Core.List.{List, [], _∷_, _++_}
 use lib.Dec.{ltb, leb}
 use lib.ListN.{length, getD, take}
@@ -82,3 +83,10 @@ behind m t new =
 unfoldable pub taken : Assembly → ℕ → ℕ → Answer → Assembly
 taken m k slave a =
     behind m (tallied (m .built .tally) (kindOf a (m .built .words) k)) (fragmentOf slave a (m .built .words) k)
+
+-- What stays from one assembly to the next: the buffer's length, the words built so far, and every word past the words built.
+pub record Stays (m m′ : Assembly) : Type 0 where
+  pub size : length (m′ .reply) ≡ length (m .reply)
+  pub grows : m .built .words ≤ m′ .built .words
+  pub before : (i : ℕ) → i < m .built .words → getD (m′ .reply) i 0 ≡ getD (m .reply) i 0
+  pub after : (i : ℕ) → m′ .built .words ≤ i → getD (m′ .reply) i 0 ≡ getD (m .reply) i 0

@@ -1,5 +1,6 @@
 -- What all fragments of a group have in common: 01 'Group assembly', section 6.4 of the note. Assumes nothing.
 use Prim.Native.Nat.{ℕ}
+use mathlib.Core.Path.{_≡_}
 use mathlib.Core.List.{List, [], _∷_}
 use lib.Dec.{eqb}
 use Rattle.base.specs.Pick.{pick}
@@ -41,3 +42,8 @@ tallied t Kind.Whole = wholeTallied t
 unfoldable pub tallyFrom : Tally → List Kind → Tally
 tallyFrom t [] = t
 tallyFrom t (kind ∷ kinds) = tallyFrom (tallied t kind) kinds
+
+-- Every one of a run of answers is of one kind.
+unfoldable pub Every : Kind → List Kind → Type 0
+Every kind [] = Unit
+Every kind (x ∷ xs) = (x ≡ kind) × Every kind xs
