@@ -8,3 +8,4 @@ pub mod Takes
 pub mod Tallies
 pub mod Seals
 pub mod Groups
+pub mod Examples

@@ -6,3 +6,4 @@ pub mod Slaves
 pub mod Ending
 pub mod Single
 pub mod Whole
+pub mod Examples
