@@ -152,7 +152,7 @@ laid-laid ws at a b h =
     let n = at + length a in
     let front : take n ((take at ws ++ a) ++ drop n ws) ≡ take at ws ++ a = take-at (take at ws ++ a) (drop n ws) n la in
     let back : drop (n + length b) ((take at ws ++ a) ++ drop n ws) ≡ drop (n + length b) ws =
-        sym (drop-drop (length b) n ((take at ws ++ a) ++ drop n ws)) ∙ ap (drop (length b)) (drop-at (take at ws ++ a) (drop n ws) n la) ∙ drop-drop (length b) n ws in
+    sym (drop-drop (length b) n ((take at ws ++ a) ++ drop n ws)) ∙ ap (drop (length b)) (drop-at (take at ws ++ a) (drop n ws) n la) ∙ drop-drop (length b) n ws in
     let m : at + length (a ++ b) ≡ n + length b = simp length-append (omega arith) in
     ap (λ (x : List ℕ). (x ++ b) ++ drop (n + length b) ((take at ws ++ a) ++ drop n ws)) front
     ∙ ap (λ (x : List ℕ). ((take at ws ++ a) ++ b) ++ x) back

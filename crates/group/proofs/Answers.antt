@@ -10,7 +10,6 @@ use lib.ListN.{length}
 use Rattle.base.specs.Pick.{pick}
 use Rattle.base.proofs.Pick.{pick-second}
 use Rattle.group.specs.Kind.{Answer, zeroOf, datOf, codeOf, hasRoom, keptFree, fcsRight, dataKind, kindOf}
-use Rattle.group.specs.declared.Fault.{Fault}
 use Rattle.group.specs.declared.Kind.{Kind}
 
 -- an answer with DAT has words, and is what its words are

@@ -37,8 +37,8 @@ module _ (r : List ℕ) (b : Built) (t : Tally) (ws : List ℕ) (status : ℕ) w
       let m : w + 1 + length ws < length (set r w (length ws + 1)) = simp length-set (omega arith) in
       let n : w + length ws + 2 ≡ w + length (framed ws status) = omega (arith, length-framed ws status) in
       let stored : set r′ (w + 1 + length ws) status ≡ laid r w (framed ws status) =
-          ap (λ (x : List ℕ). set x (w + 1 + length ws) status) s
-          ∙ sym (laid-cons r w (length ws + 1) (ws ++ (status ∷ [])) l ∙ laid-snoc (set r w (length ws + 1)) (w + 1) ws status (length ws) refl m) in
+      ap (λ (x : List ℕ). set x (w + 1 + length ws) status) s
+      ∙ sym (laid-cons r w (length ws + 1) (ws ++ (status ∷ [])) l ∙ laid-snoc (set r w (length ws + 1)) (w + 1) ws status (length ws) refl m) in
       yes _ (ap (λ (x : ℕ). leb (w + x) (length r)) (length-framed ws status) ∙ e)
       (ap (λ (x : List ℕ). assembly x (built (w + length ws + 2) t)) stored ∙ ap (λ (x : ℕ). assembly (laid r w (framed ws status)) (built x t)) n)
 

@@ -1,20 +1,20 @@
 -- A whole group: laying fragment after fragment gives the fragments one behind the other, and the end closes them. By induction
 -- over the slaves, with the room kept from one to the next. Assumes nothing.
-use Prim.Native.Nat.{ℕ, zero, suc, _+_, _*_, _≤_}
+use Prim.Native.Nat.{ℕ, _+_, _*_, _≤_}
 use mathlib.Core.Path.{_≡_, refl, sym, ap, _∙_}
-use mathlib.Core.List.{List, [], _∷_, _++_, append-nil}
+use mathlib.Core.List.{List, [], _∷_, _++_}
 use native.Mathlib.Nat.{add-zero, zero-add}
 use native.Mathlib.Omega.{arith}
 use borrow.Author.Tests.{le-leb}
 use lib.ListN.{length, take, length-append}
-use Rattle.base.specs.Words.{laid, part}
+use Rattle.base.specs.Words.{laid}
 use Rattle.base.proofs.Pick.{yes}
 use Rattle.base.proofs.Laid.{length-laid, laid-none, laid-laid, part-laid}
 use Rattle.group.specs.Kind.{Answer, kindOf}
 use Rattle.group.specs.Tally.{tallied, tallyFrom}
-use Rattle.group.specs.Fragment.{fragmentOf, Assembly, assembly, built, taken}
-use Rattle.group.specs.Ending.{Sent, sent, replied, trailer, sealed, groupStatus, endBy, endOf}
-use Rattle.group.specs.Whole.{fragmentsOf, kindsOf, joined, assembled, takenAll, dataReply, groupSent, groupOf}
+use Rattle.group.specs.Fragment.{fragmentOf, Assembly, assembly, built}
+use Rattle.group.specs.Ending.{sent, replied, trailer, sealed, groupStatus, endBy, endOf}
+use Rattle.group.specs.Whole.{fragmentsOf, kindsOf, joined, assembled, takenAll, groupSent, groupOf}
 use Rattle.group.specs.declared.Tally.{Tally}
 use Rattle.group.proofs.Rooms.{room-kept}
 use Rattle.group.proofs.Takes.{taken-fits}

@@ -1,12 +1,11 @@
 -- Every answer has its place: a fragment has at most 5 words or as many as the reply, which has room; so what is kept free for the
 -- slaves yet to ask is enough. Assumes nothing.
 use Prim.Native.Nat.{ℕ, _+_, _-_, _*_, _≤_}
-use mathlib.Core.Path.{_≡_, refl, sym, ap, _∙_}
+use mathlib.Core.Path.{_≡_, refl, ap}
 use mathlib.Core.Logic.{_⊎_, inl, inr, ⊎-elim}
-use mathlib.Core.List.{List}
 use native.Mathlib.Omega.{arith}
 use lib.Dec.{leb}
-use lib.ListN.{length, take, length-take}
+use lib.ListN.{length, length-take}
 use Rattle.group.specs.Kind.{Answer, hasRoom, keptFree, kindOf}
 use Rattle.group.specs.Fragment.{statusOf, dataOf, fragmentBy, fragmentOf}
 use Rattle.group.specs.declared.Kind.{Kind}

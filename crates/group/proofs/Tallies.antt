@@ -2,16 +2,14 @@
 -- Assumes nothing.
 use Prim.Native.Nat.{ℕ}
 use mathlib.Core.Path.{_≡_, refl, sym, ap, _∙_}
-use mathlib.Core.Bool.{Bool, true, false}
 use mathlib.Core.List.{List, [], _∷_}
 use mathlib.Core.Logic.{_⊎_, inl, inr, ⊎-elim}
 use native.Mathlib.Omega.{arith}
 use borrow.Author.Tests.{eqb-true, eq-eqb}
 use lib.Dec.{eqb}
-use Rattle.base.specs.Pick.{pick}
 use Rattle.base.proofs.Pick.{pick-first, yes}
 use Rattle.group.specs.Kind.{zeroCode}
-use Rattle.group.specs.Tally.{tallyNumber, zeroTallied, wholeTallied, tallied, tallyFrom, Every}
+use Rattle.group.specs.Tally.{tallyNumber, tallied, tallyFrom, Every}
 use Rattle.group.specs.declared.Kind.{Kind}
 use Rattle.group.specs.declared.Tally.{Tally}
 use Rattle.group.specs.declared.ZeroLength.{ZeroLength}

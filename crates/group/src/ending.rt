@@ -5,14 +5,14 @@ ghost use Rattle.group.specs.Kind.{answer};
 ghost use Rattle.group.specs.Fragment.{assembly};
 ghost use Rattle.group.specs.Ending.{zeroReply, sent, sealed, errorBit, groupStatus, endOf};
 ghost use Rattle.group.specs.Single.{passedOn};
-use crate::fragment::copy;
-use crate::fragment::fits;
-use crate::judge::zero_bc;
 use crate::Built;
 use crate::Heard;
 use crate::Reply;
 use crate::Tally;
 use crate::ZeroLength;
+use crate::fragment::copy;
+use crate::fragment::fits;
+use crate::judge::zero_bc;
 
 // A 0-length reply as it is sent.
 pub fn zero_reply(zero: ZeroLength) -> Reply

@@ -6,15 +6,15 @@ ghost use lib.ListN.{length};
 ghost use Rattle.base.specs.Words.{laid};
 ghost use Rattle.group.specs.Kind.{answer, datOf, codeOf};
 ghost use Rattle.group.specs.Fragment.{statusWord, slaveBits, faultBits, bitsOf, statusOf, framed, assembly, behind, taken};
-use crate::judge::fault_code;
-use crate::judge::kind_of;
-use crate::judge::tallied;
-use crate::judge::zero_code;
 use crate::Built;
 use crate::Fault;
 use crate::Heard;
 use crate::Kind;
 use crate::Tally;
+use crate::judge::fault_code;
+use crate::judge::kind_of;
+use crate::judge::tallied;
+use crate::judge::zero_code;
 
 // DAT of what an answer is.
 pub fn dat_of(kind: Kind) -> u16
@@ -142,7 +142,14 @@ fn lay(reply: &mut [u16], built: Built, tally: Tally, words: &[u16], status: u16
 }
 
 // A slave's answer taken into the assembly, with `left` slaves yet to ask.
-pub fn take_answer(reply: &mut [u16], built: Built, left: usize, slave: u32, heard: Heard, words: &[u16]) -> Built
+pub fn take_answer(
+    reply: &mut [u16],
+    built: Built,
+    left: usize,
+    slave: u32,
+    heard: Heard,
+    words: &[u16],
+) -> Built
     ensures { λ r. ⌜ assembly (now (reply .exit)) r ≡ taken (assembly (now (reply .entry)) built) left slave (answer heard (now (words .entry))) ⌝ }
 {
     let n = words.len();

@@ -1,88 +1,66 @@
-use Rattle.base.proofs.Pick.{yes, no, via}
-use mathlib.Core.Path.{_≡_, refl, sym, ap, _∙_}
+-- `group::ending::finish` meets its contract: by the case of the tally. Assumes nothing.
+use mathlib.Core.Path.{ap, _∙_}
+use borrow.Author.Needs.{needs}
+use Rattle.base.proofs.Pick.{via}
 use Rattle.group.specs.declared.Tally.{Tally}
 use Rattle.group.specs.Ending.{sent, sealed, groupStatus, endBy, endOf}
-use borrow.Author.Needs.{needs}
 use Rattle.group.proofs.ending.finish.Statement.{statement}
 use Rattle.group.proofs.ending.finish.Tie as tie
-use Rattle.group.proofs.ending.finish.Reads as reads
-use Rattle.group.proofs.ending.finish.Lts as lts
-use Rattle.group.proofs.ending.group_status.Reads as group-status-reads
-use Rattle.group.proofs.ending.seal.Reads as seal-reads
-use Rattle.group.proofs.ending.zero_reply.Reads as zero-reply-reads
 
--- src/ending.rt:67:21
 enum-known-tally : tie.Need-enum-known-tally
 enum-known-tally c = search needs
 
--- src/ending.rt:67:30
 zero-reply-requires : tie.Need-zero-reply-requires
 zero-reply-requires c κs = search needs
 
--- src/ending.rt:68:32
 enum-told : tie.Need-enum-told
 enum-told c = search needs
 
--- src/ending.rt:68:42
 group-status-requires : tie.Need-group-status-requires
 group-status-requires c κs = search needs
 
--- src/ending.rt:68:27
 seal-requires : tie.Need-seal-requires
 seal-requires c κs = search needs
 
--- src/ending.rt:69:30
 enum-told-2 : tie.Need-enum-told-2
 enum-told-2 c = search needs
 
--- src/ending.rt:69:40
 group-status-requires-2 : tie.Need-group-status-requires-2
 group-status-requires-2 c κs = search needs
 
--- src/ending.rt:69:25
 seal-requires-2 : tie.Need-seal-requires-2
 seal-requires-2 c κs = search needs
 
--- src/ending.rt:70:30
 enum-told-3 : tie.Need-enum-told-3
 enum-told-3 c = search needs
 
--- src/ending.rt:70:40
 group-status-requires-3 : tie.Need-group-status-requires-3
 group-status-requires-3 c κs = search needs
 
--- src/ending.rt:70:25
 seal-requires-3 : tie.Need-seal-requires-3
 seal-requires-3 c κs = search needs
 
--- src/ending.rt:61:1
 returns : tie.Need-returns
 unfolding endOf
 returns c = via (λ (t : Tally). endBy t (c .before .before .before .before .before .args .reply .now) (c .before .before .before .before .before .args .built .words) (c .before .before .before .before .before .args .own)) (c .before .before .tally .given .1) (ap (sent (c .before .before .before .before .before .args .reply .now)) (c .zero-reply .ensures))
 
--- src/ending.rt:61:1
 same-length : tie.Need-same-length
 same-length c = search needs
 
--- src/ending.rt:61:1
 returns-2 : tie.Need-returns-2
 unfolding endOf
 returns-2 c = via (λ (t : Tally). endBy t (c .before .before .before .before .before .before .before .before .args .reply .now) (c .before .before .before .before .before .before .before .before .args .built .words) (c .before .before .before .before .before .before .before .before .args .own)) (c .before .before .before .before .before .enum-told .given .1) (c .before .before .seal .ensures ∙ ap (sealed (c .before .before .before .before .before .before .before .before .args .reply .now) (c .before .before .before .before .before .before .before .before .args .built .words)) (c .before .before .before .group-status .ensures ∙ ap (λ (t : Tally). groupStatus t (c .before .before .before .before .before .before .before .before .args .own)) (c .before .before .before .before .before .enum-told .given .1)))
 
--- src/ending.rt:61:1
 same-length-2 : tie.Need-same-length-2
 same-length-2 c = search needs
 
--- src/ending.rt:61:1
 returns-3 : tie.Need-returns-3
 unfolding endOf
 returns-3 c = via (λ (t : Tally). endBy t (c .before .before .before .before .before .before .before .before .args .reply .now) (c .before .before .before .before .before .before .before .before .args .built .words) (c .before .before .before .before .before .before .before .before .args .own)) (c .before .before .before .before .before .enum-told2 .given .1) (c .before .before .seal2 .ensures ∙ ap (sealed (c .before .before .before .before .before .before .before .before .args .reply .now) (c .before .before .before .before .before .before .before .before .args .built .words)) (c .before .before .before .group-status2 .ensures ∙ ap (λ (t : Tally). groupStatus t (c .before .before .before .before .before .before .before .before .args .own)) (c .before .before .before .before .before .enum-told2 .given .1)))
 
--- src/ending.rt:61:1
 same-length-3 : tie.Need-same-length-3
 same-length-3 c = search needs
 
--- src/ending.rt:61:1
 returns-4 : tie.Need-returns-4
 unfolding endOf
 returns-4 c = via (λ (t : Tally). endBy t (c .before .before .before .before .before .before .before .before .args .reply .now) (c .before .before .before .before .before .before .before .before .args .built .words) (c .before .before .before .before .before .before .before .before .args .own)) (c .before .before .before .before .before .enum-told3 .given .1) (c .before .before .seal3 .ensures ∙ ap (sealed (c .before .before .before .before .before .before .before .before .args .reply .now) (c .before .before .before .before .before .before .before .before .args .built .words)) (c .before .before .before .group-status3 .ensures ∙ ap (λ (t : Tally). groupStatus t (c .before .before .before .before .before .before .before .before .args .own)) (c .before .before .before .before .before .enum-told3 .given .1)))

@@ -1,31 +1,24 @@
-use Rattle.base.proofs.Pick.{yes, no, via}
-use mathlib.Core.Path.{_≡_, refl, sym, ap, _∙_}
-use native.Mathlib.Omega.{arith}
-use borrow.Author.Tests.{leb-true, not-true, not-false}
+-- `group::ending::seal` meets its contract: the two stores are the words laid. Assumes nothing.
 use Prim.Native.Nat.{ℕ, _≤_, _+_}
-use lib.ListN.{length, take, set, length-set}
+use mathlib.Core.Path.{sym, ap, _∙_}
+use native.Mathlib.Omega.{arith}
 use native.Mathlib.Nat.{sub-zero}
+use borrow.Author.Tests.{leb-true, not-true, not-false}
+use borrow.Author.Needs.{needs}
+use lib.ListN.{length, take, set, length-set}
+use Rattle.base.proofs.Pick.{no}
 use Rattle.fcs.specs.Fcs.{fcsOf}
 use Rattle.group.specs.Ending.{sent, sealed}
 use Rattle.group.proofs.Seals.{sealed-stores}
-use borrow.Author.Needs.{needs}
 use Rattle.group.proofs.ending.seal.Statement.{statement}
 use Rattle.group.proofs.ending.seal.Tie as tie
-use Rattle.group.proofs.ending.seal.Reads as reads
-use Rattle.group.proofs.ending.seal.Lts as lts
-use Rattle.fcs.proofs.fcs.Reads as fcs-reads
-use Rattle.group.proofs.ending.zero_reply.Reads as zero-reply-reads
-use Rattle.group.proofs.fragment.fits.Reads as fits-reads
 
--- src/ending.rt:30:9
 fits-requires : tie.Need-fits-requires
 fits-requires c κs = search needs
 
--- src/ending.rt:31:9
 zero-reply-requires : tie.Need-zero-reply-requires
 zero-reply-requires c κs = search needs
 
--- src/ending.rt:31:9
 returns : tie.Need-returns
 unfolding sealed
 returns c = no _ (sym (c .before .before .fits2 .ensures) ∙ not-true _ (c .before .if1 .taken)) (ap (sent (c .before .before .before .before .args .reply .now)) (c .zero-reply .ensures))
@@ -36,55 +29,42 @@ room c =
     let s = c .before .before .before .args in
     leb-true (s .w + 2) (length (s .reply .now)) (sym (c .before .fits2 .ensures) ∙ not-false _ (c .if1 .left))
 
--- src/ending.rt:33:5
 mul-reply : tie.Need-mul-reply
 mul-reply c = omega (arith, room c)
 
--- src/ending.rt:33:5
 slice-write-reply : tie.Need-slice-write-reply
 slice-write-reply c = omega (arith, room c)
 
--- src/ending.rt:34:39
 add-fcs : tie.Need-add-fcs
 add-fcs c = omega (arith, room c)
 
--- src/ending.rt:34:29
 sub-fcs : tie.Need-sub-fcs
 sub-fcs c = search needs
 
--- src/ending.rt:34:29
 part-fcs-start : tie.Need-part-fcs-start
 part-fcs-start c = search needs
 
--- src/ending.rt:34:29
 part-fcs-end : tie.Need-part-fcs-end
 part-fcs-end c = simp length-set (omega (arith, room (c .before)))
 
--- src/ending.rt:34:20
 fcs-requires : tie.Need-fcs-requires
 fcs-requires c κs = search needs
 
--- src/ending.rt:34:11
 add-reply : tie.Need-add-reply
 add-reply c = omega (arith, room (c .before .before .before))
 
--- src/ending.rt:34:5
 mul-reply-2 : tie.Need-mul-reply-2
 mul-reply-2 c = omega (arith, room (c .before .before .before))
 
--- src/ending.rt:34:5
 slice-write-reply-2 : tie.Need-slice-write-reply-2
 slice-write-reply-2 c = simp length-set (omega (arith, room (c .before .before .before)))
 
--- src/ending.rt:37:16
 add-t5 : tie.Need-add-t5
 add-t5 c = omega (arith, room (c .before .before .before))
 
--- src/ending.rt:27:1
 same-length : tie.Need-same-length
 same-length c = search needs
 
--- src/ending.rt:27:1
 returns-2 : tie.Need-returns-2
 returns-2 c = let s = c .before .before .before .before .before .before .args in
     let r = set (s .reply .now) (s .w) (s .status) in

@@ -1,15 +1,15 @@
-use native.Mathlib.Nat.{add-zero}
+-- `group::fragment::copy` meets its contract. The loop's invariant: what is left of the words, laid from here on, gives what all of them give from the start. The measure is
+-- what is left of them. Assumes nothing.
+use Prim.Native.Nat.{_≤_, _-_, _+_}
 use mathlib.Core.Path.{_≡_, refl, sym, ap, _∙_}
+use native.Mathlib.Nat.{add-zero}
 use native.Mathlib.Omega.{arith}
 use borrow.Author.Needs.{needs}
-use Prim.Native.Nat.{_≤_, _-_, _+_}
-use lib.ListN.{length, drop, set, length-set, drop-of-length-le}
+use lib.ListN.{length, drop, length-set, drop-of-length-le}
 use Rattle.base.specs.Words.{laid}
 use Rattle.base.proofs.Laid.{laid-none, laid-drop}
 use Rattle.group.proofs.fragment.copy.Statement.{statement}
 use Rattle.group.proofs.fragment.copy.Tie as tie
-use Rattle.group.proofs.fragment.copy.Reads as reads
-use Rattle.group.proofs.fragment.copy.Lts as lts
 
 abbrev Inv-loop : tie.InvT-loop
 Inv-loop to₀ at from i₀ to i = (i ≤ length from) × (length to ≡ length to₀) × (laid to₀ at from ≡ laid to (at + i) (drop i from))
@@ -17,50 +17,39 @@ Inv-loop to₀ at from i₀ to i = (i ≤ length from) × (length to ≡ length 
 abbrev μ-loop : tie.MeasureT-loop
 μ-loop to₀ at from i₀ to i = length from - i
 
--- src/fragment.rt:119:5
 loop-holds : tie.Need-loop-holds Inv-loop μ-loop
 loop-holds c = (omega arith, refl, rw add-zero)
 
--- src/fragment.rt:120:22
 mul-to : tie.Need-mul-to Inv-loop μ-loop
 mul-to c = search needs
 
--- src/fragment.rt:120:22
 shared-slice-read-to : tie.Need-shared-slice-read-to Inv-loop μ-loop
 shared-slice-read-to c = search needs
 
--- src/fragment.rt:120:12
 add-to : tie.Need-add-to Inv-loop μ-loop
 add-to c = search needs
 
--- src/fragment.rt:120:9
 mul-to-2 : tie.Need-mul-to-2 Inv-loop μ-loop
 mul-to-2 c = search needs
 
--- src/fragment.rt:120:9
 slice-write-to : tie.Need-slice-write-to Inv-loop μ-loop
 slice-write-to c = search needs
 
--- src/fragment.rt:121:9
 add-i : tie.Need-add-i Inv-loop μ-loop
 add-i c = search needs
 
--- src/fragment.rt:119:5
 loop-less : tie.Need-loop-less Inv-loop μ-loop
 loop-less c = search needs
 
--- src/fragment.rt:119:5
 loop-again : tie.Need-loop-again Inv-loop μ-loop
 loop-again c = let l = c .before .before .loop in
     let ws = c .before .before .before .args .from .now in
     let h : c .before .before .before .args .at + length ws ≤ length (l .to) = omega arith in
     (omega arith, simp length-set (l .inv .1), l .inv .2 ∙ laid-drop (l .to) (c .before .before .before .args .at) (l .i) ws (c .before .loop-test .taken) h)
 
--- src/fragment.rt:114:1
 same-length : tie.Need-same-length Inv-loop μ-loop
 same-length c = search needs
 
--- src/fragment.rt:114:1
 returns : tie.Need-returns Inv-loop μ-loop
 returns c = let l = c .before .loop in
     let ws = c .before .before .args .from .now in

@@ -1,56 +1,43 @@
+-- `group::judge::zero_tallied` meets its contract: by the case of the tally. Assumes nothing.
+use mathlib.Core.Path.{refl, sym, _∙_}
+use borrow.Author.Tests.{eq-eqb, ne-eqb}
+use borrow.Author.Needs.{needs}
 use Rattle.base.proofs.Pick.{yes, no, via}
-use borrow.Author.Tests.{eq-eqb, ne-eqb, le-leb, lt-leb, lt-ltb, le-ltb}
-use mathlib.Core.Path.{_≡_, refl, sym, ap, _∙_}
 use Rattle.group.specs.Tally.{zeroTallied}
 use Rattle.group.specs.declared.Tally.{Tally}
-use borrow.Author.Needs.{needs}
 use Rattle.group.proofs.judge.zero_tallied.Statement.{statement}
 use Rattle.group.proofs.judge.zero_tallied.Tie as tie
-use Rattle.group.proofs.judge.zero_tallied.Reads as reads
-use Rattle.group.proofs.judge.zero_tallied.Lts as lts
-use Rattle.group.proofs.judge.zero_code.Reads as zero-code-reads
 
--- src/judge.rt:130:27
 enum-told : tie.Need-enum-told
 enum-told c = search needs
 
--- src/judge.rt:131:21
 enum-known-tally : tie.Need-enum-known-tally
 enum-known-tally c = search needs
 
--- src/judge.rt:132:16
 zero-code-requires : tie.Need-zero-code-requires
 zero-code-requires c κs = search needs
 
--- src/judge.rt:132:37
 zero-code-requires-2 : tie.Need-zero-code-requires-2
 zero-code-requires-2 c κs = search needs
 
--- src/judge.rt:133:17
 returns : tie.Need-returns
 returns c = via (λ (t : Tally). zeroTallied t (c .before .before .before .before .before .before .args .zero)) (c .before .before .before .before .tally .given .1) (yes _ (eq-eqb _ _ (sym (c .before .before .zero-code .ensures) ∙ c .if1 .taken ∙ c .before .zero-code2 .ensures)) refl)
 
--- src/judge.rt:137:25
 enum-told-2 : tie.Need-enum-told-2
 enum-told-2 c = search needs
 
--- src/judge.rt:138:25
 enum-told-3 : tie.Need-enum-told-3
 enum-told-3 c = search needs
 
--- src/judge.rt:126:1
 returns-2 : tie.Need-returns-2
 returns-2 c = via (λ (t : Tally). zeroTallied t (c .before .before .args .zero)) (c .enum-told .given .1) refl
 
--- src/judge.rt:126:1
 returns-3 : tie.Need-returns-3
 returns-3 c = via (λ (t : Tally). zeroTallied t (c .before .before .before .before .before .before .args .zero)) (c .before .before .before .before .tally .given .1) (no _ (ne-eqb _ _ (λ e. c .if1 .left (c .before .before .zero-code .ensures ∙ e ∙ sym (c .before .zero-code2 .ensures)))) refl)
 
--- src/judge.rt:126:1
 returns-4 : tie.Need-returns-4
 returns-4 c = search needs
 
--- src/judge.rt:126:1
 returns-5 : tie.Need-returns-5
 returns-5 c = search needs
 

@@ -1,14 +1,11 @@
+-- `group::slaves::next_from` meets its contract. The loop's invariant: the first slave from here on is the first from the start on. The measure is what is left of 24. Assumes nothing.
+use Prim.Native.Nat.{_-_}
 use mathlib.Core.Path.{_≡_, refl, sym, ap, _∙_}
-use Prim.Native.Nat.{_≤_, _-_}
-use native.Mathlib.Omega.{arith}
 use borrow.Author.Needs.{needs}
 use Rattle.group.specs.Slaves.{slavesUp, nextOf}
 use Rattle.group.proofs.Sets.{from-none, from-taken, from-passed}
 use Rattle.group.proofs.slaves.next_from.Statement.{statement}
 use Rattle.group.proofs.slaves.next_from.Tie as tie
-use Rattle.group.proofs.slaves.next_from.Reads as reads
-use Rattle.group.proofs.slaves.next_from.Lts as lts
-use Rattle.group.proofs.slaves.bit.Reads as bit-reads
 
 abbrev Inv-loop : tie.InvT-loop
 Inv-loop set from s₀ s = nextOf (slavesUp set s) ≡ nextOf (slavesUp set from)
@@ -16,31 +13,24 @@ Inv-loop set from s₀ s = nextOf (slavesUp set s) ≡ nextOf (slavesUp set from
 abbrev μ-loop : tie.MeasureT-loop
 μ-loop set from s₀ s = 24 - s
 
--- src/slaves.rt:29:5
 loop-holds : tie.Need-loop-holds Inv-loop μ-loop
 loop-holds c = refl
 
--- src/slaves.rt:30:12
 bit-requires : tie.Need-bit-requires Inv-loop μ-loop
 bit-requires c κs = search needs
 
--- src/slaves.rt:31:13
 returns : tie.Need-returns Inv-loop μ-loop
 returns c = ap nextOf (from-taken (c .before .before .before .loop .s) (c .before .before .before .before .args .set) (c .before .before .loop-test .taken) (sym (c .before .bit .ensures .0) ∙ c .if1 .taken)) ∙ c .before .before .before .loop .inv
 
--- src/slaves.rt:33:9
 add-s : tie.Need-add-s Inv-loop μ-loop
 add-s c = search needs
 
--- src/slaves.rt:29:5
 loop-less : tie.Need-loop-less Inv-loop μ-loop
 loop-less c = search needs
 
--- src/slaves.rt:29:5
 loop-again : tie.Need-loop-again Inv-loop μ-loop
 loop-again c = ap nextOf (from-passed (c .before .before .before .loop .s) (c .before .before .before .before .args .set) (c .before .before .loop-test .taken) (λ e. c .if1 .left (c .before .bit .ensures .0 ∙ e))) ∙ c .before .before .before .loop .inv
 
--- src/slaves.rt:25:1
 returns-2 : tie.Need-returns-2 Inv-loop μ-loop
 returns-2 c = sym (ap nextOf (from-none (c .before .loop .s) (c .before .before .args .set) (c .loop-test .left))) ∙ c .before .loop .inv
 
