@@ -23,6 +23,18 @@ part-split ws at n =
 pub part-append : (a b c : List ℕ) (at n : ℕ) → length a ≡ at → length b ≡ n → part (a ++ (b ++ c)) at n ≡ b
 part-append a b c at n p q = rw (drop-at a (b ++ c) at p) (take-at b c n q)
 
+-- a part without its first words is a part
+pub drop-part : (ws : List ℕ) (at n k : ℕ) → at + n ≤ length ws → k ≤ n → drop k (part ws at n) ≡ part ws (at + k) (n - k)
+drop-part ws at n k h m =
+    let l : length (drop k (part ws at n)) ≡ n - k = length-drop k (part ws at n) ∙ ap (λ (x : ℕ). x - k) (length-part ws at n h) in
+    let r : length (part ws (at + k) (n - k)) ≡ n - k = length-part ws (at + k) (n - k) (omega arith) in
+    ext-getD 0 (drop k (part ws at n)) (part ws (at + k) (n - k)) (l ∙ sym r)
+    (λ i p. let p′ : i < n - k = omega arith in
+    getD-drop k (part ws at n) i 0
+    ∙ getD-part ws at n (k + i) (omega arith)
+    ∙ ap (λ (j : ℕ). getD ws j 0) (omega arith)
+    ∙ sym (getD-part ws (at + k) (n - k) i p′))
+
 -- a bound on every word of a run is one on every word of a piece of it
 
 pub below-drop : {m : ℕ} (n : ℕ) (ws : List ℕ) → Below m ws → Below m (drop n ws)

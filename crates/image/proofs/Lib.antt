@@ -1,2 +1,4 @@
 pub mod Segment
+pub mod Packing
+pub mod Body
 pub mod File
