@@ -3,6 +3,9 @@
 use Prim.Native.Nat.{ℕ, zero, suc, _+_, _-_, _*_, _/_, _%_, _^_}
 use mathlib.Core.List.{List, [], _∷_, _++_}
 use lib.ListN.{length, take, drop}
+use lib.Dec.{leb}
+use Rattle.base.specs.Pick.{pick}
+use Rattle.base.specs.Words.{laid}
 use Rattle.fcs.specs.Fcs.{fcsOf}
 use Rattle.image.specs.Segment.{memoryOf, lengthOf, wordBytes}
 use Rattle.image.specs.declared.Memory.{Memory}
@@ -40,6 +43,14 @@ packed k words = paired (spread k words)
 -- .. and n memory words of k bytes out of packet words.
 unfoldable pub unpacked : ℕ → ℕ → List ℕ → List ℕ
 unpacked k n packet = gather k n (spread 2 packet)
+
+-- Packet words with PM words packed into them from a place on; as they were where those don't fit.
+unfoldable pub packedInto : List ℕ → ℕ → List ℕ → List ℕ
+packedInto packet at words = pick (leb (at + length (packed 3 words)) (length packet)) (laid packet at (packed 3 words)) packet
+
+-- PM words that are all unpacked out of the packet words from a place on; as they were where those aren't all there.
+unfoldable pub unpackedFrom : List ℕ → ℕ → List ℕ → List ℕ
+unpackedFrom packet at words = pick (leb (at + length (packed 3 words)) (length packet)) (unpacked 3 (length words) (drop at packet)) words
 
 -- The packet words of a body of L memory words: 3L/2 in PM, L in DM and IO.
 abbrev pub bodyWords : Memory → ℕ → ℕ
