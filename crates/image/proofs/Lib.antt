@@ -3,3 +3,4 @@ pub mod Packing
 pub mod Turns
 pub mod Body
 pub mod File
+pub mod Segments

@@ -2,3 +2,4 @@ pub mod Header
 pub mod Segment
 pub mod Packing
 pub mod File
+pub mod Segments
