@@ -1,2 +1,6 @@
 pub mod Segment
+pub mod Packing
+pub mod Turns
+pub mod Body
 pub mod File
+pub mod Segments

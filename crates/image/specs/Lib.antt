@@ -1,3 +1,5 @@
 pub mod Header
 pub mod Segment
+pub mod Packing
 pub mod File
+pub mod Segments
