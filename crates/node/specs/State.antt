@@ -1,0 +1,55 @@
+-- The parts of a node's state, and states that differ in one part. 01 'State and status reply'. Assumes nothing.
+use Prim.Native.Nat.{ℕ, min, _+_}
+use mathlib.Core.List.{List}
+use lib.ListN.{replicate}
+use Rattle.flash.specs.declared.Erasing.{Erasing}
+use Rattle.node.specs.declared.Answer.{Answer}
+use Rattle.node.specs.declared.Counts.{Counts}
+use Rattle.node.specs.declared.Given.{Given}
+use Rattle.node.specs.declared.Node.{Node}
+use Rattle.node.specs.declared.Pending.{Pending}
+use Rattle.node.specs.declared.Refusal.{Refusal}
+use Rattle.node.specs.declared.Turn.{Turn}
+
+-- The paper's number of each refusal: 01 'Call refusals'.
+abbrev pub refusalNumber : Refusal → ℕ
+refusalNumber Refusal.FlashSize = 1
+refusalNumber Refusal.ReplySize = 2
+refusalNumber Refusal.MemorySize = 3
+refusalNumber Refusal.Number = 4
+refusalNumber Refusal.State = 5
+refusalNumber Refusal.Busy = 6
+refusalNumber Refusal.Unasked = 7
+
+abbrev pub node : List ℕ → List ℕ → Given → ℕ → Counts → Erasing → Pending → Node
+node masks directory given mode counts erasing pending =
+    record { masks = masks; directory = directory; given = given; mode = mode; counts = counts; erasing = erasing; pending = pending }
+
+abbrev pub turn : Node → Answer → Turn
+turn n a = record { node = n; answer = a }
+
+-- Counts stop at FFFF.
+abbrev pub counted : ℕ → ℕ → ℕ
+counted count more = min (count + more) 0xFFFF
+
+abbrev pub counts : ℕ → ℕ → Counts
+counts amswire flash = record { amswire = amswire; flash = flash }
+
+-- So many AMSWire errors and FLASH errors more.
+abbrev pub withErrors : Node → ℕ → ℕ → Node
+withErrors n amswire flash =
+    node (n .masks) (n .directory) (n .given) (n .mode)
+    (counts (counted (n .counts .amswire) amswire) (counted (n .counts .flash) flash))
+    (n .erasing) (n .pending)
+
+abbrev pub withPending : Node → Pending → Node
+withPending n pending = node (n .masks) (n .directory) (n .given) (n .mode) (n .counts) (n .erasing) pending
+
+abbrev pub withMode : Node → ℕ → Node
+withMode n mode = node (n .masks) (n .directory) (n .given) mode (n .counts) (n .erasing) (n .pending)
+
+abbrev pub withMasks : Node → List ℕ → Node
+withMasks n masks = node masks (n .directory) (n .given) (n .mode) (n .counts) (n .erasing) (n .pending)
+
+abbrev pub withFlash : Node → List ℕ → Erasing → Node
+withFlash n directory erasing = node (n .masks) directory (n .given) (n .mode) (n .counts) erasing (n .pending)

@@ -1,0 +1,105 @@
+// Whether a value is a state of a node.
+ghost use mathlib.Core.Path.{_≡_};
+ghost use Rattle.group.specs.Slaves.{hasSlave};
+ghost use Rattle.node.specs.Valid.{sizeOk, givenOk, masksOk, erasingOk, askOk, gatheringOk, pendingOk, stateOk};
+use crate::Ask;
+use crate::Gathering;
+use crate::Given;
+use crate::Node;
+use crate::Pending;
+use flash::Erasing;
+
+pub fn size_ok(words: usize) -> bool
+    ensures { λ r. ⌜ r ≡ sizeOk words ⌝ }
+{
+    (words == 32768) | (words == 262144)
+}
+
+fn given_ok(given: Given) -> bool
+    ensures { λ r. ⌜ r ≡ givenOk given ⌝ }
+{
+    ((given.kind == 1) | (given.kind == 2))
+        & ((1 <= given.ports) & (given.ports <= 4))
+        & (given.subdetector <= 7)
+        & size_ok(given.flash_words)
+}
+
+fn masks_ok(masks: &[u32]) -> bool
+    ensures { λ r. ⌜ r ≡ masksOk (now (masks .entry)) ⌝ }
+{
+    let mut i = 0;
+    while i < masks.len() {
+        if 16777216 <= masks[i] {
+            return false;
+        }
+        i += 1;
+    }
+    true
+}
+
+fn erasing_ok(words: usize, erasing: Erasing) -> bool
+    ensures { λ r. ⌜ r ≡ erasingOk words erasing ⌝ }
+{
+    match erasing {
+        Erasing::Nothing => true,
+        Erasing::Sector(progress) => {
+            flash::sectors::is_sector(progress.sector)
+                & (progress.done < flash::sectors::sector_size(words, progress.sector))
+        }
+    }
+}
+
+fn ask_ok(ports: u16, ask: Ask) -> bool
+    ensures { λ r. ⌜ r ≡ askOk ports ask ⌝ }
+{
+    (ask.link < ports as u32) & (ask.slave <= 23)
+}
+
+fn has_slave(set: u32, slave: u32) -> bool
+    ensures { λ r. ⌜ r ≡ hasSlave set slave ⌝ }
+{
+    if 32 <= slave {
+        return false;
+    }
+    (set >> slave) % 2 == 1
+}
+
+fn gathering_ok(slave: u32, gathering: Gathering) -> bool
+    ensures { λ r. ⌜ r ≡ gatheringOk slave gathering ⌝ }
+{
+    let built = gathering.built;
+    has_slave(gathering.set, slave)
+        & (gathering.set < 16777216)
+        & group::judge::has_room(
+            2,
+            built.words,
+            5,
+            group::slaves::slaves_above(gathering.set, slave),
+        )
+        & ((gathering.from == 1) | (gathering.from == 2))
+}
+
+fn pending_ok(ports: u16, pending: Pending) -> bool
+    ensures { λ r. ⌜ r ≡ pendingOk ports pending ⌝ }
+{
+    match pending {
+        Pending::Nothing => true,
+        Pending::Slave(ask) => ask_ok(ports, ask),
+        Pending::Group(ask, gathering) => ask_ok(ports, ask) & gathering_ok(ask.slave, gathering),
+    }
+}
+
+// Whether this is a state of a node.
+pub fn state_ok(node: Node) -> bool
+    ensures { λ r. ⌜ r ≡ stateOk node ⌝ }
+{
+    let given = node.given;
+    let masks = node.masks;
+    let erasing = node.erasing;
+    let pending = node.pending;
+    given_ok(given)
+        & (node.mode <= 3)
+        & masks_ok(&masks)
+        & erasing_ok(given.flash_words, erasing)
+        & pending_ok(given.ports, pending)
+}
