@@ -65,6 +65,12 @@ part-laid ws at new n e h =
     ap (λ (l : List ℕ). part l at n) (append-assoc (take at ws) new (drop (at + length new) ws))
     ∙ part-append (take at ws) new (drop (at + length new) ws) at n (length-take-le at ws h) e
 
+-- the run up to the last word laid
+pub take-laid : (ws : List ℕ) (at : ℕ) (new : List ℕ) (n : ℕ) → at + length new ≡ n → at ≤ length ws → take n (laid ws at new) ≡ take at ws ++ new
+unfolding laid
+take-laid ws at new n e h =
+    take-at (take at ws ++ new) (drop (at + length new) ws) n (simp length-append (omega (arith, length-take-le at ws h)))
+
 -- the two frame laws: what stands before, and what stands after
 pub laid-append-right : (a b : List ℕ) (k : ℕ) (new : List ℕ) → laid (a ++ b) (length a + k) new ≡ a ++ laid b k new
 unfolding laid
@@ -134,6 +140,23 @@ laid-snoc ws at new w n e h =
     ∙ append-assoc (take at ws ++ new) (w ∷ []) (drop (suc (at + length new)) ws)
     ∙ sym (ap (λ (l : List ℕ). set ((take at ws ++ new) ++ l) (at + n) w) (drop-cons ws (at + length new) 0 k)
     ∙ set-at (take at ws ++ new) (getD ws (at + length new) 0) (drop (suc (at + length new)) ws) w (at + n) lp)
+
+-- two runs of words laid one behind the other
+pub laid-laid : (ws : List ℕ) (at : ℕ) (a b : List ℕ) → at + length a + length b ≤ length ws → laid (laid ws at a) (at + length a) b ≡ laid ws at (a ++ b)
+unfolding laid
+laid-laid ws at a b h =
+    let front : length (take at ws ++ a) ≡ at + length a = simp length-append (omega (arith, length-take-le at ws (omega arith))) in
+    let rest : List ℕ = drop (at + length a) ws in
+    let n : at + length a ≡ length (take at ws ++ a) + 0 = omega arith in
+    let m : at + length (a ++ b) ≡ at + length a + length b = simp length-append (omega arith) in
+    let z : 0 + length b ≡ length b = omega arith in
+    ap (λ (k : ℕ). laid ((take at ws ++ a) ++ rest) k b) n
+    ∙ laid-append-right (take at ws ++ a) rest 0 b
+    ∙ ap (λ (k : ℕ). (take at ws ++ a) ++ (b ++ drop k rest)) z
+    ∙ ap (λ (l : List ℕ). (take at ws ++ a) ++ (b ++ l)) (drop-drop (length b) (at + length a) ws)
+    ∙ sym (append-assoc (take at ws ++ a) b (drop (at + length a + length b) ws))
+    ∙ ap (λ (l : List ℕ). l ++ drop (at + length a + length b) ws) (append-assoc (take at ws) a b)
+    ∙ ap (λ (k : ℕ). (take at ws ++ (a ++ b)) ++ drop k ws) (sym m)
 
 -- words laid over a whole run are the run
 pub laid-whole : (ws new : List ℕ) → length new ≡ length ws → laid ws 0 new ≡ new

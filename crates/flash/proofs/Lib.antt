@@ -1,0 +1,5 @@
+pub mod Geometry
+pub mod Statuses
+pub mod Entries
+pub mod Kept
+pub mod Searches
