@@ -3,3 +3,4 @@ pub mod Statuses
 pub mod Entries
 pub mod Kept
 pub mod Searches
+pub mod Changes

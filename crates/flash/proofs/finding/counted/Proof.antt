@@ -15,7 +15,7 @@ use Rattle.flash.proofs.finding.counted.Lts as lts
 use Rattle.flash.proofs.finding.earlier.Reads as earlier-reads
 
 returns : tie.Need-returns
-returns c = no _ (not-true _ (c .if1 .taken)) refl
+returns c = sym (ap (countedWith (c .before .args .search) (c .before .args .sector)) (not-true (c .before .args .passes) (c .if1 .taken)))
 
 earlier-requires : tie.Need-earlier-requires
 earlier-requires c κs = search needs
@@ -24,7 +24,7 @@ add-t7 : tie.Need-add-t7
 add-t7 c = search needs
 
 returns-2 : tie.Need-returns-2
-returns-2 c = yes _ (not-false _ (c .before .before .if1 .left)) (λ i. record { count = c .before .before .before .args .search .count + 1; lowest = (c .before .earlier .ensures) i })
+returns-2 c = (λ i. record { count = c .before .before .before .args .search .count + 1; lowest = (c .before .earlier .ensures) i }) ∙ sym (ap (countedWith (c .before .before .before .args .search) (c .before .before .before .args .sector)) (not-false (c .before .before .before .args .passes) (c .before .before .if1 .left)))
 
 pub counted-spec : {M : Type 1} → statement M
 counted-spec = tie.close (tie.spec returns earlier-requires add-t7 returns-2)
