@@ -65,6 +65,12 @@ part-laid ws at new n e h =
     ap (λ (l : List ℕ). part l at n) (append-assoc (take at ws) new (drop (at + length new) ws))
     ∙ part-append (take at ws) new (drop (at + length new) ws) at n (length-take-le at ws h) e
 
+-- the run up to the last word laid
+pub take-laid : (ws : List ℕ) (at : ℕ) (new : List ℕ) (n : ℕ) → at + length new ≡ n → at ≤ length ws → take n (laid ws at new) ≡ take at ws ++ new
+unfolding laid
+take-laid ws at new n e h =
+    take-at (take at ws ++ new) (drop (at + length new) ws) n (simp length-append (omega (arith, length-take-le at ws h)))
+
 -- the two frame laws: what stands before, and what stands after
 pub laid-append-right : (a b : List ℕ) (k : ℕ) (new : List ℕ) → laid (a ++ b) (length a + k) new ≡ a ++ laid b k new
 unfolding laid
