@@ -1,0 +1,5 @@
+pub mod Words
+pub mod Map
+pub mod Run
+pub mod Stretch
+pub mod Pairs

@@ -1,0 +1,4 @@
+// The node's memories: PM, DM and IO segments in and out, and Load. 01 'Files and memories'.
+mod index;
+mod runs;
+mod registers;
