@@ -1,2 +1,5 @@
 pub mod Segment
+pub mod Packing
+pub mod Turns
+pub mod Body
 pub mod File

@@ -1,3 +1,4 @@
 pub mod Header
 pub mod Segment
+pub mod Packing
 pub mod File

@@ -39,7 +39,11 @@ fcs-requires c κs = search needs
 
 returns-2 : tie.Need-returns-2
 unfolding bodyOk
-returns-2 c = let b = c .before .before .before .before .before .before .args .body .now in let z : length b - 1 - 0 ≡ length b - 1 = omega arith in let f : c .before .fcs .result ≡ fcsOf (take (length b - 1) b) = rw z at (c .before .fcs .ensures) in and-yes (le-leb 2 (length b) (omega arith)) (and-no _ (ne-eqb _ _ (λ q. c .if2 .taken (q ∙ sym f))))
+returns-2 c =
+    let b = c .before .before .before .before .before .before .args .body .now in
+    let z : length b - 1 - 0 ≡ length b - 1 = omega arith in
+    let f : c .before .fcs .result ≡ fcsOf (take (length b - 1) b) = rw z at (c .before .fcs .ensures) in
+    and-yes (le-leb 2 (length b) (omega arith)) (and-no _ (ne-eqb _ _ (λ q. c .if2 .taken (q ∙ sym f))))
 
 enum-told : tie.Need-enum-told
 enum-told c = search needs
@@ -58,15 +62,27 @@ enum-told-3 c = search needs
 
 returns-3 : tie.Need-returns-3
 unfolding bodyOk
-returns-3 c = let b = c .before .before .before .before .before .before .before .before .before .args .body .now in let z : length b - 1 - 0 ≡ length b - 1 = omega arith in let f : c .before .before .before .before .fcs .result ≡ fcsOf (take (length b - 1) b) = rw z at (c .before .before .before .before .fcs .ensures) in and-yes (le-leb 2 (length b) (omega arith)) (and-yes (eq-eqb _ _ (c .before .before .before .if2 .left ∙ f)) (via (λ (m : Memory). zeroByteOk m b) (c .before .enum-told .given .1) refl))
+returns-3 c =
+    let b = c .before .before .before .before .before .before .before .before .before .args .body .now in
+    let z : length b - 1 - 0 ≡ length b - 1 = omega arith in
+    let f : c .before .before .before .before .fcs .result ≡ fcsOf (take (length b - 1) b) = rw z at (c .before .before .before .before .fcs .ensures) in
+    and-yes (le-leb 2 (length b) (omega arith)) (and-yes (eq-eqb _ _ (c .before .before .before .if2 .left ∙ f)) (via (λ (m : Memory). zeroByteOk m b) (c .before .enum-told .given .1) refl))
 
 returns-4 : tie.Need-returns-4
 unfolding bodyOk
-returns-4 c = let b = c .before .before .before .before .before .before .before .before .args .body .now in let z : length b - 1 - 0 ≡ length b - 1 = omega arith in let f : c .before .before .before .fcs .result ≡ fcsOf (take (length b - 1) b) = rw z at (c .before .before .before .fcs .ensures) in and-yes (le-leb 2 (length b) (omega arith)) (and-yes (eq-eqb _ _ (c .before .before .if2 .left ∙ f)) (via (λ (m : Memory). zeroByteOk m b) (c .enum-told2 .given .1) refl))
+returns-4 c =
+    let b = c .before .before .before .before .before .before .before .before .args .body .now in
+    let z : length b - 1 - 0 ≡ length b - 1 = omega arith in
+    let f : c .before .before .before .fcs .result ≡ fcsOf (take (length b - 1) b) = rw z at (c .before .before .before .fcs .ensures) in
+    and-yes (le-leb 2 (length b) (omega arith)) (and-yes (eq-eqb _ _ (c .before .before .if2 .left ∙ f)) (via (λ (m : Memory). zeroByteOk m b) (c .enum-told2 .given .1) refl))
 
 returns-5 : tie.Need-returns-5
 unfolding bodyOk
-returns-5 c = let b = c .before .before .before .before .before .before .before .before .args .body .now in let z : length b - 1 - 0 ≡ length b - 1 = omega arith in let f : c .before .before .before .fcs .result ≡ fcsOf (take (length b - 1) b) = rw z at (c .before .before .before .fcs .ensures) in and-yes (le-leb 2 (length b) (omega arith)) (and-yes (eq-eqb _ _ (c .before .before .if2 .left ∙ f)) (via (λ (m : Memory). zeroByteOk m b) (c .enum-told3 .given .1) refl))
+returns-5 c =
+    let b = c .before .before .before .before .before .before .before .before .args .body .now in
+    let z : length b - 1 - 0 ≡ length b - 1 = omega arith in
+    let f : c .before .before .before .fcs .result ≡ fcsOf (take (length b - 1) b) = rw z at (c .before .before .before .fcs .ensures) in
+    and-yes (le-leb 2 (length b) (omega arith)) (and-yes (eq-eqb _ _ (c .before .before .if2 .left ∙ f)) (via (λ (m : Memory). zeroByteOk m b) (c .enum-told3 .given .1) refl))
 
 pub body-ok-spec : {M : Type 1} → statement M
 body-ok-spec =

@@ -29,7 +29,11 @@ length-ok-requires c κs = search needs
 
 returns : tie.Need-returns
 unfolding segmentOk
-returns c = let w = getD (c .before .before .before .before .before .before .before .args .segment .now) 0 0 in let m = c .before .before .before .before .memory-of .ensures in let l : c .before .length-ok .result ≡ lengthOk (memoryOf w) (lengthOf w) = c .before .length-ok .ensures ∙ ap₂ lengthOk m (c .before .before .length-of .ensures) in and-no _ (sym l ∙ not-true _ (c .if1 .taken))
+returns c =
+    let w = getD (c .before .before .before .before .before .before .before .args .segment .now) 0 0 in
+    let m = c .before .before .before .before .memory-of .ensures in
+    let l : c .before .length-ok .result ≡ lengthOk (memoryOf w) (lengthOf w) = c .before .length-ok .ensures ∙ ap₂ lengthOk m (c .before .before .length-of .ensures) in
+    and-no _ (sym l ∙ not-true _ (c .if1 .taken))
 
 shared-slice-read-page-of : tie.Need-shared-slice-read-page-of
 shared-slice-read-page-of c = search needs
@@ -42,7 +46,12 @@ page-ok-requires c κs = search needs
 
 returns-2 : tie.Need-returns-2
 unfolding segmentOk
-returns-2 c = let w = getD (c .before .before .before .before .before .before .before .before .before .before .before .args .segment .now) 0 0 in let m = c .before .before .before .before .before .before .before .before .memory-of .ensures in let l : c .before .before .before .before .before .length-ok .result ≡ lengthOk (memoryOf w) (lengthOf w) = c .before .before .before .before .before .length-ok .ensures ∙ ap₂ lengthOk m (c .before .before .before .before .before .before .length-of .ensures) in let p : c .before .page-ok .result ≡ pageOk (memoryOf w) (pageOf (getD (c .before .before .before .before .before .before .before .before .before .before .before .args .segment .now) 1 0)) = c .before .page-ok .ensures ∙ ap₂ pageOk m (c .before .before .page-of .ensures) in and-yes (sym l ∙ not-false _ (c .before .before .before .before .if1 .left)) (and-no _ (sym p ∙ not-true _ (c .if2 .taken)))
+returns-2 c =
+    let w = getD (c .before .before .before .before .before .before .before .before .before .before .before .args .segment .now) 0 0 in
+    let m = c .before .before .before .before .before .before .before .before .memory-of .ensures in
+    let l : c .before .before .before .before .before .length-ok .result ≡ lengthOk (memoryOf w) (lengthOf w) = c .before .before .before .before .before .length-ok .ensures ∙ ap₂ lengthOk m (c .before .before .before .before .before .before .length-of .ensures) in
+    let p : c .before .page-ok .result ≡ pageOk (memoryOf w) (pageOf (getD (c .before .before .before .before .before .before .before .before .before .before .before .args .segment .now) 1 0)) = c .before .page-ok .ensures ∙ ap₂ pageOk m (c .before .before .page-of .ensures) in
+    and-yes (sym l ∙ not-false _ (c .before .before .before .before .if1 .left)) (and-no _ (sym p ∙ not-true _ (c .if2 .taken)))
 
 sub-body-ok : tie.Need-sub-body-ok
 sub-body-ok c = search needs
@@ -58,7 +67,12 @@ body-ok-requires c κs = search needs
 
 returns-3 : tie.Need-returns-3
 unfolding segmentOk
-returns-3 c = let w = getD (c .before .before .before .before .before .before .before .before .before .before .before .before .before .args .segment .now) 0 0 in let m = c .before .before .before .before .before .before .before .before .before .before .memory-of .ensures in let l : c .before .before .before .before .before .before .before .length-ok .result ≡ lengthOk (memoryOf w) (lengthOf w) = c .before .before .before .before .before .before .before .length-ok .ensures ∙ ap₂ lengthOk m (c .before .before .before .before .before .before .before .before .length-of .ensures) in let p : c .before .before .before .page-ok .result ≡ pageOk (memoryOf w) (pageOf (getD (c .before .before .before .before .before .before .before .before .before .before .before .before .before .args .segment .now) 1 0)) = c .before .before .before .page-ok .ensures ∙ ap₂ pageOk m (c .before .before .before .before .page-of .ensures) in and-yes (sym l ∙ not-false _ (c .before .before .before .before .before .before .if1 .left)) (and-yes (sym p ∙ not-false _ (c .before .before .if2 .left)) (c .body-ok .ensures ∙ ap₂ bodyOk m (take-all (length (c .before .before .before .before .before .before .before .before .before .before .before .before .before .args .segment .now) - 2) (drop 2 (c .before .before .before .before .before .before .before .before .before .before .before .before .before .args .segment .now)) (omega (arith, length-drop 2 (c .before .before .before .before .before .before .before .before .before .before .before .before .before .args .segment .now))))))
+returns-3 c =
+    let w = getD (c .before .before .before .before .before .before .before .before .before .before .before .before .before .args .segment .now) 0 0 in
+    let m = c .before .before .before .before .before .before .before .before .before .before .memory-of .ensures in
+    let l : c .before .before .before .before .before .before .before .length-ok .result ≡ lengthOk (memoryOf w) (lengthOf w) = c .before .before .before .before .before .before .before .length-ok .ensures ∙ ap₂ lengthOk m (c .before .before .before .before .before .before .before .before .length-of .ensures) in
+    let p : c .before .before .before .page-ok .result ≡ pageOk (memoryOf w) (pageOf (getD (c .before .before .before .before .before .before .before .before .before .before .before .before .before .args .segment .now) 1 0)) = c .before .before .before .page-ok .ensures ∙ ap₂ pageOk m (c .before .before .before .before .page-of .ensures) in
+    and-yes (sym l ∙ not-false _ (c .before .before .before .before .before .before .if1 .left)) (and-yes (sym p ∙ not-false _ (c .before .before .if2 .left)) (c .body-ok .ensures ∙ ap₂ bodyOk m (take-all (length (c .before .before .before .before .before .before .before .before .before .before .before .before .before .args .segment .now) - 2) (drop 2 (c .before .before .before .before .before .before .before .before .before .before .before .before .before .args .segment .now)) (omega (arith, length-drop 2 (c .before .before .before .before .before .before .before .before .before .before .before .before .before .args .segment .now))))))
 
 pub segment-ok-spec : {M : Type 1} → statement M
 segment-ok-spec =

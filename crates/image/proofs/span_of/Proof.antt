@@ -27,7 +27,9 @@ add-t9 c = search needs
 
 returns : tie.Need-returns
 unfolding spanOf
-returns c = let n : c .before .before .before .before .length-of .result ≡ lengthOf (c .before .before .before .before .before .args .first) = c .before .before .before .before .length-of .ensures in via (λ (m : Memory). spanFor m (lengthOf (c .before .before .before .before .before .args .first))) (sym (c .before .before .before .memory-of .ensures) ∙ c .before .enum-told .given .1) (yes _ (eq-eqb _ _ (ap (λ (x : ℕ). x % 2) (sym n) ∙ c .if1 .taken)) (ap (λ (x : ℕ). Span.Words (2 + x / 2 * 3)) n))
+returns c =
+    let n : c .before .before .before .before .length-of .result ≡ lengthOf (c .before .before .before .before .before .args .first) = c .before .before .before .before .length-of .ensures in
+    via (λ (m : Memory). spanFor m (lengthOf (c .before .before .before .before .before .args .first))) (sym (c .before .before .before .memory-of .ensures) ∙ c .before .enum-told .given .1) (yes _ (eq-eqb _ _ (ap (λ (x : ℕ). x % 2) (sym n) ∙ c .if1 .taken)) (ap (λ (x : ℕ). Span.Words (2 + x / 2 * 3)) n))
 
 enum-told-2 : tie.Need-enum-told-2
 enum-told-2 c = search needs
@@ -43,15 +45,21 @@ add-t11 c = search needs
 
 returns-2 : tie.Need-returns-2
 unfolding spanOf
-returns-2 c = let n : c .before .before .before .before .length-of .result ≡ lengthOf (c .before .before .before .before .before .args .first) = c .before .before .before .before .length-of .ensures in via (λ (m : Memory). spanFor m (lengthOf (c .before .before .before .before .before .args .first))) (sym (c .before .before .before .memory-of .ensures) ∙ c .before .enum-told .given .1) (no _ (ne-eqb _ _ (λ q. c .if1 .left (ap (λ (x : ℕ). x % 2) n ∙ q))) refl)
+returns-2 c =
+    let n : c .before .before .before .before .length-of .result ≡ lengthOf (c .before .before .before .before .before .args .first) = c .before .before .before .before .length-of .ensures in
+    via (λ (m : Memory). spanFor m (lengthOf (c .before .before .before .before .before .args .first))) (sym (c .before .before .before .memory-of .ensures) ∙ c .before .enum-told .given .1) (no _ (ne-eqb _ _ (λ q. c .if1 .left (ap (λ (x : ℕ). x % 2) n ∙ q))) refl)
 
 returns-3 : tie.Need-returns-3
 unfolding spanOf
-returns-3 c = let n : c .before .before .before .length-of .result ≡ lengthOf (c .before .before .before .before .args .first) = c .before .before .before .length-of .ensures in via (λ (m : Memory). spanFor m (lengthOf (c .before .before .before .before .args .first))) (sym (c .before .before .memory-of .ensures) ∙ c .enum-told2 .given .1) (ap (λ (x : ℕ). Span.Words (2 + x)) n)
+returns-3 c =
+    let n : c .before .before .before .length-of .result ≡ lengthOf (c .before .before .before .before .args .first) = c .before .before .before .length-of .ensures in
+    via (λ (m : Memory). spanFor m (lengthOf (c .before .before .before .before .args .first))) (sym (c .before .before .memory-of .ensures) ∙ c .enum-told2 .given .1) (ap (λ (x : ℕ). Span.Words (2 + x)) n)
 
 returns-4 : tie.Need-returns-4
 unfolding spanOf
-returns-4 c = let n : c .before .before .before .length-of .result ≡ lengthOf (c .before .before .before .before .args .first) = c .before .before .before .length-of .ensures in via (λ (m : Memory). spanFor m (lengthOf (c .before .before .before .before .args .first))) (sym (c .before .before .memory-of .ensures) ∙ c .enum-told3 .given .1) (ap (λ (x : ℕ). Span.Words (2 + x)) n)
+returns-4 c =
+    let n : c .before .before .before .length-of .result ≡ lengthOf (c .before .before .before .before .args .first) = c .before .before .before .length-of .ensures in
+    via (λ (m : Memory). spanFor m (lengthOf (c .before .before .before .before .args .first))) (sym (c .before .before .memory-of .ensures) ∙ c .enum-told3 .given .1) (ap (λ (x : ℕ). Span.Words (2 + x)) n)
 
 pub span-of-spec : {M : Type 1} → statement M
 span-of-spec =
