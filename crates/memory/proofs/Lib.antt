@@ -1,4 +1,3 @@
-pub mod Words
 pub mod Map
 pub mod Run
 pub mod Stretch

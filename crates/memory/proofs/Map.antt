@@ -8,7 +8,7 @@ use native.Mathlib.Omega.{arith}
 use lib.Dec.{ltb}
 use borrow.Author.Tests.{ltb-true, ltb-false, lt-ltb, le-ltb}
 use Rattle.base.specs.Pick.{pick}
-use Rattle.base.proofs.Pick.{yes, no}
+use Rattle.base.proofs.Pick.{yes, no, pick-case}
 use Rattle.image.specs.declared.Memory.{Memory}
 use Rattle.image.specs.declared.Memory.the-variants.{Pm, Dm, Io}
 use Rattle.image.specs.declared.Page.{Page}
@@ -47,6 +47,13 @@ index-low memory page address h = sym (yes _ (lt-ltb address 0x2000 h) refl)
 pub index-high : (memory : Memory) (page : Page) (address : ℕ) → 0x2000 ≤ address → indexOf memory page address ≡ highAt memory page + (address - 0x2000)
 unfolding indexOf
 index-high memory page address h = sym (no _ (le-ltb address 0x2000 h) refl)
+
+pub index-most : (memory : Memory) (page : Page) (address : ℕ) → address ≤ 0x4000 → indexOf memory page address ≤ 0x8000
+unfolding indexOf
+index-most memory page address h =
+    pick-case (λ (i : ℕ). i ≤ 0x8000) (ltb address 0x2000)
+    (λ e. let l = low-most memory page in let k = ltb-true address 0x2000 e in omega arith)
+    (λ e. let l = high-most memory page in omega arith)
 
 -- the halves that a page sees don't overlap
 

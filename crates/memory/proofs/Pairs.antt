@@ -10,10 +10,11 @@ use lib.Dec.{ltb}
 use borrow.Author.Tests.{ltb-true, ne-eqb}
 use Rattle.base.specs.Pick.{pick}
 use Rattle.base.specs.Words.{laid, Below}
-use Rattle.base.proofs.Laid.{laid-none}
+use Rattle.base.proofs.Part.{drop-two}
+use Rattle.base.proofs.Laid.{laid-none, laid-two}
 use Rattle.base.proofs.Pick.{and-left, and-right, pick-case}
 use Rattle.memory.specs.Pairs.{registerOf, writes, idsOk, valueOf, ioAfter, ioAnswer}
-use Rattle.memory.proofs.Words.{laid-two, drop-two}
+
 
 -- what is said of no pair is said of the word, if any, that is left behind the pairs
 short : {A : Type 0} (f : List ℕ → A) (a : A) → f [] ≡ a → ((x : ℕ) → f (x ∷ []) ≡ a) → (l : List ℕ) → length l ≤ 1 → f l ≡ a

@@ -79,10 +79,10 @@ pub and-assoc : (s t u : Bool) → ((s && t) && u) ≡ (s && (t && u))
 and-assoc true t u = refl
 and-assoc false t u = refl
 
-pub below-append : (len : ℕ) (a b : List ℕ) → allBelow len (a ++ b) ≡ (allBelow len a && allBelow len b)
+pub indices-append : (len : ℕ) (a b : List ℕ) → allBelow len (a ++ b) ≡ (allBelow len a && allBelow len b)
 unfolding allBelow
-below-append len [] b = refl
-below-append len (i ∷ a) b = ap (λ (t : Bool). ltb i len && t) (below-append len a b) ∙ sym (and-assoc (ltb i len) (allBelow len a) (allBelow len b))
+indices-append len [] b = refl
+indices-append len (i ∷ a) b = ap (λ (t : Bool). ltb i len && t) (indices-append len a b) ∙ sym (and-assoc (ltb i len) (allBelow len a) (allBelow len b))
 
 -- what a run that fits tells
 

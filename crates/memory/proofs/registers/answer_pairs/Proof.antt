@@ -1,119 +1,126 @@
+-- `memory::registers::answer_pairs` meets its contract. The loop's invariant: the pairs left, on the registers and the reply as they are, give what all of them give at the start, and their IDs are right. The measure is what is left of the length. Assumes nothing.
+use Prim.Native.Nat.{_+_, _-_, _≤_}
+use mathlib.Core.Path.{_≡_, refl, sym, _∙_}
+use mathlib.Core.Bool.{true}
+use native.Mathlib.Omega.{arith}
+use lib.ListN.{length, drop, length-set}
+use Rattle.base.specs.Words.{laid}
+use Rattle.memory.specs.Pairs.{idsOk, ioAfter, ioAnswer}
+use Rattle.memory.proofs.Pairs.{ids-tells, after-next, after-done, answer-laid, answer-done}
+use borrow.Author.Needs.{needs}
 use Rattle.memory.proofs.registers.answer_pairs.Statement.{statement}
 use Rattle.memory.proofs.registers.answer_pairs.Tie as tie
-use Rattle.memory.proofs.registers.answer_pairs.Reads as reads
-use Rattle.memory.proofs.registers.answer_pairs.Lts as lts
-use Rattle.base.proofs.wide.Reads as wide-reads
-use Rattle.memory.proofs.registers.pair_value.Reads as pair-value-reads
 
 abbrev Inv-loop : tie.InvT-loop
-Inv-loop io₀ pairs reply₀ at i₀ io reply i = ?
+Inv-loop io₀ pairs reply₀ at i₀ io reply i =
+    (i ≤ length pairs)
+    × (length io ≡ length io₀)
+    × (idsOk (length io₀) (drop i pairs) ≡ true)
+    × (ioAfter io₀ pairs ≡ ioAfter io (drop i pairs))
+    × (length reply ≡ length reply₀)
+    × (laid reply₀ at (ioAnswer io₀ pairs) ≡ laid reply (at + i) (ioAnswer io (drop i pairs)))
 
 abbrev μ-loop : tie.MeasureT-loop
-μ-loop io₀ pairs reply₀ at i₀ io reply i = ?
+μ-loop io₀ pairs reply₀ at i₀ io reply i = length pairs - i
 
--- src/registers.rt:59:5
 loop-holds : tie.Need-loop-holds Inv-loop μ-loop
-loop-holds c = ?
+loop-holds c = let a = c .before .before .before .args in let e : a .at + 0 ≡ a .at = omega arith in (omega arith, refl, c .before .before .before .pre .0, refl, refl, rw e)
 
--- src/registers.rt:59:11
 add-loop : tie.Need-add-loop Inv-loop μ-loop
-add-loop c = ?
+add-loop c = search needs
 
--- src/registers.rt:60:18
 mul-id : tie.Need-mul-id Inv-loop μ-loop
-mul-id c = ?
+mul-id c = search needs
 
--- src/registers.rt:60:18
 shared-slice-read-id : tie.Need-shared-slice-read-id Inv-loop μ-loop
-shared-slice-read-id c = ?
+shared-slice-read-id c = search needs
 
--- src/registers.rt:61:13
 wide-requires : tie.Need-wide-requires Inv-loop μ-loop
-wide-requires c κs = ?
+wide-requires c κs = search needs
 
--- src/registers.rt:62:42
 add-pair-value : tie.Need-add-pair-value Inv-loop μ-loop
-add-pair-value c = ?
+add-pair-value c = search needs
 
--- src/registers.rt:62:36
 mul-pair-value : tie.Need-mul-pair-value Inv-loop μ-loop
-mul-pair-value c = ?
+mul-pair-value c = search needs
 
--- src/registers.rt:62:36
 shared-slice-read-pair-value : tie.Need-shared-slice-read-pair-value Inv-loop μ-loop
-shared-slice-read-pair-value c = ?
+shared-slice-read-pair-value c = search needs
 
--- src/registers.rt:62:50
 mul-pair-value-2 : tie.Need-mul-pair-value-2 Inv-loop μ-loop
-mul-pair-value-2 c = ?
+mul-pair-value-2 c = search needs
 
--- src/registers.rt:62:50
 slice-read-pair-value : tie.Need-slice-read-pair-value Inv-loop μ-loop
-slice-read-pair-value c = ?
+slice-read-pair-value c =
+    let a = c .before .before .before .before .before .before .before .before .before .args in
+    let l = c .before .before .before .before .before .loop in
+    let t = ids-tells (length (a .io .now)) (a .pairs .now) (l .i) (omega arith) (l .inv .2) in
+    omega arith
 
--- src/registers.rt:62:13
 pair-value-requires : tie.Need-pair-value-requires Inv-loop μ-loop
-pair-value-requires c κs = ?
+pair-value-requires c κs = search needs
 
--- src/registers.rt:63:9
 mul-io : tie.Need-mul-io Inv-loop μ-loop
-mul-io c = ?
+mul-io c = search needs
 
--- src/registers.rt:63:9
 slice-write-io : tie.Need-slice-write-io Inv-loop μ-loop
-slice-write-io c = ?
+slice-write-io c =
+    let a = c .before .before .before .before .before .before .before .before .before .before .args in
+    let l = c .before .before .before .before .before .before .loop in
+    let t = ids-tells (length (a .io .now)) (a .pairs .now) (l .i) (omega arith) (l .inv .2) in
+    omega arith
 
--- src/registers.rt:64:15
 add-reply : tie.Need-add-reply Inv-loop μ-loop
-add-reply c = ?
+add-reply c = search needs
 
--- src/registers.rt:64:9
 mul-reply : tie.Need-mul-reply Inv-loop μ-loop
-mul-reply c = ?
+mul-reply c = search needs
 
--- src/registers.rt:64:9
 slice-write-reply : tie.Need-slice-write-reply Inv-loop μ-loop
-slice-write-reply c = ?
+slice-write-reply c = search needs
 
--- src/registers.rt:65:15
 add-reply-2 : tie.Need-add-reply-2 Inv-loop μ-loop
-add-reply-2 c = ?
+add-reply-2 c = search needs
 
--- src/registers.rt:65:15
 add-reply-3 : tie.Need-add-reply-3 Inv-loop μ-loop
-add-reply-3 c = ?
+add-reply-3 c = search needs
 
--- src/registers.rt:65:9
 mul-reply-2 : tie.Need-mul-reply-2 Inv-loop μ-loop
-mul-reply-2 c = ?
+mul-reply-2 c = search needs
 
--- src/registers.rt:65:9
 slice-write-reply-2 : tie.Need-slice-write-reply-2 Inv-loop μ-loop
-slice-write-reply-2 c = ?
+slice-write-reply-2 c = simp length-set (omega arith)
 
--- src/registers.rt:66:9
 add-i : tie.Need-add-i Inv-loop μ-loop
-add-i c = ?
+add-i c = search needs
 
--- src/registers.rt:59:5
 loop-less : tie.Need-loop-less Inv-loop μ-loop
-loop-less c = ?
+loop-less c = search needs
 
--- src/registers.rt:59:5
 loop-again : tie.Need-loop-again Inv-loop μ-loop
-loop-again c = ?
+loop-again c =
+    let a = c .before .before .before .before .before .before .before .before .before .before .args in
+    let l = c .before .before .before .before .before .before .loop in
+    let t = ids-tells (length (a .io .now)) (a .pairs .now) (l .i) (omega arith) (l .inv .2) in
+    (omega arith,
+    simp length-set (l .inv .1),
+    t .rest,
+    l .inv .3 ∙ after-next (l .io) (a .pairs .now) (l .i) _ (omega arith) (c .before .before .before .wide .ensures) (c .pair-value .ensures),
+    simp length-set (l .inv .4),
+    l .inv .5 ∙ answer-laid (l .io) (a .pairs .now) (l .reply) (a .at) (l .i) _ (omega arith) (omega arith) (c .before .before .before .wide .ensures) (c .pair-value .ensures))
 
--- src/registers.rt:53:1
 same-length : tie.Need-same-length Inv-loop μ-loop
-same-length c = ?
+same-length c = search needs
 
--- src/registers.rt:53:1
 same-length-2 : tie.Need-same-length-2 Inv-loop μ-loop
-same-length-2 c = ?
+same-length-2 c = search needs
 
--- src/registers.rt:53:1
 returns : tie.Need-returns Inv-loop μ-loop
-returns c = ?
+returns c =
+    let a = c .before .before .before .before .before .args in
+    let l = c .before .loop in
+    (sym (l .inv .3 ∙ after-done (l .io) (a .pairs .now) (l .i) (omega arith)),
+    sym (l .inv .5 ∙ answer-done (l .io) (a .pairs .now) (l .reply) (a .at + l .i) (l .i) (omega arith)))
 
 pub answer-pairs-spec : {M : Type 1} → statement M
 answer-pairs-spec =
