@@ -2,3 +2,4 @@ pub mod Map
 pub mod Run
 pub mod Stretch
 pub mod Pairs
+pub mod Packed

@@ -3,9 +3,10 @@ use image::Memory;
 use image::Page;
 ghost use mathlib.Core.Path.{_≡_};
 ghost use mathlib.Core.Bool.{true};
-ghost use Prim.Native.Nat.{_+_, _<_, _≤_};
+ghost use Prim.Native.Nat.{_+_, _*_, _/_, _<_, _≤_};
 ghost use lib.ListN.{length};
 ghost use Rattle.base.specs.Words.{part, laid};
+ghost use Rattle.image.specs.Packing.{packed, unpacked};
 ghost use Rattle.memory.specs.Run.{runOf, stretch, lowCount, allBelow, runFits, wordsAt, putAt};
 
 // How many of n addresses are below 2000: a straight stretch. The others are the second one.
@@ -82,4 +83,50 @@ pub(crate) fn store_dm_run(dm: &mut [u16], page: Page, address: usize, words: &[
     let low = low_count(address, n);
     copy(words, 0, dm, crate::index::index_of(Memory::Dm, page, address), low);
     copy(words, low, dm, crate::index::index_of(Memory::Dm, page, address + low), n - low);
+}
+
+// The words of a PM run into a reply, packed, from a place on: two PM words are three packet words.
+pub(crate) fn read_pm_run(pm: &[u32], page: Page, address: usize, n: usize, reply: &mut [u16], at: usize)
+    requires { ⌜ runFits (length (now pm)) Memory.Pm page address n ≡ true ⌝ }
+    requires { ⌜ at + (n * 3 + 1) / 2 ≤ length (now reply) ⌝ }
+    ensures { λ _. ⌜ now (reply .exit) ≡ laid (now (reply .entry)) at (packed 3 (wordsAt (now (pm .entry)) (runOf Memory.Pm page address n))) ⌝ }
+{
+    let mut i = 0;
+    let mut j = at;
+    while i + 1 < n {
+        let a = pm[crate::index::index_of(Memory::Pm, page, address + i)];
+        let b = pm[crate::index::index_of(Memory::Pm, page, address + i + 1)];
+        reply[j] = image::pm::first_of(a);
+        reply[j + 1] = image::pm::second_of(a, b);
+        reply[j + 2] = image::pm::third_of(b);
+        i += 2;
+        j += 3;
+    }
+    if n <= i {
+        return;
+    }
+    let a = pm[crate::index::index_of(Memory::Pm, page, address + i)];
+    reply[j] = image::pm::first_of(a);
+    reply[j + 1] = image::pm::second_of(a, 0);
+}
+
+// n words, packed in a body, into a PM run. A word stored has bits 31-24 zero.
+pub(crate) fn store_pm_run(pm: &mut [u32], page: Page, address: usize, n: usize, body: &[u16])
+    requires { ⌜ runFits (length (now pm)) Memory.Pm page address n ≡ true ⌝ }
+    requires { ⌜ (n * 3 + 1) / 2 ≤ length (now body) ⌝ }
+    ensures { λ _. ⌜ now (pm .exit) ≡ putAt (now (pm .entry)) (runOf Memory.Pm page address n) (unpacked 3 n (now (body .entry))) ⌝ }
+{
+    let mut i = 0;
+    let mut j = 0;
+    while i + 1 < n {
+        let y = body[j + 1];
+        pm[crate::index::index_of(Memory::Pm, page, address + i)] = image::pm::high_of(body[j], y);
+        pm[crate::index::index_of(Memory::Pm, page, address + i + 1)] = image::pm::low_of(y, body[j + 2]);
+        i += 2;
+        j += 3;
+    }
+    if n <= i {
+        return;
+    }
+    pm[crate::index::index_of(Memory::Pm, page, address + i)] = image::pm::high_of(body[j], body[j + 1]);
 }
