@@ -3,3 +3,4 @@ pub mod Run
 pub mod Stretch
 pub mod Pairs
 pub mod Packed
+pub mod Segment

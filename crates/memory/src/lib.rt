@@ -2,3 +2,10 @@
 mod index;
 mod runs;
 mod registers;
+mod segments;
+
+// What Memory Read and Perform IO answer.
+pub enum Answer {
+    Words(usize),
+    Abort,
+}
