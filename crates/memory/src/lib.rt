@@ -1,0 +1,11 @@
+// The node's memories: PM, DM and IO segments in and out, and Load. 01 'Files and memories'.
+mod index;
+mod runs;
+mod registers;
+mod segments;
+
+// What Memory Read and Perform IO answer.
+pub enum Answer {
+    Words(usize),
+    Abort,
+}
