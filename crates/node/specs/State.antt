@@ -1,7 +1,7 @@
 -- The parts of a node's state, and states that differ in one part. 01 'State and status reply'. Assumes nothing.
 use Prim.Native.Nat.{ℕ, min, _+_}
+use mathlib.Core.Bool.{Bool, true, false}
 use mathlib.Core.List.{List}
-use lib.ListN.{replicate}
 use Rattle.flash.specs.declared.Erasing.{Erasing}
 use Rattle.node.specs.declared.Answer.{Answer}
 use Rattle.node.specs.declared.Counts.{Counts}
@@ -28,28 +28,10 @@ node masks directory given mode counts erasing pending =
 abbrev pub turn : Node → Answer → Turn
 turn n a = record { node = n; answer = a }
 
--- Counts stop at FFFF.
-abbrev pub counted : ℕ → ℕ → ℕ
-counted count more = min (count + more) 0xFFFF
+-- A count goes up by one where there is an error, and stops at FFFF.
+abbrev pub counted : Bool → ℕ → ℕ
+counted true count = min (count + 1) 0xFFFF
+counted false count = count
 
 abbrev pub counts : ℕ → ℕ → Counts
 counts amswire flash = record { amswire = amswire; flash = flash }
-
--- So many AMSWire errors and FLASH errors more.
-abbrev pub withErrors : Node → ℕ → ℕ → Node
-withErrors n amswire flash =
-    node (n .masks) (n .directory) (n .given) (n .mode)
-    (counts (counted (n .counts .amswire) amswire) (counted (n .counts .flash) flash))
-    (n .erasing) (n .pending)
-
-abbrev pub withPending : Node → Pending → Node
-withPending n pending = node (n .masks) (n .directory) (n .given) (n .mode) (n .counts) (n .erasing) pending
-
-abbrev pub withMode : Node → ℕ → Node
-withMode n mode = node (n .masks) (n .directory) (n .given) mode (n .counts) (n .erasing) (n .pending)
-
-abbrev pub withMasks : Node → List ℕ → Node
-withMasks n masks = node masks (n .directory) (n .given) (n .mode) (n .counts) (n .erasing) (n .pending)
-
-abbrev pub withFlash : Node → List ℕ → Erasing → Node
-withFlash n directory erasing = node (n .masks) directory (n .given) (n .mode) (n .counts) erasing (n .pending)

@@ -1,7 +1,7 @@
 // Whether a value is a state of a node.
 ghost use mathlib.Core.Path.{_≡_};
 ghost use Rattle.group.specs.Slaves.{hasSlave};
-ghost use Rattle.node.specs.Valid.{sizeOk, givenOk, masksOk, erasingOk, askOk, gatheringOk, pendingOk, stateOk};
+ghost use Rattle.node.specs.Valid.{sizeOk, kindOk, portsOk, givenOk, masksOk, erasingOk, askOk, gatheringOk, pendingOk, stateOk};
 use crate::Ask;
 use crate::Gathering;
 use crate::Given;
@@ -15,11 +15,23 @@ pub fn size_ok(words: usize) -> bool
     (words == 32768) | (words == 262144)
 }
 
+pub fn kind_ok(kind: u16) -> bool
+    ensures { λ r. ⌜ r ≡ kindOk kind ⌝ }
+{
+    (kind == 1) | (kind == 2)
+}
+
+pub fn ports_ok(ports: u16) -> bool
+    ensures { λ r. ⌜ r ≡ portsOk ports ⌝ }
+{
+    (1 <= ports) & (ports <= 4)
+}
+
 fn given_ok(given: Given) -> bool
     ensures { λ r. ⌜ r ≡ givenOk given ⌝ }
 {
-    ((given.kind == 1) | (given.kind == 2))
-        & ((1 <= given.ports) & (given.ports <= 4))
+    kind_ok(given.kind)
+        & ports_ok(given.ports)
         & (given.subdetector <= 7)
         & size_ok(given.flash_words)
 }

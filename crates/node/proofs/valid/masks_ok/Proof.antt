@@ -1,45 +1,59 @@
+use mathlib.Core.Path.{_≡_, refl, sym, ap, ap₂, _∙_}
+use mathlib.Core.Bool.{Bool, true, false, _&&_, _||_, not}
+use Prim.Native.Nat.{ℕ, _+_, _*_, _/_, _%_, _^_, _≤_}
+use native.Mathlib.Omega.{arith}
+use lib.Dec.{ltb, leb, eqb}
+use lib.ListN.{length, getD, drop, List·getD-eq-default}
+use borrow.Author.Tests.{eq-eqb, ne-eqb, le-leb, lt-leb, lt-ltb, le-ltb, not-true, not-false}
+use Rattle.base.proofs.Pick.{yes, no, via}
+use Rattle.node.proofs.States.{masks-turn, masks-stop, masks-end}
+use Prim.Native.Nat.{_≤_, _-_}
+use mathlib.Core.Path.{_≡_}
+use lib.ListN.{length, drop}
+use borrow.Author.Needs.{needs}
+use Rattle.node.specs.Valid.{masksOk}
 use Rattle.node.proofs.valid.masks_ok.Statement.{statement}
 use Rattle.node.proofs.valid.masks_ok.Tie as tie
 use Rattle.node.proofs.valid.masks_ok.Reads as reads
 use Rattle.node.proofs.valid.masks_ok.Lts as lts
 
 abbrev Inv-loop : tie.InvT-loop
-Inv-loop masks i₀ i = ?
+Inv-loop masks i₀ i = (i ≤ length masks) × (masksOk masks ≡ masksOk (drop i masks))
 
 abbrev μ-loop : tie.MeasureT-loop
-μ-loop masks i₀ i = ?
+μ-loop masks i₀ i = length masks - i
 
--- src/valid.rt:31:5
+-- src/valid.rt:43:5
 loop-holds : tie.Need-loop-holds Inv-loop μ-loop
-loop-holds c = ?
+loop-holds c = search needs
 
--- src/valid.rt:32:24
+-- src/valid.rt:44:24
 mul-if1 : tie.Need-mul-if1 Inv-loop μ-loop
-mul-if1 c = ?
+mul-if1 c = search needs
 
--- src/valid.rt:32:24
+-- src/valid.rt:44:24
 shared-slice-read-if1 : tie.Need-shared-slice-read-if1 Inv-loop μ-loop
-shared-slice-read-if1 c = ?
+shared-slice-read-if1 c = search needs
 
--- src/valid.rt:33:13
+-- src/valid.rt:45:13
 returns : tie.Need-returns Inv-loop μ-loop
-returns c = ?
+returns c = sym (c .before .before .before .loop .inv .1 ∙ masks-stop (c .before .before .before .before .args .masks .now) (c .before .before .before .loop .i) (c .before .before .loop-test .taken) (c .if1 .taken))
 
--- src/valid.rt:35:9
+-- src/valid.rt:47:9
 add-i : tie.Need-add-i Inv-loop μ-loop
-add-i c = ?
+add-i c = search needs
 
--- src/valid.rt:31:5
+-- src/valid.rt:43:5
 loop-less : tie.Need-loop-less Inv-loop μ-loop
-loop-less c = ?
+loop-less c = search needs
 
--- src/valid.rt:31:5
+-- src/valid.rt:43:5
 loop-again : tie.Need-loop-again Inv-loop μ-loop
-loop-again c = ?
+loop-again c = (search needs, c .before .before .before .loop .inv .1 ∙ masks-turn (c .before .before .before .before .args .masks .now) (c .before .before .before .loop .i) (c .before .before .loop-test .taken) (c .if1 .left))
 
--- src/valid.rt:27:1
+-- src/valid.rt:39:1
 returns-2 : tie.Need-returns-2 Inv-loop μ-loop
-returns-2 c = ?
+returns-2 c = sym (c .before .loop .inv .1 ∙ masks-end (c .before .before .args .masks .now) (c .before .loop .i) (c .loop-test .left))
 
 pub masks-ok-spec : {M : Type 1} → statement M
 masks-ok-spec =

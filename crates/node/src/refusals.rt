@@ -1,0 +1,126 @@
+// When a call is refused: by numbers alone, before any lent word is looked at.
+ghost use mathlib.Core.Path.{_≡_};
+ghost use Rattle.node.specs.Refusals.{isPending, isAsked, requestVerdict, replyVerdict, pollVerdict, eraseVerdict, startVerdict};
+use crate::Node;
+use crate::Pending;
+use crate::Refusal;
+use crate::Verdict;
+use crate::valid::kind_ok;
+use crate::valid::ports_ok;
+use crate::valid::size_ok;
+use crate::valid::state_ok;
+
+fn is_pending(pending: Pending) -> bool
+    ensures { λ r. ⌜ r ≡ isPending pending ⌝ }
+{
+    match pending {
+        Pending::Nothing => false,
+        Pending::Slave(_) => true,
+        Pending::Group(_, _) => true,
+    }
+}
+
+fn is_asked(pending: Pending, slave: u32) -> bool
+    ensures { λ r. ⌜ r ≡ isAsked pending slave ⌝ }
+{
+    match pending {
+        Pending::Nothing => false,
+        Pending::Slave(ask) => ask.slave == slave,
+        Pending::Group(ask, _) => ask.slave == slave,
+    }
+}
+
+pub fn request_verdict(
+    node: Node,
+    link: u32,
+    packet: usize,
+    flash: usize,
+    pm: usize,
+    dm: usize,
+    io: usize,
+    reply: usize,
+) -> Verdict
+    ensures { λ r. ⌜ r ≡ requestVerdict node link packet flash pm dm io reply ⌝ }
+{
+    let given = node.given;
+    let pending = node.pending;
+    if !size_ok(flash) | (flash != given.flash_words) {
+        return Verdict::No(Refusal::FlashSize);
+    }
+    if reply < 12288 {
+        return Verdict::No(Refusal::ReplySize);
+    }
+    if (32768 < pm) | (32768 < dm) | (4096 < io) {
+        return Verdict::No(Refusal::MemorySize);
+    }
+    if given.ports as u32 <= link {
+        return Verdict::No(Refusal::Number);
+    }
+    if !state_ok(node) {
+        return Verdict::No(Refusal::State);
+    }
+    if is_pending(pending) & (1 <= packet) {
+        return Verdict::No(Refusal::Busy);
+    }
+    Verdict::Fine
+}
+
+pub fn reply_verdict(node: Node, slave: u32, reply: usize) -> Verdict
+    ensures { λ r. ⌜ r ≡ replyVerdict node slave reply ⌝ }
+{
+    let pending = node.pending;
+    if reply < 12288 {
+        return Verdict::No(Refusal::ReplySize);
+    }
+    if 23 < slave {
+        return Verdict::No(Refusal::Number);
+    }
+    if !state_ok(node) {
+        return Verdict::No(Refusal::State);
+    }
+    if !is_asked(pending, slave) {
+        return Verdict::No(Refusal::Unasked);
+    }
+    Verdict::Fine
+}
+
+pub fn poll_verdict(node: Node, reply: usize) -> Verdict
+    ensures { λ r. ⌜ r ≡ pollVerdict node reply ⌝ }
+{
+    let pending = node.pending;
+    if reply < 12288 {
+        return Verdict::No(Refusal::ReplySize);
+    }
+    if !state_ok(node) {
+        return Verdict::No(Refusal::State);
+    }
+    if !is_pending(pending) {
+        return Verdict::No(Refusal::Unasked);
+    }
+    Verdict::Fine
+}
+
+pub fn erase_verdict(node: Node, flash: usize) -> Verdict
+    ensures { λ r. ⌜ r ≡ eraseVerdict node flash ⌝ }
+{
+    let given = node.given;
+    if !size_ok(flash) | (flash != given.flash_words) {
+        return Verdict::No(Refusal::FlashSize);
+    }
+    if !state_ok(node) {
+        return Verdict::No(Refusal::State);
+    }
+    Verdict::Fine
+}
+
+pub fn start_verdict(kind: u16, ports: u16, subdetector: u16, flash: usize) -> Verdict
+    ensures { λ r. ⌜ r ≡ startVerdict kind ports subdetector flash ⌝ }
+{
+    if !size_ok(flash) {
+        return Verdict::No(Refusal::FlashSize);
+    }
+    if !ports_ok(ports) | !kind_ok(kind) | (7 < subdetector) {
+        return Verdict::No(Refusal::Number);
+    }
+    Verdict::Fine
+}
