@@ -20,6 +20,7 @@ use Rattle.image.proofs.File.{file-tells}
 use Rattle.flash.specs.Status.{isEmpty, statusBy, statusOf, firstOf, isErasing, statusIn, statusWord}
 use Rattle.flash.specs.declared.Status.{Status}
 use Rattle.flash.specs.declared.Erasing.{Erasing}
+use Rattle.flash.specs.declared.Progress.{Progress}
 
 -- one word more
 pub empty-turn : (words : List ℕ) (i : ℕ) → i < length words → isEmpty (drop i words) ≡ (eqb (getD words i 0) 0xFFFF && isEmpty (drop (i + 1) words))
@@ -112,3 +113,9 @@ status-erasing erasing s words h = sym (yes _ h refl)
 pub status-quiet : (erasing : Erasing) (s : ℕ) (words : List ℕ) → isErasing erasing s ≡ false → statusIn erasing s words ≡ statusOf words
 unfolding statusIn
 status-quiet erasing s words h = sym (no _ h refl)
+
+pub erasing-this : (p : Progress) → isErasing (Erasing.Sector p) (p .sector) ≡ true
+erasing-this p = eq-eqb (p .sector) (p .sector) refl
+
+pub erasing-other : (p : Progress) (t : ℕ) → (t ≡ p .sector → ⊥) → isErasing (Erasing.Sector p) t ≡ false
+erasing-other p t n = ne-eqb t (p .sector) n
