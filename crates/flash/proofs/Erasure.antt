@@ -2,6 +2,7 @@
 -- one entry, and the counts of all steps sum to the sector's size. Assumes nothing.
 use Prim.Native.Nat.{ℕ, zero, suc, min, _+_, _-_, _/_, _≤_, _<_}
 use mathlib.Core.Path.{_≡_, refl, sym, ap, ap₂, _∙_}
+use mathlib.Core.Logic.{_⊎_, inl, inr}
 use mathlib.Core.Bool.{Bool, true, false}
 use mathlib.Core.List.{List, [], _∷_, _++_}
 use native.Mathlib.Nat.{add-zero}
@@ -84,6 +85,26 @@ module _ (flash : List ℕ) (p : Progress) (budget : ℕ) where
       ap (λ (l : List ℕ). getD l (startOf u s + p .done + i) 0) (erased-laid flash p budget)
       ∙ getD-laid-in flash (startOf u s + p .done) (blanks count) (laid-in-fits flash s (p .done) (blanks count) (room h)) i (omega (arith, length-replicate {A = ℕ} count 0xFFFF))
       ∙ getD-replicate count i 0xFFFF 0 q
+
+  -- so any word is as it was, or FFFF
+  pub erased-or-blank : (i : ℕ) → (getD after i 0 ≡ getD flash i 0) ⊎ (getD after i 0 ≡ 0xFFFF)
+  erased-or-blank i = by (decLe (p .done) (sizeOf u s)) (decLt i (startOf u s + p .done)) (decLt i (startOf u s + p .done + count))
+    where
+      at : ℕ
+      at = startOf u s + p .done
+
+      same : {l : List ℕ} → after ≡ l → getD l i 0 ≡ getD flash i 0 → (getD after i 0 ≡ getD flash i 0) ⊎ (getD after i 0 ≡ 0xFFFF)
+      same e h = inl (ap (λ (l : List ℕ). getD l i 0) e ∙ h)
+
+      by : Dec (p .done ≤ sizeOf u s) → Dec (i < at) → Dec (i < at + count) → (getD after i 0 ≡ getD flash i 0) ⊎ (getD after i 0 ≡ 0xFFFF)
+      by (Dec.no h) d e = same (erased-none flash (Erasing.Sector p) budget (count-is u p budget ∙ omega arith)) refl
+      by (Dec.yes h) (Dec.yes d) e = same (erased-laid flash p budget) (getD-laid-before flash at (blanks count) (laid-in-fits flash s (p .done) (blanks count) (room h)) i d)
+      by (Dec.yes h) (Dec.no d) (Dec.no e) =
+          same (erased-laid flash p budget)
+          (getD-laid-after flash at (blanks count) (laid-in-fits flash s (p .done) (blanks count) (room h)) i (omega (arith, length-replicate {A = ℕ} count 0xFFFF)))
+      by (Dec.yes h) (Dec.no d) (Dec.yes e) =
+          let z : at + (i - at) ≡ i = omega arith in
+          inr (ap (λ (k : ℕ). getD after k 0) (sym z) ∙ erased-words h (i - at) (omega arith))
 
   pub erased-sector : p .done ≤ sizeOf u s → sectorOf after s ≡ laid (sectorOf flash s) (p .done) (blanks count)
   erased-sector h = ap (λ (l : List ℕ). sectorOf l s) (erased-laid flash p budget) ∙ laid-sector flash s (p .done) (blanks count) (room h)
@@ -245,3 +266,21 @@ erased-by flash p (b ∷ budgets) h = by (leb (restOf (unitOf flash) p) b) refl 
         ∙ laid-laid flash at (blanks b) (blanks m) (omega (arith, sector-fits (unitOf flash) (p .sector)))
         ∙ ap (laid flash at) (replicate-append-replicate b m 0xFFFF)
         ∙ ap (λ (k : ℕ). laid flash at (blanks k)) n
+
+-- all of it, from the start of an erasure: so many words as the budgets sum to, or the sector's size, are FFFF, the rest as before; the
+-- answers sum to that; and once they sum to the size the erasure is over
+pub erased-from-start : (flash : List ℕ) (s : ℕ) (budgets : List ℕ)
+    → erasedBy flash (Erasing.Sector (progress s 0)) budgets ≡ laid flash (startOf (unitOf flash) s) (blanks (min (sum budgets) (sizeOf (unitOf flash) s)))
+erased-from-start flash s budgets =
+    let a : startOf (unitOf flash) s + 0 ≡ startOf (unitOf flash) s = omega arith in
+    let n : min (sum budgets) (sizeOf (unitOf flash) s - 0) ≡ min (sum budgets) (sizeOf (unitOf flash) s) = omega arith in
+    erased-by flash (progress s 0) budgets (omega arith) ∙ (λ i. laid flash (a i) (blanks (n i)))
+
+pub counted-from-start : (u s : ℕ) (budgets : List ℕ) → countedBy u (Erasing.Sector (progress s 0)) budgets ≡ min (sum budgets) (sizeOf u s)
+counted-from-start u s budgets =
+    let n : min (sum budgets) (sizeOf u s - 0) ≡ min (sum budgets) (sizeOf u s) = omega arith in
+    counted-by u (progress s 0) budgets ∙ n
+
+pub ended-from-start : (u s : ℕ) (budgets : List ℕ) → 0 < sizeOf u s → sizeOf u s ≤ sum budgets → erasingBy u (Erasing.Sector (progress s 0)) budgets ≡ Erasing.Nothing
+ended-from-start u s budgets h q =
+    erasing-by u (progress s 0) budgets (omega arith) ∙ sym (yes _ (le-leb (restOf u (progress s 0)) (sum budgets) (omega arith)) refl)

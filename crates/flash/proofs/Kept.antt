@@ -13,7 +13,7 @@ use Rattle.image.specs.File.{fileEnd}
 use Rattle.image.specs.declared.End.{End}
 use Rattle.flash.specs.Geometry.{isSector, unitOf, sizeOf, sectorOf, sectorAddress, entryPlace}
 use Rattle.flash.specs.Status.{isEmpty, firstOf, statusBy, statusOf, isErasing, statusIn, statusWord, fourthWord}
-use Rattle.flash.specs.Directory.{entryOf, entryFor, directoryOf, entryIs, checkedStatus, keptStatus}
+use Rattle.flash.specs.Directory.{entryOf, entryFor, directoryOf, entrySays, entryIs, checkedStatus, keptStatus}
 use Rattle.flash.specs.Search.{firstSector, isNamed, namedAt, searchOf, targetBy, targetOf, isEmptyStatus, takes, placeOf}
 use Rattle.flash.specs.declared.Status.{Status}
 use Rattle.flash.specs.declared.Erasing.{Erasing}
@@ -22,6 +22,11 @@ use Rattle.flash.specs.declared.Target.{Target}
 use Rattle.flash.proofs.Statuses.{status-erasing, status-quiet, empty-first}
 use Rattle.flash.proofs.Entries.{directory-word, directory-first}
 use Rattle.flash.proofs.Searches.{FirstSector, found-tells, nothing-tells, first-same}
+
+-- what the rest of an entry says is said of a file sector
+pub says-sector : (directory : List ℕ) (s : ℕ) (status : Status) → entrySays directory s status ≡ true → isSector s ≡ true
+unfolding entrySays
+says-sector directory s status h = and-left (isSector s) _ h
 
 module _ (directory flash : List ℕ) (erasing : Erasing) (s : ℕ) where
   abbrev words : List ℕ
@@ -36,7 +41,7 @@ module _ (directory flash : List ℕ) (erasing : Erasing) (s : ℕ) where
   -- of any other one the entry has to say that it is empty or good; if it does, the sector is what its words are
   pub kept-quiet : isErasing erasing s ≡ false
       → keptStatus directory flash erasing s ≡ pick (entryIs directory s (firstOf words) Status.Empty) (statusOf words) Status.Bad
-  unfolding keptStatus statusOf entryIs fourthWord
+  unfolding keptStatus statusOf entrySays entryIs fourthWord
   kept-quiet h = ap (checkedStatus directory s words) (status-quiet erasing s words h) ∙ by (isEmpty words) (fileEnd words)
     where
       same : (t : Bool) → pick t Status.Bad Status.Bad ≡ Status.Bad
@@ -87,22 +92,16 @@ module _ (directory flash : List ℕ) (erasing : Erasing) (s : ℕ) where
 
 -- the directory that is worked out afresh differs nowhere: each sector is what the flash makes it
 pub kept-true : (flash : List ℕ) (erasing : Erasing) (s : ℕ) → isSector s ≡ true → keptStatus (directoryOf flash erasing) flash erasing s ≡ statusIn erasing s (sectorOf flash s)
-unfolding keptStatus entryIs entryFor entryOf
+unfolding keptStatus entrySays entryIs entryFor entryOf
 kept-true flash erasing s h =
     let d : List ℕ = directoryOf flash erasing in
     let words : List ℕ = sectorOf flash s in
     let status : Status = statusIn erasing s words in
-    sym (yes _
-    (sym (and-yes h
-    (sym (all
-    (eq-eqb (getD d (entryPlace s) 0) (firstOf words) (directory-first flash erasing s h))
-    (eq-eqb (getD d (entryPlace s + 1) 0) (sectorAddress s) (directory-word flash erasing s 1 h (omega arith)))
-    (eq-eqb (getD d (entryPlace s + 2) 0) (statusWord status) (directory-word flash erasing s 2 h (omega arith)))
-    (eq-eqb (getD d (entryPlace s + 3) 0) (fourthWord status) (directory-word flash erasing s 3 h (omega arith)))))))
-    refl)
-  where
-    all : {a b c d : Bool} → a ≡ true → b ≡ true → c ≡ true → d ≡ true → (a && b && c && d) ≡ true
-    all p q r t = λ i. p i && q i && r i && t i
+    let first = eq-eqb (getD d (entryPlace s) 0) (firstOf words) (directory-first flash erasing s h) in
+    let address = eq-eqb (getD d (entryPlace s + 1) 0) (sectorAddress s) (directory-word flash erasing s 1 h (omega arith)) in
+    let word = eq-eqb (getD d (entryPlace s + 2) 0) (statusWord status) (directory-word flash erasing s 2 h (omega arith)) in
+    let fourth = eq-eqb (getD d (entryPlace s + 3) 0) (fourthWord status) (directory-word flash erasing s 3 h (omega arith)) in
+    sym (yes _ (λ i. h i && (address i && word i && fourth i) && first i) refl)
 
 -- the place for a file of n words: a sector that is not being erased, large enough, and all of it FFFF
 pub record Place (flash : List ℕ) (erasing : Erasing) (n s : ℕ) : Type 0 where
