@@ -1,29 +1,29 @@
 -- An attribute set: the header keeps its type, name and count of segments, the file stays good, the directory changes in that entry's
 -- first word alone, and no bit goes from 0 to 1. Assumes nothing.
-use Prim.Native.Nat.{ℕ, suc, zero, _+_, _-_, _^_, _/_, _%_, _≤_, _<_}
+use Prim.Native.Nat.{ℕ, suc, zero, _+_, _-_, _/_, _%_, _≤_, _<_}
 use mathlib.Core.Path.{_≡_, refl, sym, ap, ap₂, _∙_, subst}
 use mathlib.Core.Bool.{Bool, true, false}
 use mathlib.Core.List.{List, [], _∷_, _++_}
 use native.Mathlib.Decide.{decLt}
 use native.Mathlib.Omega.{arith}
 use lib.ListN.{length, getD, take, drop}
+use lib.Seq.{length-take-le}
 use lib.Dec.{eqb}
 use borrow.Author.Tests.{eqb-true}
 use Rattle.base.specs.Pick.{pick}
 use Rattle.base.specs.Words.{part, laid}
-use Rattle.base.proofs.Pick.{pick-first, pick-case}
 use Rattle.base.proofs.Laid.{length-laid, getD-laid-in, laid-append-left, laid-append-right, laid-whole}
 use Rattle.base.proofs.Part.{part-split}
-use lib.Seq.{length-take-le}
-use Rattle.image.specs.Header.{typeOf, attributeOf, nameOf, segmentsOf}
+use Rattle.base.proofs.Pick.{pick-first}
 use Rattle.image.proofs.File.{file-tells, file-attribute}
+use Rattle.image.specs.Header.{typeOf, attributeOf, nameOf, segmentsOf}
 use Rattle.flash.specs.Geometry.{isSector, unitOf, sizeOf, startOf, sectorOf, sectorAddress, entryPlace}
 use Rattle.flash.specs.Status.{firstOf, statusOf, isErasing, statusWord, fourthWord}
 use Rattle.flash.specs.Directory.{entryOf, entryFor, directoryOf, entered}
 use Rattle.flash.specs.Change.{toDefault, toPlain, settingOf, headed, bitOf, NoBitRises}
-use Rattle.flash.specs.declared.Status.{Status}
-use Rattle.flash.specs.declared.Setting.{Setting}
 use Rattle.flash.specs.declared.Erasing.{Erasing}
+use Rattle.flash.specs.declared.Setting.{Setting}
+use Rattle.flash.specs.declared.Status.{Status}
 use Rattle.flash.proofs.Geometry.{sector-most, length-sector, laid-sector, laid-in-fits}
 use Rattle.flash.proofs.Statuses.{first-word, status-good, good-file, status-quiet}
 use Rattle.flash.proofs.Entries.{entered-laid, directory-local, length-directory, directory-entry}

@@ -1,16 +1,15 @@
 -- How words are laid into a sector: word by word, and through a part of the flash that is lent. Assumes nothing.
-use Prim.Native.Nat.{ℕ, zero, suc, min, _+_, _-_, _≤_, _<_}
+use Prim.Native.Nat.{ℕ, min, _+_, _-_, _≤_, _<_}
 use mathlib.Core.Path.{_≡_, refl, sym, ap, _∙_, subst}
-use mathlib.Core.List.{List, [], _∷_, _++_}
+use mathlib.Core.List.{List, _++_}
 use native.Mathlib.Numerals.{add-one}
 use native.Mathlib.Omega.{arith}
 use lib.ListN.{length, getD, take, drop, set, length-replicate, replicate-append-replicate}
 use lib.Seq.{length-take-le, take-suc}
-use lib.Dec.{leb}
 use borrow.Author.Tests.{le-leb, lt-leb}
 use Rattle.base.specs.Words.{part, laid, blanks}
-use Rattle.base.proofs.Pick.{yes, no}
 use Rattle.base.proofs.Laid.{laid-none, laid-snoc, laid-part}
+use Rattle.base.proofs.Pick.{yes, no}
 use Rattle.flash.specs.Geometry.{unitOf, sizeOf, startOf}
 use Rattle.flash.specs.Change.{stored, restOf, eraseCount, erased}
 use Rattle.flash.specs.declared.Erasing.{Erasing}

@@ -2,25 +2,22 @@
 -- Assumes nothing.
 use Prim.Native.Nat.{ℕ, zero, suc, _+_, _-_, _*_, _≤_, _<_}
 use mathlib.Core.Path.{_≡_, refl, sym, ap, ap₂, _∙_}
-use mathlib.Core.Bool.{Bool, true, false, _&&_}
+use mathlib.Core.Bool.{Bool, true, false}
 use mathlib.Core.List.{List, [], _∷_, _++_, append-assoc}
 use native.Mathlib.Nat.{add-zero, zero-add, not-suc-le-zero, le-of-suc-le-suc}
 use native.Mathlib.Omega.{arith}
-use lib.ListN.{length, getD, take, drop, set, length-set, length-append, List·getD-append}
-use lib.Dec.{eqb}
+use lib.ListN.{length, getD, take, set, length-set, length-append, List·getD-append}
 use lib.Seq.{ext-getD, getD-append-add}
-use borrow.Author.Tests.{eqb-true, eq-eqb}
-use Rattle.base.specs.Pick.{pick}
 use Rattle.base.specs.Words.{part, laid}
-use Rattle.base.proofs.Pick.{yes, no, and-left, and-right, and-yes, and-no, pick-case}
-use Rattle.base.proofs.Part.{length-part, getD-part, part-append}
 use Rattle.base.proofs.Laid.{length-laid, take-laid, laid-append-left, laid-append-right, laid-whole, laid-cons, laid-none}
-use Rattle.flash.specs.Geometry.{isSector, sectorOf, sectorAddress, entryPlace}
-use Rattle.flash.specs.Status.{firstOf, isErasing, statusIn, statusWord, fourthWord}
-use Rattle.flash.specs.Directory.{entryOf, entryFor, entriesFrom, directoryOf, entered, entryIs}
-use Rattle.flash.specs.declared.Status.{Status}
-use Rattle.flash.specs.declared.Erasing.{Erasing}
+use Rattle.base.proofs.Part.{length-part, getD-part}
+use Rattle.base.proofs.Pick.{yes, no}
+use Rattle.flash.specs.Geometry.{isSector, sectorOf, entryPlace}
+use Rattle.flash.specs.Status.{firstOf, isErasing, statusIn}
+use Rattle.flash.specs.Directory.{entryOf, entryFor, entriesFrom, directoryOf, entered}
 use Rattle.flash.specs.Change.{OnlySector}
+use Rattle.flash.specs.declared.Erasing.{Erasing}
+use Rattle.flash.specs.declared.Status.{Status}
 use Rattle.flash.proofs.Geometry.{sector-least, sector-most, is-sector, other-kept}
 use Rattle.flash.proofs.Statuses.{status-quiet}
 

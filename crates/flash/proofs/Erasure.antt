@@ -1,12 +1,12 @@
 -- An erasure from its start to its end: each step sets the words that it counts to FFFF in its sector alone, the directory follows by
 -- one entry, and the counts of all steps sum to the sector's size. Assumes nothing.
-use Prim.Native.Nat.{ℕ, zero, suc, min, _+_, _-_, _/_, _≤_, _<_}
-use mathlib.Core.Path.{_≡_, refl, sym, ap, ap₂, _∙_}
+use Prim.Native.Nat.{ℕ, min, _+_, _-_, _/_, _≤_, _<_}
+use mathlib.Core.Path.{_≡_, refl, sym, ap, _∙_}
 use mathlib.Core.Logic.{_⊎_, inl, inr}
 use mathlib.Core.Bool.{Bool, true, false}
-use mathlib.Core.List.{List, [], _∷_, _++_}
-use native.Mathlib.Nat.{add-zero}
+use mathlib.Core.List.{List, [], _∷_}
 use native.Mathlib.Decide.{decLe, decLt}
+use native.Mathlib.Nat.{add-zero}
 use native.Mathlib.Omega.{arith}
 use lib.ListN.{length, getD, take, length-replicate, getD-replicate, replicate-append-replicate}
 use lib.Seq.{take-all}
@@ -14,15 +14,15 @@ use lib.Dec.{leb}
 use borrow.Author.Tests.{leb-true, leb-false, le-leb, lt-leb}
 use Rattle.base.specs.Pick.{pick}
 use Rattle.base.specs.Words.{laid, blanks}
-use Rattle.base.proofs.Pick.{yes, no}
 use Rattle.base.proofs.Laid.{length-laid, take-laid, laid-none, laid-laid, getD-laid-before, getD-laid-in, getD-laid-after}
+use Rattle.base.proofs.Pick.{yes, no}
 use Rattle.flash.specs.Geometry.{isSector, unitOf, sizeOf, startOf, sectorOf}
-use Rattle.flash.specs.Status.{isEmpty, firstOf, progress, isErasing, statusIn}
+use Rattle.flash.specs.Status.{isEmpty, firstOf, progress}
 use Rattle.flash.specs.Directory.{directoryOf, entered, refreshed}
 use Rattle.flash.specs.Change.{restOf, eraseCount, erased, erasingAfter, erasureStatus, Erased, erasedBy, erasingBy, countedBy, sum, OnlySector}
-use Rattle.flash.specs.declared.Status.{Status}
 use Rattle.flash.specs.declared.Erasing.{Erasing}
 use Rattle.flash.specs.declared.Progress.{Progress}
+use Rattle.flash.specs.declared.Status.{Status}
 use Rattle.flash.proofs.Geometry.{sector-fits, length-sector, laid-sector, laid-only, laid-in-fits, other-kept, below-kept, only-same}
 use Rattle.flash.proofs.Statuses.{empty-blanks, empty-append, status-empty, status-erasing, status-quiet, erasing-this, erasing-other}
 use Rattle.flash.proofs.Entries.{entry-local, entry-quiet, directory-update}

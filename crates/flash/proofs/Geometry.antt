@@ -1,19 +1,18 @@
 -- Where the sectors stand: each lies within the flash, behind its first sixteenth, and no two have a word in common. Assumes nothing.
-use Prim.Native.Nat.{ℕ, zero, suc, _+_, _-_, _*_, _/_, _≤_, _<_}
+use Prim.Native.Nat.{ℕ, suc, _+_, _-_, _*_, _/_, _≤_, _<_}
 use mathlib.Core.Path.{_≡_, refl, sym, ap, _∙_}
-use mathlib.Core.Bool.{Bool, true, false, _&&_, false≢true}
+use mathlib.Core.Bool.{Bool, true, false}
 use mathlib.Core.List.{List}
-use native.Mathlib.Omega.{arith}
-use native.Mathlib.Nat.{mul-le-mul-right, suc-mul}
 use native.Mathlib.Decide.{decLt}
+use native.Mathlib.Nat.{mul-le-mul-right, suc-mul}
+use native.Mathlib.Omega.{arith}
 use lib.ListN.{length, getD}
 use lib.Dec.{leb, eqb}
-use borrow.Author.Tests.{leb-true, le-leb, eqb-true, eqb-false, eq-eqb, ne-eqb}
-use Rattle.base.specs.Pick.{pick}
+use borrow.Author.Tests.{leb-true, le-leb, eqb-true, eqb-false, ne-eqb}
 use Rattle.base.specs.Words.{part, laid}
-use Rattle.base.proofs.Pick.{yes, no, pick-case, and-left, and-right, and-yes}
-use Rattle.base.proofs.Part.{length-part, same-part}
 use Rattle.base.proofs.Laid.{length-laid, getD-laid-before, getD-laid-after, part-laid-within}
+use Rattle.base.proofs.Part.{length-part, same-part}
+use Rattle.base.proofs.Pick.{yes, no, and-left, and-right, and-yes}
 use Rattle.flash.specs.Geometry.{isSector, bySector, sizeOf, startOf, unitOf, sectorOf}
 use Rattle.flash.specs.Change.{OnlySector}
 

@@ -8,16 +8,16 @@ use lib.ListN.{getD}
 use lib.Dec.{leb}
 use borrow.Author.Tests.{leb-true, eq-eqb}
 use Rattle.base.specs.Pick.{pick}
-use Rattle.base.proofs.Pick.{yes, and-yes, and-left, and-right}
+use Rattle.base.proofs.Pick.{yes, and-left, and-right}
 use Rattle.image.specs.File.{fileEnd}
 use Rattle.image.specs.declared.End.{End}
 use Rattle.flash.specs.Geometry.{isSector, unitOf, sizeOf, sectorOf, sectorAddress, entryPlace}
 use Rattle.flash.specs.Status.{isEmpty, firstOf, statusBy, statusOf, isErasing, statusIn, statusWord, fourthWord}
 use Rattle.flash.specs.Directory.{entryOf, entryFor, directoryOf, entrySays, entryIs, checkedStatus, keptStatus}
 use Rattle.flash.specs.Search.{firstSector, isNamed, namedAt, searchOf, targetBy, targetOf, isEmptyStatus, takes, placeOf}
-use Rattle.flash.specs.declared.Status.{Status}
 use Rattle.flash.specs.declared.Erasing.{Erasing}
 use Rattle.flash.specs.declared.Found.{Found}
+use Rattle.flash.specs.declared.Status.{Status}
 use Rattle.flash.specs.declared.Target.{Target}
 use Rattle.flash.proofs.Statuses.{status-erasing, status-quiet, empty-first}
 use Rattle.flash.proofs.Entries.{directory-word, directory-first}

@@ -1,29 +1,28 @@
 -- A file stored in an empty sector that is large enough: the sector is then good, the words read back are the file, one entry of the
 -- directory changes, and no bit goes from 0 to 1. Assumes nothing.
-use Prim.Native.Nat.{ℕ, _+_, _-_, _^_, _/_, _%_, _≤_, _<_}
+use Prim.Native.Nat.{ℕ, _+_, _-_, _≤_, _<_}
 use mathlib.Core.Path.{_≡_, refl, sym, ap, ap₂, _∙_}
-use mathlib.Core.Bool.{Bool, true, false}
+use mathlib.Core.Bool.{true, false}
 use mathlib.Core.List.{List, [], _∷_}
-use native.Mathlib.Nat.{zero-add, add-zero}
 use native.Mathlib.Decide.{decLt}
 use native.Mathlib.Omega.{arith}
-use lib.ListN.{length, getD, take, replicate, length-replicate}
+use lib.ListN.{length, getD, take, replicate}
 use lib.Dec.{eqb}
 use borrow.Author.Tests.{eqb-true}
-use Rattle.base.specs.Words.{part, laid, blanks}
-use Rattle.base.proofs.Part.{getD-part}
+use Rattle.base.specs.Words.{laid}
 use Rattle.base.proofs.Laid.{length-laid, part-laid, getD-laid-before, getD-laid-in, getD-laid-after}
+use Rattle.base.proofs.Part.{getD-part}
 use Rattle.base.proofs.Table.{entry-passes}
+use Rattle.image.proofs.File.{file-tells, file-front}
 use Rattle.image.specs.File.{fileEnd}
 use Rattle.image.specs.declared.End.{End}
-use Rattle.image.proofs.File.{file-tells, file-front}
 use Rattle.flash.specs.Geometry.{isSector, unitOf, sizeOf, startOf, sectorAddress, sectorOf}
 use Rattle.flash.specs.Status.{isEmpty, firstOf, statusOf, isErasing, fourthWord}
 use Rattle.flash.specs.Directory.{entryOf, directoryOf, entered}
 use Rattle.flash.specs.Change.{stored, OnlySector, bitOf, NoBitRises}
-use Rattle.flash.specs.declared.Status.{Status}
 use Rattle.flash.specs.declared.Erasing.{Erasing}
-use Rattle.flash.proofs.Geometry.{sector-fits, length-sector, laid-sector, laid-only, laid-in-fits, only-same, below-kept}
+use Rattle.flash.specs.declared.Status.{Status}
+use Rattle.flash.proofs.Geometry.{length-sector, laid-sector, laid-only, laid-in-fits, only-same, below-kept}
 use Rattle.flash.proofs.Statuses.{empty-word, first-word, status-good, status-quiet}
 use Rattle.flash.proofs.Entries.{directory-local}
 use Rattle.flash.proofs.Changes.{stored-laid, stored-none}

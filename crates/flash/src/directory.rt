@@ -51,7 +51,12 @@ pub fn with_entry(directory: [u16; 32], sector: usize, first: u16, status: Statu
 pub fn refresh(directory: [u16; 32], flash: &[u16], sector: usize, status: Status) -> [u16; 32]
     ensures { λ r. ⌜ r ≡ refreshed directory (now (flash .entry)) sector status ⌝ }
 {
-    with_entry(directory, sector, first_of(sector_of(flash, sector)), status)
+    with_entry(
+        directory,
+        sector,
+        first_of(sector_of(flash, sector)),
+        status,
+    )
 }
 
 // The directory of a flash, worked out afresh.

@@ -2,10 +2,10 @@
 // section 5 and 7.4 to 7.12 of the note. What reads or changes words works on one sector's words; only the loops over the sectors
 // and the geometry see the whole flash.
 
-pub mod sectors;
+pub mod change;
 pub mod directory;
 pub mod finding;
-pub mod change;
+pub mod sectors;
 
 // What a sector is.
 pub enum Status {
