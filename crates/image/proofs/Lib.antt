@@ -4,3 +4,4 @@ pub mod Turns
 pub mod Body
 pub mod File
 pub mod Segments
+pub mod Examples
