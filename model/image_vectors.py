@@ -65,8 +65,8 @@ def one_rule(pick):
     yield [header(0, 3, 0x21, 0)]  # at least one segment
     yield [header(0, 3, 0x21, 0)] + segment(DM, 0, one)
     yield file_of([segment(DM, 0, one) for _ in range(15)])  # at most 14 segments
-    yield file_of([[0x0003, 0x0000] + sealed(packed(PM, [0xAABBCC]))])  # PM has an even length: 3 rounded down ..
-    yield file_of([[0x0003, 0x0000] + sealed(packed(PM, [0xAABBCC, 0xDDEEFF]) + [0])])  # .. and up
+    for filled in ([], [0], [0, 0]):  # PM has an even length: 3 taken for 2, rounded down, rounded up
+        yield file_of([[0x0003, 0x0000] + sealed(packed(PM, [0xAABBCC]) + filled)])
     yield file_of([[0x0000, 0x0000]])  # PM has a length of 2 or more
     yield file_of([[0x4000, 0x0000]])  # DM has a length of 2 or more
     yield file_of([[0x4001, 0x0000] + sealed([])])
