@@ -49,7 +49,11 @@ body-tells memory body h =
     let f = eqb (getD body (n - 1) 0) (fcsOf (take (n - 1) body)) in
     let z = zeroByteOk memory body in
     let r = and-right l (f && z) h in
-    record { least = leb-true 2 n (and-left l (f && z) h); fcs = eqb-true (getD body (n - 1) 0) (fcsOf (take (n - 1) body)) (and-left f z r); zero-byte = and-right f z r }
+    record {
+      least = leb-true 2 n (and-left l (f && z) h);
+      fcs = eqb-true (getD body (n - 1) 0) (fcsOf (take (n - 1) body)) (and-left f z r);
+      zero-byte = and-right f z r;
+    }
 
 -- the words before the FCS are what the memory words pack to, if their number is right and a byte that fills up is zero
 front-packed : (k n : ℕ) (body : List ℕ) → 1 ≤ length body → length body - 1 ≡ (n * k + 1) / 2 → (n * k % 2 ≡ 1 → getD body (length body - 2) 0 % 256 ≡ 0) → Below 65536 body → take (length body - 1) body ≡ packed k (unpacked k n body)

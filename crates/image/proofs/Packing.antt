@@ -258,3 +258,17 @@ gather-below k (suc n) bs h (suc i) = gather-below k n (drop k bs) (below-drop k
 pub unpacked-below : (k n : ℕ) (ps : List ℕ) → Below (256 ^ k) (unpacked k n ps)
 unfolding unpacked
 unpacked-below k n ps i = gather-below k n (spread 2 ps) (spread-below 2 ps) i
+
+-- an odd number of bytes leaves a zero byte behind the last
+paired-last : (bs : List ℕ) → length bs % 2 ≡ 1 → getD (paired bs) (length (paired bs) - 1) 0 % 256 ≡ 0
+unfolding paired
+paired-last [] h = absurd (omega arith)
+paired-last (a ∷ []) h = omega arith
+paired-last (a ∷ b ∷ bs) h =
+    let l = length-paired bs in
+    let e : suc (length (paired bs)) - 1 ≡ suc (length (paired bs) - 1) = omega arith in
+    ap (λ (i : ℕ). getD ((a * 256 + b) ∷ paired bs) i 0 % 256) e ∙ paired-last bs (omega arith)
+
+pub packed-last : (k : ℕ) (ws : List ℕ) → length ws * k % 2 ≡ 1 → getD (packed k ws) (length (packed k ws) - 1) 0 % 256 ≡ 0
+unfolding packed
+packed-last k ws h = paired-last (spread k ws) (ap (λ (n : ℕ). n % 2) (length-spread k ws) ∙ h)
