@@ -25,7 +25,8 @@ unfolding sealed
 length-sealed words = length-append words (fcsOf words ∷ [])
 
 -- the number of their packet words
-pub length-body : (memory : Memory) (words : List ℕ) → lengthOk memory (length words + 1) ≡ true → length (bodyOf memory words) ≡ bodyWords memory (length words + 1)
+pub length-body : (memory : Memory) (words : List ℕ) → lengthOk memory (length words + 1) ≡ true
+    → length (bodyOf memory words) ≡ bodyWords memory (length words + 1)
 unfolding lengthOk
 length-body Memory.Pm words ok =
     let n = length words + 1 in
@@ -80,11 +81,13 @@ body-ok Memory.Io words ok =
     sealed-ok Memory.Io (packed 2 words) (omega (arith, length-packed 2 words)) refl
 
 -- a permitted length has a span: two header words and a body
-pub span-told : (first : ℕ) → lengthOk (memoryOf first) (lengthOf first) ≡ true → spanOf first ≡ Span.Words (2 + bodyWords (memoryOf first) (lengthOf first))
+pub span-told : (first : ℕ) → lengthOk (memoryOf first) (lengthOf first) ≡ true
+    → spanOf first ≡ Span.Words (2 + bodyWords (memoryOf first) (lengthOf first))
 unfolding spanOf lengthOk
 span-told first ok = by (memoryOf first) ok
   where
-    by : (memory : Memory) → lengthOk memory (lengthOf first) ≡ true → spanFor memory (lengthOf first) ≡ Span.Words (2 + bodyWords memory (lengthOf first))
+    by : (memory : Memory) → lengthOk memory (lengthOf first) ≡ true
+        → spanFor memory (lengthOf first) ≡ Span.Words (2 + bodyWords memory (lengthOf first))
     by Memory.Pm ok =
         let n = lengthOf first in
         let e = and-left (eqb (n % 2) 0) (leb 2 n) ok in
@@ -95,7 +98,8 @@ span-told first ok = by (memoryOf first) ok
     by Memory.Io ok = let l : 2 + lengthOf first ≡ 2 + lengthOf first * 2 / 2 = omega arith in ap Span.Words l
 
 -- a permitted length and page, and a body that ends in its FCS
-segment-ok-told : (first second : ℕ) (body : List ℕ) → lengthOk (memoryOf first) (lengthOf first) ≡ true → pageOk (memoryOf first) (pageOf second) ≡ true → bodyOk (memoryOf first) body ≡ true → segmentOk (first ∷ second ∷ body) ≡ true
+segment-ok-told : (first second : ℕ) (body : List ℕ) → lengthOk (memoryOf first) (lengthOf first) ≡ true
+    → pageOk (memoryOf first) (pageOf second) ≡ true → bodyOk (memoryOf first) body ≡ true → segmentOk (first ∷ second ∷ body) ≡ true
 unfolding segmentOk
 segment-ok-told first second body length-ok page-ok body-ok = sym (and-yes length-ok (and-yes page-ok (sym body-ok)))
 

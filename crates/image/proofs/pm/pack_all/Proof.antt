@@ -11,7 +11,11 @@ use Rattle.image.proofs.pm.pack_all.Statement.{statement}
 use Rattle.image.proofs.pm.pack_all.Tie as tie
 
 abbrev Inv-loop : tie.InvT-loop
-Inv-loop words packet₀ at i₀ j₀ packet i j = (i ≤ length words) × (length packet ≡ length packet₀) × (j + ((length words - i) * 3 + 1) / 2 ≤ length packet₀) × (laid packet₀ at (packed 3 words) ≡ laid packet j (packed 3 (drop i words)))
+Inv-loop words packet₀ at i₀ j₀ packet i j =
+    (i ≤ length words)
+    × (length packet ≡ length packet₀)
+    × (j + ((length words - i) * 3 + 1) / 2 ≤ length packet₀)
+    × (laid packet₀ at (packed 3 words) ≡ laid packet j (packed 3 (drop i words)))
 
 abbrev μ-loop : tie.MeasureT-loop
 μ-loop words packet₀ at i₀ j₀ packet i j = length words - i

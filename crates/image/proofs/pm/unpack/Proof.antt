@@ -40,7 +40,9 @@ unfolding unpackedFrom
 returns-3 c =
     let a = c .before .before .before .before .before .before .before .before .before .args in
     let ws = a .words .now in
-    yes _ (le-leb (a .at + length (packed 3 ws)) (length (a .packet .now)) (omega (arith, length-packed 3 ws, c .before .before .before .before .before .room-for .ensures))) (c .before .before .unpack-all .ensures)
+    yes _
+    (le-leb (a .at + length (packed 3 ws)) (length (a .packet .now)) (omega (arith, length-packed 3 ws, c .before .before .before .before .before .room-for .ensures)))
+    (c .before .before .unpack-all .ensures)
 
 pub unpack-spec : {M : Type 1} → statement M
 unpack-spec =

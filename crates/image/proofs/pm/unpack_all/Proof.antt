@@ -12,7 +12,11 @@ use Rattle.image.proofs.pm.unpack_all.Statement.{statement}
 use Rattle.image.proofs.pm.unpack_all.Tie as tie
 
 abbrev Inv-loop : tie.InvT-loop
-Inv-loop packet at words₀ n i₀ j₀ words i j = (i ≤ n) × (length words ≡ n) × (j + ((n - i) * 3 + 1) / 2 ≤ length packet) × (unpacked 3 n (drop at packet) ≡ laid words i (unpacked 3 (n - i) (drop j packet)))
+Inv-loop packet at words₀ n i₀ j₀ words i j =
+    (i ≤ n)
+    × (length words ≡ n)
+    × (j + ((n - i) * 3 + 1) / 2 ≤ length packet)
+    × (unpacked 3 n (drop at packet) ≡ laid words i (unpacked 3 (n - i) (drop j packet)))
 
 abbrev μ-loop : tie.MeasureT-loop
 μ-loop packet at words₀ n i₀ j₀ words i j = n - i
