@@ -5,6 +5,7 @@ use mathlib.Core.Path.{_≡_, refl, sym, _∙_}
 use native.Mathlib.Omega.{arith}
 use lib.ListN.{length, drop, length-set}
 use borrow.Author.Needs.{needs}
+use borrow.Author.Tests.{leb-true}
 use Rattle.base.specs.Words.{laid}
 use Rattle.image.specs.Packing.{unpacked}
 use Rattle.image.proofs.Turns.{unpack-turn, unpack-last, unpack-none}
@@ -25,6 +26,7 @@ loop-holds : tie.Need-loop-holds Inv-loop μ-loop
 loop-holds c =
     let a = c .before .before .args in
     let ws = a .words .now in
+    let room = leb-true (a .at + (length ws * 3 + 1) / 2) (length (a .packet .now)) (c .before .before .pre) in
     (omega arith, refl, omega arith, unpack-start (drop (a .at) (a .packet .now)) ws)
 
 add-loop : tie.Need-add-loop Inv-loop μ-loop
