@@ -26,10 +26,10 @@ not-at end h = let z : _≡_ {A = ℕ} 0 1 = cc in omega arith
 
 -- so is a span
 
-words-injective : {a b : ℕ} → Span.Words a ≡ Span.Words b → a ≡ b
+pub words-injective : {a b : ℕ} → Span.Words a ≡ Span.Words b → a ≡ b
 words-injective h = cc
 
-not-words : (n : ℕ) → Span.Odd ≡ Span.Words n → ⊥
+pub not-words : (n : ℕ) → Span.Odd ≡ Span.Words n → ⊥
 not-words n h = let z : _≡_ {A = ℕ} 0 1 = cc in omega arith
 
 -- the words of an even PM length
