@@ -29,6 +29,14 @@ pub is-sector : (s : ℕ) → 3 ≤ s → s ≤ 10 → isSector s ≡ true
 unfolding isSector
 is-sector s p q = sym (and-yes (le-leb 3 s p) (sym (le-leb s 10 q)))
 
+-- both at once, as the proofs of functions use it
+pub record Sector (s : ℕ) : Type 0 where
+  pub least : 3 ≤ s
+  pub most : s ≤ 10
+
+pub sector-tells : (s : ℕ) → isSector s ≡ true → Sector s
+sector-tells s h = record { least = sector-least s h; most = sector-most s h }
+
 -- the number of sector 3, of a later one, and of none
 pub by-third : (s third later : ℕ) → s ≡ 3 → bySector s third later ≡ third
 unfolding bySector isSector

@@ -10,6 +10,7 @@ use borrow.Author.Tests.{not-true, not-false}
 use Rattle.base.proofs.Pick.{and-yes, and-no}
 use Rattle.flash.specs.Directory.{entrySays}
 use Rattle.flash.proofs.Geometry.{sector-least, sector-most, is-sector}
+use Rattle.flash.proofs.Geometry.{Sector, sector-tells}
 use Rattle.flash.proofs.directory.entry_says.Statement.{statement}
 use Rattle.flash.proofs.directory.entry_says.Tie as tie
 
@@ -20,77 +21,47 @@ returns : tie.Need-returns
 unfolding entrySays
 returns c = and-no _ (sym (c .before .is-sector .ensures) ∙ not-true _ (c .if1 .taken))
 
+here : (c : tie.Else1) → Sector (c .before .before .args .sector)
+here c = sector-tells _ (sym (c .before .is-sector .ensures) ∙ not-false _ (c .if1 .left))
+
 sub-place : tie.Need-sub-place
-sub-place c =
-    let l = sector-least _ (sym (c .before .is-sector .ensures) ∙ not-false _ (c .if1 .left)) in
-    let m = sector-most _ (sym (c .before .is-sector .ensures) ∙ not-false _ (c .if1 .left)) in
-    omega arith
+sub-place c = let s = here c in omega arith
 
 mul-place : tie.Need-mul-place
-mul-place c =
-    let l = sector-least _ (sym (c .before .is-sector .ensures) ∙ not-false _ (c .if1 .left)) in
-    let m = sector-most _ (sym (c .before .is-sector .ensures) ∙ not-false _ (c .if1 .left)) in
-    omega arith
+mul-place c = let s = here c in omega arith
 
 add-result : tie.Need-add-result
-add-result c =
-    let l = sector-least _ (sym (c .before .is-sector .ensures) ∙ not-false _ (c .if1 .left)) in
-    let m = sector-most _ (sym (c .before .is-sector .ensures) ∙ not-false _ (c .if1 .left)) in
-    omega arith
+add-result c = let s = here c in omega arith
 
 mul-result : tie.Need-mul-result
-mul-result c =
-    let l = sector-least _ (sym (c .before .is-sector .ensures) ∙ not-false _ (c .if1 .left)) in
-    let m = sector-most _ (sym (c .before .is-sector .ensures) ∙ not-false _ (c .if1 .left)) in
-    omega arith
+mul-result c = let s = here c in omega arith
 
 array-read-result : tie.Need-array-read-result
-array-read-result c =
-    let l = sector-least _ (sym (c .before .is-sector .ensures) ∙ not-false _ (c .if1 .left)) in
-    let m = sector-most _ (sym (c .before .is-sector .ensures) ∙ not-false _ (c .if1 .left)) in
-    omega arith
+array-read-result c = let s = here c in omega arith
 
 sector-address-requires : tie.Need-sector-address-requires
 sector-address-requires c κs = search needs
 
 add-result-2 : tie.Need-add-result-2
-add-result-2 c =
-    let l = sector-least _ (sym (c .before .before .is-sector .ensures) ∙ not-false _ (c .before .if1 .left)) in
-    let m = sector-most _ (sym (c .before .before .is-sector .ensures) ∙ not-false _ (c .before .if1 .left)) in
-    omega arith
+add-result-2 c = let s = here (c .before) in omega arith
 
 mul-result-2 : tie.Need-mul-result-2
-mul-result-2 c =
-    let l = sector-least _ (sym (c .before .before .is-sector .ensures) ∙ not-false _ (c .before .if1 .left)) in
-    let m = sector-most _ (sym (c .before .before .is-sector .ensures) ∙ not-false _ (c .before .if1 .left)) in
-    omega arith
+mul-result-2 c = let s = here (c .before) in omega arith
 
 array-read-result-2 : tie.Need-array-read-result-2
-array-read-result-2 c =
-    let l = sector-least _ (sym (c .before .before .is-sector .ensures) ∙ not-false _ (c .before .if1 .left)) in
-    let m = sector-most _ (sym (c .before .before .is-sector .ensures) ∙ not-false _ (c .before .if1 .left)) in
-    omega arith
+array-read-result-2 c = let s = here (c .before) in omega arith
 
 status-word-requires : tie.Need-status-word-requires
 status-word-requires c κs = search needs
 
 add-result-3 : tie.Need-add-result-3
-add-result-3 c =
-    let l = sector-least _ (sym (c .before .before .before .is-sector .ensures) ∙ not-false _ (c .before .before .if1 .left)) in
-    let m = sector-most _ (sym (c .before .before .before .is-sector .ensures) ∙ not-false _ (c .before .before .if1 .left)) in
-    omega arith
+add-result-3 c = let s = here (c .before .before) in omega arith
 
 mul-result-3 : tie.Need-mul-result-3
-mul-result-3 c =
-    let l = sector-least _ (sym (c .before .before .before .is-sector .ensures) ∙ not-false _ (c .before .before .if1 .left)) in
-    let m = sector-most _ (sym (c .before .before .before .is-sector .ensures) ∙ not-false _ (c .before .before .if1 .left)) in
-    omega arith
+mul-result-3 c = let s = here (c .before .before) in omega arith
 
 array-read-result-3 : tie.Need-array-read-result-3
-array-read-result-3 c =
-    let l = sector-least _ (sym (c .before .before .before .is-sector .ensures) ∙ not-false _ (c .before .before .if1 .left)) in
-    let m = sector-most _ (sym (c .before .before .before .is-sector .ensures) ∙ not-false _ (c .before .before .if1 .left)) in
-    omega arith
+array-read-result-3 c = let s = here (c .before .before) in omega arith
 
 fourth-word-requires : tie.Need-fourth-word-requires
 fourth-word-requires c κs = search needs

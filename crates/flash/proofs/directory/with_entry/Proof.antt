@@ -10,6 +10,7 @@ use Rattle.flash.specs.Status.{statusWord, fourthWord}
 use Rattle.flash.specs.Directory.{entryOf}
 use Rattle.flash.proofs.Geometry.{sector-least, sector-most, is-sector}
 use Rattle.flash.proofs.Entries.{entered-laid, entered-none, four-stores}
+use Rattle.flash.proofs.Geometry.{Sector, sector-tells}
 use Rattle.flash.proofs.directory.with_entry.Statement.{statement}
 use Rattle.flash.proofs.directory.with_entry.Tie as tie
 
@@ -19,92 +20,56 @@ is-sector-requires c κs = search needs
 returns : tie.Need-returns
 returns c = sym (entered-none _ _ _ _ (sym (c .before .is-sector .ensures) ∙ not-true _ (c .if1 .taken)))
 
+here : (c : tie.Else1) → Sector (c .before .before .args .sector)
+here c = sector-tells _ (sym (c .before .is-sector .ensures) ∙ not-false _ (c .if1 .left))
+
 sub-place : tie.Need-sub-place
-sub-place c =
-    let l = sector-least _ (sym (c .before .is-sector .ensures) ∙ not-false _ (c .if1 .left)) in
-    let m = sector-most _ (sym (c .before .is-sector .ensures) ∙ not-false _ (c .if1 .left)) in
-    omega arith
+sub-place c = let s = here c in omega arith
 
 mul-place : tie.Need-mul-place
-mul-place c =
-    let l = sector-least _ (sym (c .before .is-sector .ensures) ∙ not-false _ (c .if1 .left)) in
-    let m = sector-most _ (sym (c .before .is-sector .ensures) ∙ not-false _ (c .if1 .left)) in
-    omega arith
+mul-place c = let s = here c in omega arith
 
 mul-entered : tie.Need-mul-entered
-mul-entered c =
-    let l = sector-least _ (sym (c .before .is-sector .ensures) ∙ not-false _ (c .if1 .left)) in
-    let m = sector-most _ (sym (c .before .is-sector .ensures) ∙ not-false _ (c .if1 .left)) in
-    omega arith
+mul-entered c = let s = here c in omega arith
 
 array-write-entered : tie.Need-array-write-entered
-array-write-entered c =
-    let l = sector-least _ (sym (c .before .is-sector .ensures) ∙ not-false _ (c .if1 .left)) in
-    let m = sector-most _ (sym (c .before .is-sector .ensures) ∙ not-false _ (c .if1 .left)) in
-    omega arith
+array-write-entered c = let s = here c in omega arith
 
 sector-address-requires : tie.Need-sector-address-requires
 sector-address-requires c κs = search needs
 
 add-entered : tie.Need-add-entered
-add-entered c =
-    let l = sector-least _ (sym (c .before .before .is-sector .ensures) ∙ not-false _ (c .before .if1 .left)) in
-    let m = sector-most _ (sym (c .before .before .is-sector .ensures) ∙ not-false _ (c .before .if1 .left)) in
-    omega arith
+add-entered c = let s = here (c .before) in omega arith
 
 mul-entered-2 : tie.Need-mul-entered-2
-mul-entered-2 c =
-    let l = sector-least _ (sym (c .before .before .is-sector .ensures) ∙ not-false _ (c .before .if1 .left)) in
-    let m = sector-most _ (sym (c .before .before .is-sector .ensures) ∙ not-false _ (c .before .if1 .left)) in
-    omega arith
+mul-entered-2 c = let s = here (c .before) in omega arith
 
 array-write-entered-2 : tie.Need-array-write-entered-2
-array-write-entered-2 c =
-    let l = sector-least _ (sym (c .before .before .is-sector .ensures) ∙ not-false _ (c .before .if1 .left)) in
-    let m = sector-most _ (sym (c .before .before .is-sector .ensures) ∙ not-false _ (c .before .if1 .left)) in
-    omega arith
+array-write-entered-2 c = let s = here (c .before) in omega arith
 
 status-word-requires : tie.Need-status-word-requires
 status-word-requires c κs = search needs
 
 add-entered-2 : tie.Need-add-entered-2
-add-entered-2 c =
-    let l = sector-least _ (sym (c .before .before .before .is-sector .ensures) ∙ not-false _ (c .before .before .if1 .left)) in
-    let m = sector-most _ (sym (c .before .before .before .is-sector .ensures) ∙ not-false _ (c .before .before .if1 .left)) in
-    omega arith
+add-entered-2 c = let s = here (c .before .before) in omega arith
 
 mul-entered-3 : tie.Need-mul-entered-3
-mul-entered-3 c =
-    let l = sector-least _ (sym (c .before .before .before .is-sector .ensures) ∙ not-false _ (c .before .before .if1 .left)) in
-    let m = sector-most _ (sym (c .before .before .before .is-sector .ensures) ∙ not-false _ (c .before .before .if1 .left)) in
-    omega arith
+mul-entered-3 c = let s = here (c .before .before) in omega arith
 
 array-write-entered-3 : tie.Need-array-write-entered-3
-array-write-entered-3 c =
-    let l = sector-least _ (sym (c .before .before .before .is-sector .ensures) ∙ not-false _ (c .before .before .if1 .left)) in
-    let m = sector-most _ (sym (c .before .before .before .is-sector .ensures) ∙ not-false _ (c .before .before .if1 .left)) in
-    omega arith
+array-write-entered-3 c = let s = here (c .before .before) in omega arith
 
 fourth-word-requires : tie.Need-fourth-word-requires
 fourth-word-requires c κs = search needs
 
 add-entered-3 : tie.Need-add-entered-3
-add-entered-3 c =
-    let l = sector-least _ (sym (c .before .before .before .before .is-sector .ensures) ∙ not-false _ (c .before .before .before .if1 .left)) in
-    let m = sector-most _ (sym (c .before .before .before .before .is-sector .ensures) ∙ not-false _ (c .before .before .before .if1 .left)) in
-    omega arith
+add-entered-3 c = let s = here (c .before .before .before) in omega arith
 
 mul-entered-4 : tie.Need-mul-entered-4
-mul-entered-4 c =
-    let l = sector-least _ (sym (c .before .before .before .before .is-sector .ensures) ∙ not-false _ (c .before .before .before .if1 .left)) in
-    let m = sector-most _ (sym (c .before .before .before .before .is-sector .ensures) ∙ not-false _ (c .before .before .before .if1 .left)) in
-    omega arith
+mul-entered-4 c = let s = here (c .before .before .before) in omega arith
 
 array-write-entered-4 : tie.Need-array-write-entered-4
-array-write-entered-4 c =
-    let l = sector-least _ (sym (c .before .before .before .before .is-sector .ensures) ∙ not-false _ (c .before .before .before .if1 .left)) in
-    let m = sector-most _ (sym (c .before .before .before .before .is-sector .ensures) ∙ not-false _ (c .before .before .before .if1 .left)) in
-    omega arith
+array-write-entered-4 c = let s = here (c .before .before .before) in omega arith
 
 returns-2 : tie.Need-returns-2
 unfolding entryOf
