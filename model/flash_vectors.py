@@ -25,7 +25,10 @@ def ruled(seed, count):
 
 def mixed(words):
     """One word for a run: a change of any one word changes it."""
-    return sum(word * (2 * place + 1) for place, word in enumerate(words)) % 65536
+    value = 0
+    for word in words:
+        value = (value * 5 + word) % 65536
+    return value
 
 
 # What is asked, and the answers.
@@ -96,7 +99,7 @@ def answers(asked, file, budgets, flash):
 
 
 def outputs(stdin):
-    return "".join(line_of(answers(*read_line(line))) for line in stdin.splitlines())
+    return "".join(line_of(answers(*read_line(line))).lower() for line in stdin.splitlines())
 
 
 # Flashes of every kind.

@@ -9,8 +9,8 @@ use borrow.Author.Needs.{needs}
 use borrow.Author.Tests.{not-true, not-false}
 use Rattle.base.proofs.Pick.{and-yes, and-no}
 use Rattle.flash.specs.Directory.{entrySays}
-use Rattle.flash.proofs.Geometry.{sector-least, sector-most, is-sector}
 use Rattle.flash.proofs.Geometry.{Sector, sector-tells}
+use Rattle.flash.proofs.Geometry.{is-sector}
 use Rattle.flash.proofs.directory.entry_says.Statement.{statement}
 use Rattle.flash.proofs.directory.entry_says.Tie as tie
 

@@ -8,9 +8,9 @@ use borrow.Author.Tests.{not-true, not-false}
 use Rattle.flash.specs.Geometry.{sectorAddress}
 use Rattle.flash.specs.Status.{statusWord, fourthWord}
 use Rattle.flash.specs.Directory.{entryOf}
+use Rattle.flash.proofs.Geometry.{Sector, sector-tells}
 use Rattle.flash.proofs.Geometry.{sector-least, sector-most, is-sector}
 use Rattle.flash.proofs.Entries.{entered-laid, entered-none, four-stores}
-use Rattle.flash.proofs.Geometry.{Sector, sector-tells}
 use Rattle.flash.proofs.directory.with_entry.Statement.{statement}
 use Rattle.flash.proofs.directory.with_entry.Tie as tie
 
