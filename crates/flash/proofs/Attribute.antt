@@ -20,7 +20,7 @@ use Rattle.image.specs.Header.{typeOf, attributeOf, nameOf, segmentsOf}
 use Rattle.flash.specs.Geometry.{isSector, unitOf, sizeOf, startOf, sectorOf, sectorAddress, entryPlace}
 use Rattle.flash.specs.Status.{firstOf, statusOf, isErasing, statusWord, fourthWord}
 use Rattle.flash.specs.Directory.{entryOf, entryFor, directoryOf, entered}
-use Rattle.flash.specs.Change.{toDefault, toPlain, settingOf, headed, bitOf, NoBitRises}
+use Rattle.flash.specs.Change.{toDefault, toPlain, settingOf, headerAfter, headed, bitOf, NoBitRises}
 use Rattle.flash.specs.declared.Erasing.{Erasing}
 use Rattle.flash.specs.declared.Setting.{Setting}
 use Rattle.flash.specs.declared.Status.{Status}
@@ -75,6 +75,15 @@ cleared-name (bit13 p e) = omega arith
 pub cleared-segments : {old new : ℕ} → Cleared old new → segmentsOf new ≡ segmentsOf old
 cleared-segments (bit12 p e) = omega arith
 cleared-segments (bit13 p e) = omega arith
+
+-- whatever Attribute Set does, the header that stands after it has the name that it had
+pub attribute-keeps-name : (header value : ℕ) → nameOf (headerAfter header (settingOf header value)) ≡ nameOf header
+attribute-keeps-name header value = by (settingOf header value) refl
+  where
+    by : (s : Setting) → settingOf header value ≡ s → nameOf (headerAfter header s) ≡ nameOf header
+    by Setting.Refused e = refl
+    by Setting.Holds e = refl
+    by (Setting.Header new) e = cleared-name (setting-tells header value new e)
 
 -- no bit of the header goes from 0 to 1
 

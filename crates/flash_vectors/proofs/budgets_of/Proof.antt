@@ -1,4 +1,4 @@
--- `flash_vectors::budgets_of` stays inside its line.  Assumes nothing.
+-- `flash_vectors::budgets_of` stays inside its line. Assumes nothing.
 use Prim.Native.Nat.{_-_}
 use native.Mathlib.Omega.{arith}
 use borrow.Author.Needs.{needs}
