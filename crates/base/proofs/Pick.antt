@@ -31,7 +31,14 @@ pub pick-case : {A : Type 0} (P : A → Type 0) (t : Bool) {x y : A} → (t ≡ 
 pick-case P true f g = f refl
 pick-case P false f g = g refl
 
--- two tests joined
+-- two tests joined: forwards, where the first held and where it failed ..
+pub and-yes : {t u r : Bool} → t ≡ true → r ≡ u → r ≡ (t && u)
+and-yes {u = u} e h = h ∙ sym (ap (λ (x : Bool). x && u) e)
+
+pub and-no : {t : Bool} (u : Bool) → t ≡ false → false ≡ (t && u)
+and-no u e = sym (ap (λ (x : Bool). x && u) e)
+
+-- .. and backwards
 pub and-left : (t u : Bool) → (t && u) ≡ true → t ≡ true
 and-left true u e = refl
 and-left false u e = e
@@ -39,6 +46,3 @@ and-left false u e = e
 pub and-right : (t u : Bool) → (t && u) ≡ true → u ≡ true
 and-right true u e = e
 and-right false u e = absurd (false≢true e)
-
-pub and-both : {t u : Bool} → t ≡ true → u ≡ true → (t && u) ≡ true
-and-both {u = u} e h = ap (λ (x : Bool). x && u) e ∙ h

@@ -3,7 +3,7 @@ ghost use mathlib.Core.Path.{_≡_};
 ghost use Prim.Native.Nat.{_<_};
 ghost use lib.ListN.{length};
 ghost use Rattle.group.specs.Kind.{answer, zeroBc, zeroCode, zeroOf, faultCode, hasRoom, fcsRight, dataKind, kindOf};
-ghost use Rattle.group.specs.Tally.{zeroTallied, wholeTallied, tallied};
+ghost use Rattle.group.specs.Tally.{tallyNumber, zeroTallied, wholeTallied, tallied};
 use crate::Fault;
 use crate::Heard;
 use crate::Kind;
@@ -170,5 +170,17 @@ pub fn tallied(tally: Tally, kind: Kind) -> Tally
         Kind::Zero(zero) => zero_tallied(tally, zero),
         Kind::Faulty(_) => Tally::Mixed,
         Kind::Whole => whole_tallied(tally),
+    }
+}
+
+// The number of a tally.
+pub fn tally_number(tally: Tally) -> u16
+    ensures { λ r. ⌜ r ≡ tallyNumber tally ⌝ }
+{
+    match tally {
+        Tally::Nothing => 0,
+        Tally::Zero(zero) => zero_code(zero),
+        Tally::Whole => 5,
+        Tally::Mixed => 6,
     }
 }

@@ -1,0 +1,146 @@
+// Standard input for the programs that run stored vectors: one line after the other, each a row of words of four hex digits with
+// one byte between them. What a line holds is compared with the model's answers, so the contracts here say only what a caller
+// needs to stay inside its buffers.
+ghost use Prim.Native.Nat.{_+_, _≤_, _<_};
+ghost use mathlib.Core.Path.{_≡_};
+ghost use lib.ListN.{length};
+ghost use Rattle.feed.specs.Bounds.{Within};
+
+// A line: where it stands in the buffer, and the bytes behind it that were read already, from `next` up to `have`. There is no
+// line where `some` is false.
+pub struct Line {
+    pub start: usize,
+    pub end: usize,
+    pub next: usize,
+    pub have: usize,
+    pub some: bool,
+}
+
+// Before the first line.
+pub fn before() -> Line {
+    Line {
+        start: 0,
+        end: 0,
+        next: 0,
+        have: 0,
+        some: true,
+    }
+}
+
+// Where the first line of the bytes ends: the place of its newline, or the end of the bytes.
+fn line_end(bytes: &[u8]) -> usize
+    ensures { λ r. ⌜ r ≤ length (now (bytes .entry)) ⌝ }
+{
+    let mut i = 0;
+    while i < bytes.len() {
+        if bytes[i] == b'\n' {
+            return i;
+        }
+        i += 1;
+    }
+    i
+}
+
+// Moves the bytes from `start` up to `end` to the front.
+fn shift(buffer: &mut [u8], start: usize, end: usize)
+    requires { ⌜ (start ≤ end) × (end ≤ length (now buffer)) ⌝ }
+{
+    let n = end - start;
+    let mut i = 0;
+    while i < n {
+        buffer[i] = buffer[start + i];
+        i += 1;
+    }
+}
+
+// Reads behind the first `have` bytes, until the buffer is full or the input ends, and says how many bytes it then holds.
+fn fill(buffer: &mut [u8], have: usize) -> usize
+    requires { ⌜ have ≤ length (now buffer) ⌝ }
+    ensures { λ r. ⌜ r ≤ length (now (buffer .exit)) ⌝ }
+{
+    let got = io::read_full(0, &mut buffer[have..]);
+    have + got
+}
+
+// The next line of standard input, after the one before it. A line that is longer than the buffer is cut there.
+pub fn next_line(buffer: &mut [u8], line: Line) -> Line
+    ensures { λ r. ⌜ Within r (length (now (buffer .exit))) ⌝ }
+{
+    let end = base::least(line.have, buffer.len());
+    let start = base::least(line.next, end);
+    let whole = start + line_end(&buffer[start..end]);
+    if whole < end {
+        return Line {
+            start,
+            end: whole,
+            next: whole + 1,
+            have: end,
+            some: true,
+        };
+    }
+    shift(buffer, start, end);
+    let have = fill(buffer, end - start);
+    let first = line_end(&buffer[0..have]);
+    if first < have {
+        return Line {
+            start: 0,
+            end: first,
+            next: first + 1,
+            have,
+            some: true,
+        };
+    }
+    Line {
+        start: 0,
+        end: have,
+        next: have,
+        have,
+        some: 0 < have,
+    }
+}
+
+// The value of a hex digit.
+fn digit(byte: u8) -> u16
+    ensures { λ r. ⌜ r < 16 ⌝ }
+{
+    if byte < b'0' {
+        return 0;
+    }
+    if byte <= b'9' {
+        return small(byte - b'0');
+    }
+    if byte < b'A' {
+        return 0;
+    }
+    small(byte - b'A' + 10)
+}
+
+// A digit's value as a word.
+fn small(value: u8) -> u16
+    ensures { λ r. ⌜ r < 16 ⌝ }
+{
+    (value % 16) as u16
+}
+
+// The word whose four digits start at a place.
+fn word_at(line: &[u8], at: usize) -> u16
+    requires { ⌜ at + 4 ≤ length (now line) ⌝ }
+{
+    digit(line[at]) * 4096
+        + digit(line[at + 1]) * 256
+        + digit(line[at + 2]) * 16
+        + digit(line[at + 3])
+}
+
+// Puts the words of a line at the front of `words`, as many as there is room for, and says how many they are.
+pub fn words_of(line: &[u8], words: &mut [u16]) -> usize
+    ensures { λ r. ⌜ r ≤ length (now (words .exit)) ⌝ }
+{
+    let n = base::least(line.len() / 5 + line.len() % 5 / 4, words.len());
+    let mut i = 0;
+    while i < n {
+        words[i] = word_at(line, i * 5);
+        i += 1;
+    }
+    n
+}
