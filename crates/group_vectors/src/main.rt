@@ -64,22 +64,33 @@ fn next_word(word: u16) -> u16 {
     ((word as u32 * 25173 + 13849) % 65536) as u16
 }
 
-// A reply's words: from a seed on, the last two as given.
-fn make_reply(reply: &mut [u16], seed: u16, status: u16, last: u16) {
-    let n = reply.len();
+// The words that follow from a seed.
+fn seed_words(run: &mut [u16], seed: u16) {
+    let n = run.len();
     let mut word = seed;
     let mut i = 0;
     while i < n {
-        reply[i] = word;
+        run[i] = word;
         word = next_word(word);
         i += 1;
     }
-    if 1 < n {
-        reply[n - 2] = status;
+}
+
+// A word set at a place counted from the end: 1 is the last.
+fn set_last(run: &mut [u16], place: usize, word: u16)
+    requires { ⌜ 0 < place ⌝ }
+{
+    let n = run.len();
+    if place <= n {
+        run[n - place] = word;
     }
-    if 0 < n {
-        reply[n - 1] = last;
-    }
+}
+
+// A reply's words: from a seed on, the last two as given.
+fn make_reply(reply: &mut [u16], seed: u16, status: u16, last: u16) {
+    seed_words(reply, seed);
+    set_last(reply, 2, status);
+    set_last(reply, 1, last);
 }
 
 // Every word of the buffer the same, before each line.
@@ -138,7 +149,15 @@ fn words_at(line: &[u16], at: usize, reply: &mut [u16]) -> usize
 }
 
 // One slave's answer.
-fn answer(line: &[u16], at: usize, set: u32, slave: u32, buffer: &mut [u16], reply: &mut [u16], built: Built) -> Built
+fn answer(
+    line: &[u16],
+    at: usize,
+    set: u32,
+    slave: u32,
+    buffer: &mut [u16],
+    reply: &mut [u16],
+    built: Built,
+) -> Built
     requires { ⌜ at < 1000 ⌝ }
 {
     let left = group::slaves::slaves_above(set, slave);

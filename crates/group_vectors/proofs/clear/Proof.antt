@@ -1,45 +1,40 @@
+-- `group_vectors::clear` meets its contract: the buffer keeps its length. The measure is what is left of it. Assumes nothing.
+use Prim.Native.Nat.{_≤_, _-_}
+use mathlib.Core.Path.{_≡_}
+use borrow.Author.Needs.{needs}
+use lib.ListN.{length}
 use Rattle.group_vectors.proofs.clear.Statement.{statement}
 use Rattle.group_vectors.proofs.clear.Tie as tie
-use Rattle.group_vectors.proofs.clear.Reads as reads
-use Rattle.group_vectors.proofs.clear.Lts as lts
 
 abbrev Inv-loop : tie.InvT-loop
-Inv-loop buffer₀ i₀ buffer i = ?
+Inv-loop buffer₀ i₀ buffer i = (i ≤ length buffer₀) × (length buffer ≡ length buffer₀)
 
 abbrev μ-loop : tie.MeasureT-loop
-μ-loop buffer₀ i₀ buffer i = ?
+μ-loop buffer₀ i₀ buffer i = length buffer₀ - i
 
--- src/main.rt:88:5
 loop-holds : tie.Need-loop-holds Inv-loop μ-loop
-loop-holds c = ?
+loop-holds c = search needs
 
--- src/main.rt:89:9
 mul-buffer : tie.Need-mul-buffer Inv-loop μ-loop
-mul-buffer c = ?
+mul-buffer c = search needs
 
--- src/main.rt:89:9
 slice-write-buffer : tie.Need-slice-write-buffer Inv-loop μ-loop
-slice-write-buffer c = ?
+slice-write-buffer c = search needs
 
--- src/main.rt:90:9
 add-i : tie.Need-add-i Inv-loop μ-loop
-add-i c = ?
+add-i c = search needs
 
--- src/main.rt:88:5
 loop-less : tie.Need-loop-less Inv-loop μ-loop
-loop-less c = ?
+loop-less c = search needs
 
--- src/main.rt:88:5
 loop-again : tie.Need-loop-again Inv-loop μ-loop
-loop-again c = ?
+loop-again c = search needs
 
--- src/main.rt:86:1
 same-length : tie.Need-same-length Inv-loop μ-loop
-same-length c = ?
+same-length c = search needs
 
--- src/main.rt:86:1
 returns : tie.Need-returns Inv-loop μ-loop
-returns c = ?
+returns c = search needs
 
 pub clear-spec : {M : Type 1} → statement M
 clear-spec =

@@ -1,46 +1,39 @@
+-- `group_vectors::digest` meets its contract: the digest stays below its modulus. The measure is what is left of the buffer. Assumes nothing.
+use Prim.Native.Nat.{_≤_, _<_, _-_}
+use borrow.Author.Needs.{needs}
+use lib.ListN.{length}
 use Rattle.group_vectors.proofs.digest.Statement.{statement}
 use Rattle.group_vectors.proofs.digest.Tie as tie
-use Rattle.group_vectors.proofs.digest.Reads as reads
-use Rattle.group_vectors.proofs.digest.Lts as lts
-use Rattle.group_vectors.proofs.mixed.Reads as mixed-reads
 
 abbrev Inv-loop : tie.InvT-loop
-Inv-loop buffer d₀ i₀ d i = ?
+Inv-loop buffer d₀ i₀ d i = (i ≤ length buffer) × (d < 4294967291)
 
 abbrev μ-loop : tie.MeasureT-loop
-μ-loop buffer d₀ i₀ d i = ?
+μ-loop buffer d₀ i₀ d i = length buffer - i
 
--- src/main.rt:105:5
 loop-holds : tie.Need-loop-holds Inv-loop μ-loop
-loop-holds c = ?
+loop-holds c = search needs
 
--- src/main.rt:106:22
 mul-mixed : tie.Need-mul-mixed Inv-loop μ-loop
-mul-mixed c = ?
+mul-mixed c = search needs
 
--- src/main.rt:106:22
 shared-slice-read-mixed : tie.Need-shared-slice-read-mixed Inv-loop μ-loop
-shared-slice-read-mixed c = ?
+shared-slice-read-mixed c = search needs
 
--- src/main.rt:106:9
 mixed-requires : tie.Need-mixed-requires Inv-loop μ-loop
-mixed-requires c κs = ?
+mixed-requires c κs = search needs
 
--- src/main.rt:107:9
 add-i : tie.Need-add-i Inv-loop μ-loop
-add-i c = ?
+add-i c = search needs
 
--- src/main.rt:105:5
 loop-less : tie.Need-loop-less Inv-loop μ-loop
-loop-less c = ?
+loop-less c = search needs
 
--- src/main.rt:105:5
 loop-again : tie.Need-loop-again Inv-loop μ-loop
-loop-again c = ?
+loop-again c = search needs
 
--- src/main.rt:102:1
 returns : tie.Need-returns Inv-loop μ-loop
-returns c = ?
+returns c = search needs
 
 pub digest-spec : {M : Type 1} → statement M
 digest-spec =

@@ -97,7 +97,7 @@ enum-told-5 : tie.Need-enum-told-5
 enum-told-5 c = search needs
 
 sub-lay-3 : tie.Need-sub-lay-3
-sub-lay-3 c = whole (c .before .before .before) (c .before .enum-told5 .given .1) .two
+sub-lay-3 c = omega (arith, whole (c .before .before .before) (c .before .enum-told5 .given .1) .two)
 
 sub-lay-4 : tie.Need-sub-lay-4
 sub-lay-4 c = search needs
