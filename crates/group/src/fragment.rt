@@ -17,7 +17,7 @@ use crate::judge::tallied;
 use crate::judge::zero_code;
 
 // DAT of what an answer is.
-pub fn dat_of(kind: Kind) -> u16
+fn dat_of(kind: Kind) -> u16
     ensures { λ r. ⌜ r ≡ datOf kind ⌝ }
 {
     match kind {
@@ -30,7 +30,7 @@ pub fn dat_of(kind: Kind) -> u16
 }
 
 // The reply code of what an answer is.
-pub fn code_of(kind: Kind) -> u16
+fn code_of(kind: Kind) -> u16
     ensures { λ r. ⌜ r ≡ codeOf kind ⌝ }
 {
     match kind {
@@ -101,7 +101,7 @@ fn counted(n: usize) -> u16
 }
 
 // n words have a place from one on in a run.
-pub fn fits(at: usize, n: usize, run: usize) -> bool
+pub(crate) fn fits(at: usize, n: usize, run: usize) -> bool
     ensures { λ r. ⌜ r ≡ leb (at + n) run ⌝ }
 {
     if run < n {
