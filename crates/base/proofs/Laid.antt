@@ -1,12 +1,12 @@
 -- Words laid into a run change the words there and no other. Assumes nothing.
-use Prim.Native.Nat.{ℕ, zero, suc, _+_, _-_, _≤_, _<_}
-use mathlib.Core.Path.{_≡_, refl, sym, ap, _∙_}
+use Prim.Native.Nat.{ℕ, suc, _+_, _-_, _≤_, _<_}
+use mathlib.Core.Path.{_≡_, sym, ap, _∙_}
 use mathlib.Core.List.{List, [], _∷_, _++_, append-assoc, append-nil}
 use native.Mathlib.Numerals.{add-one}
 use native.Mathlib.Nat.{add-assoc}
 use native.Mathlib.Omega.{arith}
 use lib.ListN.{length, getD, take, drop, set, length-append, length-take, length-drop, length-set, List·getD-append, drop-of-length-le}
-use lib.Seq.{length-take-le, take-append-add, drop-append-add, take-append-le, drop-append-le, take-at, drop-at, drop-drop, drop-cons, set-at, sets-eq, paste-zero, getD-take, getD-drop, getD-append-add}
+use lib.Seq.{length-take-le, take-append-add, drop-append-add, take-append-le, drop-append-le, drop-at, drop-drop, drop-cons, set-at, sets-eq, paste-zero, getD-take, getD-drop, getD-append-add}
 use Rattle.base.specs.Words.{part, laid, Same}
 use Rattle.base.proofs.Part.{length-part, part-split, part-append, same-part}
 
@@ -111,7 +111,7 @@ laid-part ws s n k new h m =
     ∙ ap (λ (j : ℕ). laid (take s ws ++ (part ws s n ++ drop (s + n) ws)) (j + k) new) la
     ∙ ap (λ (x : List ℕ). laid x (s + k) new) (sym (part-split ws s n))
 
--- how loops lay words: none, one in front of the rest, one behind the others
+-- how loops lay words: none, one, two or three in front of the rest, one behind the others
 
 pub laid-none : (ws : List ℕ) (at : ℕ) → ws ≡ laid ws at []
 unfolding laid
@@ -121,6 +121,20 @@ pub laid-cons : (ws : List ℕ) (at w : ℕ) (new : List ℕ) → at + suc (leng
 unfolding laid
 laid-cons ws at w new h =
     sym (sets-eq (w ∷ new) ws at h) ∙ sets-eq new (set ws at w) (suc at) (simp length-set (omega arith)) ∙ rw (add-one at)
+
+pub laid-two : (ws : List ℕ) (at v w : ℕ) (new : List ℕ) → at + 2 + length new ≤ length ws → laid ws at (v ∷ w ∷ new) ≡ laid (set (set ws at v) (at + 1) w) (at + 2) new
+laid-two ws at v w new h =
+    let e : at + 1 + 1 ≡ at + 2 = omega arith in
+    laid-cons ws at v (w ∷ new) (omega arith)
+    ∙ laid-cons (set ws at v) (at + 1) w new (simp length-set (omega arith))
+    ∙ ap (λ (i : ℕ). laid (set (set ws at v) (at + 1) w) i new) e
+
+pub laid-three : (ws : List ℕ) (at u v w : ℕ) (new : List ℕ) → at + 3 + length new ≤ length ws → laid ws at (u ∷ v ∷ w ∷ new) ≡ laid (set (set (set ws at u) (at + 1) v) (at + 2) w) (at + 3) new
+laid-three ws at u v w new h =
+    let e : at + 2 + 1 ≡ at + 3 = omega arith in
+    laid-two ws at u v (w ∷ new) (omega arith)
+    ∙ laid-cons (set (set ws at u) (at + 1) v) (at + 2) w new (simp length-set (omega arith))
+    ∙ ap (λ (i : ℕ). laid (set (set (set ws at u) (at + 1) v) (at + 2) w) i new) e
 
 pub laid-snoc : (ws : List ℕ) (at : ℕ) (new : List ℕ) (w n : ℕ) → length new ≡ n → at + n < length ws → laid ws at (new ++ (w ∷ [])) ≡ set (laid ws at new) (at + n) w
 unfolding laid

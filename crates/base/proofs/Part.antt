@@ -4,7 +4,7 @@ use mathlib.Core.Path.{_≡_, refl, sym, ap, _∙_}
 use mathlib.Core.List.{List, [], _∷_, _++_}
 use native.Mathlib.Omega.{arith}
 use lib.ListN.{length, getD, take, drop, length-take, length-drop, take-append-drop}
-use lib.Seq.{ext-getD, getD-take, getD-drop, take-at, drop-at, drop-drop}
+use lib.Seq.{ext-getD, getD-take, getD-drop, take-at, drop-at, drop-drop, drop-cons}
 use Rattle.base.specs.Words.{part, Below, Same}
 
 pub length-part : (ws : List ℕ) (at n : ℕ) → at + n ≤ length ws → length (part ws at n) ≡ n
@@ -22,6 +22,30 @@ part-split ws at n =
 
 pub part-append : (a b c : List ℕ) (at n : ℕ) → length a ≡ at → length b ≡ n → part (a ++ (b ++ c)) at n ≡ b
 part-append a b c at n p q = rw (drop-at a (b ++ c) at p) (take-at b c n q)
+
+-- a part without its first words is a part
+pub drop-part : (ws : List ℕ) (at n k : ℕ) → at + n ≤ length ws → k ≤ n → drop k (part ws at n) ≡ part ws (at + k) (n - k)
+drop-part ws at n k h m =
+    let l : length (drop k (part ws at n)) ≡ n - k = length-drop k (part ws at n) ∙ ap (λ (x : ℕ). x - k) (length-part ws at n h) in
+    let r : length (part ws (at + k) (n - k)) ≡ n - k = length-part ws (at + k) (n - k) (omega arith) in
+    ext-getD 0 (drop k (part ws at n)) (part ws (at + k) (n - k)) (l ∙ sym r)
+    (λ i p. let p′ : i < n - k = omega arith in
+    getD-drop k (part ws at n) i 0
+    ∙ getD-part ws at n (k + i) (omega arith)
+    ∙ ap (λ (j : ℕ). getD ws j 0) (omega arith)
+    ∙ sym (getD-part ws (at + k) (n - k) i p′))
+
+-- the first words of the rest of a run: how loops go by two and by three
+pub drop-two : (ws : List ℕ) (i : ℕ) → i + 2 ≤ length ws → drop i ws ≡ getD ws i 0 ∷ getD ws (i + 1) 0 ∷ drop (i + 2) ws
+drop-two ws i h =
+    let e : suc i ≡ i + 1 = omega arith in
+    let e′ : suc (i + 1) ≡ i + 2 = omega arith in
+    rw (drop-cons ws i 0 (omega arith), e, drop-cons ws (i + 1) 0 (omega arith), e′)
+
+pub drop-three : (ws : List ℕ) (i : ℕ) → i + 3 ≤ length ws → drop i ws ≡ getD ws i 0 ∷ getD ws (i + 1) 0 ∷ getD ws (i + 2) 0 ∷ drop (i + 3) ws
+drop-three ws i h =
+    let e : suc (i + 2) ≡ i + 3 = omega arith in
+    rw (drop-two ws i (omega arith), drop-cons ws (i + 2) 0 (omega arith), e)
 
 -- a bound on every word of a run is one on every word of a piece of it
 

@@ -7,6 +7,8 @@ ghost use Rattle.image.specs.File.{fileEnd};
 ghost use Prim.Native.Nat.{_≤_};
 ghost use lib.ListN.{length};
 
+pub mod pm;
+
 // Where the words of a segment go.
 pub enum Memory {
     Pm,
