@@ -6,7 +6,7 @@ use native.Mathlib.Numerals.{add-one}
 use native.Mathlib.Nat.{add-assoc}
 use native.Mathlib.Omega.{arith}
 use lib.ListN.{length, getD, take, drop, set, length-append, length-take, length-drop, length-set, List·getD-append, drop-of-length-le}
-use lib.Seq.{length-take-le, take-append-add, drop-append-add, take-append-le, drop-append-le, drop-at, drop-drop, drop-cons, set-at, sets-eq, paste-zero, getD-take, getD-drop, getD-append-add}
+use lib.Seq.{length-take-le, take-at, take-append-add, drop-append-add, take-append-le, drop-append-le, drop-at, drop-drop, drop-cons, set-at, sets-eq, paste-zero, getD-take, getD-drop, getD-append-add}
 use Rattle.base.specs.Words.{part, laid, Same}
 use Rattle.base.proofs.Part.{length-part, part-split, part-append, same-part}
 

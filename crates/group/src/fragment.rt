@@ -3,7 +3,6 @@ ghost use mathlib.Core.Path.{_≡_};
 ghost use Prim.Native.Nat.{min, _+_, _≤_, _<_};
 ghost use lib.Dec.{leb};
 ghost use lib.ListN.{length};
-ghost use Rattle.base.specs.Words.{laid};
 ghost use Rattle.group.specs.Kind.{answer, datOf, codeOf};
 ghost use Rattle.group.specs.Fragment.{statusWord, slaveBits, faultBits, bitsOf, statusOf, framed, assembly, behind, taken};
 use crate::Built;
@@ -110,18 +109,6 @@ pub(crate) fn fits(at: usize, n: usize, run: usize) -> bool
     at <= run - n
 }
 
-// Words copied into a run.
-pub(crate) fn copy(to: &mut [u16], at: usize, from: &[u16])
-    requires { ⌜ at + length (now from) ≤ length (now to) ⌝ }
-    ensures { λ _. ⌜ now (to .exit) ≡ laid (now (to .entry)) at (now (from .entry)) ⌝ }
-{
-    let mut i = 0;
-    while i < from.len() {
-        to[at + i] = from[i];
-        i += 1;
-    }
-}
-
 // A fragment laid behind the words built, the tally then being `tally`; nothing where the buffer cannot hold it.
 fn lay(reply: &mut [u16], built: Built, tally: Tally, words: &[u16], status: u16) -> Built
     requires { ⌜ length (now words) < 65535 ⌝ }
@@ -133,7 +120,7 @@ fn lay(reply: &mut [u16], built: Built, tally: Tally, words: &[u16], status: u16
         return built;
     }
     reply[w] = (n + 1) as u16;
-    copy(reply, w + 1, words);
+    base::copy(reply, w + 1, words);
     reply[w + 1 + n] = status;
     Built {
         words: w + n + 2,
