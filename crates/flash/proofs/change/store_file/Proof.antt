@@ -23,29 +23,29 @@ add-end : tie.Need-add-end
 add-end c =
     omega (arith, sector-fits (unitOf (c .before .before .before .before .before .args .flash .now)) (c .before .before .before .before .before .args .sector))
 
-mul-lay : tie.Need-mul-lay
-mul-lay c =
+mul-copy : tie.Need-mul-copy
+mul-copy c =
     omega (arith, sector-fits (unitOf (c .before .before .before .before .before .args .flash .now)) (c .before .before .before .before .before .args .sector))
 
-sub-lay : tie.Need-sub-lay
-sub-lay c = search needs
+sub-copy : tie.Need-sub-copy
+sub-copy c = search needs
 
-part-lay-start : tie.Need-part-lay-start
-part-lay-start c = search needs
+part-copy-start : tie.Need-part-copy-start
+part-copy-start c = search needs
 
-part-lay-end : tie.Need-part-lay-end
-part-lay-end c =
+part-copy-end : tie.Need-part-copy-end
+part-copy-end c =
     omega (arith, sector-fits (unitOf (c .before .before .before .before .before .args .flash .now)) (c .before .before .before .before .before .args .sector))
 
-lay-requires : tie.Need-lay-requires
-lay-requires c κs = search needs
+copy-requires : tie.Need-copy-requires
+copy-requires c κs = search needs
 
 same-length : tie.Need-same-length
 same-length c = search needs
 
 returns-2 : tie.Need-returns-2
 returns-2 c =
-    lent-sector (c .before .before .before .before .before .before .before .before .before .args .flash .now) (c .before .before .before .before .before .before .before .before .before .args .sector) 0 (c .before .before .before .before .before .before .before .before .before .args .file .now) _ (c .before .before .before .before .sector-start .result) (c .before .before .before .before .before .before .sector-size .result) (c .before .before .before .before .sector-start .ensures) (c .before .before .before .before .before .before .sector-size .ensures) (c .before .before .lay .ensures) (omega arith)
+    lent-sector (c .before .before .before .before .before .before .before .before .before .args .flash .now) (c .before .before .before .before .before .before .before .before .before .args .sector) 0 (c .before .before .before .before .before .before .before .before .before .args .file .now) _ (c .before .before .before .before .sector-start .result) (c .before .before .before .before .before .before .sector-size .result) (c .before .before .before .before .sector-start .ensures) (c .before .before .before .before .before .before .sector-size .ensures) (c .before .before .copy .ensures) (omega arith)
     ∙ sym (stored-laid (c .before .before .before .before .before .before .before .before .before .args .flash .now) (c .before .before .before .before .before .before .before .before .before .args .sector) (c .before .before .before .before .before .before .before .before .before .args .file .now) (omega arith))
 
 pub store-file-spec : {M : Type 1} → statement M
@@ -56,10 +56,10 @@ store-file-spec =
     returns
     sector-start-requires
     add-end
-    mul-lay
-    sub-lay
-    part-lay-start
-    part-lay-end
-    lay-requires
+    mul-copy
+    sub-copy
+    part-copy-start
+    part-copy-end
+    copy-requires
     same-length
     returns-2)
