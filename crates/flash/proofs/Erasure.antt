@@ -9,7 +9,7 @@ use native.Mathlib.Decide.{decLe, decLt}
 use native.Mathlib.Nat.{add-zero}
 use native.Mathlib.Omega.{arith}
 use lib.ListN.{length, getD, take, length-replicate, getD-replicate, replicate-append-replicate}
-use lib.Seq.{take-all}
+use lib.Seq.{take-all, getD-take, length-take-le}
 use lib.Dec.{leb}
 use borrow.Author.Tests.{leb-true, leb-false, le-leb, lt-leb}
 use Rattle.base.specs.Pick.{pick}
@@ -24,7 +24,7 @@ use Rattle.flash.specs.declared.Erasing.{Erasing}
 use Rattle.flash.specs.declared.Progress.{Progress}
 use Rattle.flash.specs.declared.Status.{Status}
 use Rattle.flash.proofs.Geometry.{sector-fits, length-sector, laid-sector, laid-only, laid-in-fits, other-kept, below-kept, only-same}
-use Rattle.flash.proofs.Statuses.{empty-blanks, empty-append, status-empty, status-erasing, status-quiet, erasing-this, erasing-other}
+use Rattle.flash.proofs.Statuses.{empty-blanks, empty-append, empty-word, first-word, status-empty, status-erasing, status-quiet, erasing-this, erasing-other}
 use Rattle.flash.proofs.Entries.{entry-local, entry-quiet, directory-update}
 
 -- the count is the budget or the rest, and the flash is the words before with so many blank ones laid
@@ -118,6 +118,17 @@ module _ (flash : List ℕ) (p : Progress) (budget : ℕ) where
       ap isEmpty (ap (take (p .done + count)) (erased-sector (omega arith))
       ∙ take-laid (sectorOf flash s) (p .done) (blanks count) (p .done + count) (omega arith) (omega arith))
       ∙ empty-append (take (p .done) (sectorOf flash s)) (blanks count) (h .blank) (empty-blanks count)
+
+  -- so the first word is FFFF from the step on that sets it
+  pub erased-first : Erased flash p → 0 < p .done + count → firstOf (sectorOf after s) ≡ 0xFFFF
+  erased-first h q =
+      let b = h .below in
+      let l = length-sector flash s in
+      let m = ap length (erased-sector (omega arith)) ∙ length-laid (sectorOf flash s) (p .done) (blanks count) (omega (arith, room (omega arith))) in
+      first-word (sectorOf after s) (omega arith)
+      ∙ sym (getD-take (p .done + count) (sectorOf after s) 0 0 q)
+      ∙ empty-word (take (p .done + count) (sectorOf after s)) 0 (erased-blank h)
+      (omega (arith, length-take-le (p .done + count) (sectorOf after s) (omega arith)))
 
   -- while words are left, the erasure goes on
   pub erased-still : Erased flash p → budget < restOf u p → Erased after (progress s (p .done + budget))
