@@ -38,5 +38,8 @@ int perf_differ(const char *what) {
 int main(void) {
     int over = 0;
     over += perf_fcs_runs();
+    over += perf_image_runs();
+    over += perf_flash_runs();
+    over += perf_group_runs();
     return over ? 1 : 0;
 }

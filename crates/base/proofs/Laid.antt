@@ -6,7 +6,7 @@ use native.Mathlib.Numerals.{add-one}
 use native.Mathlib.Nat.{add-assoc}
 use native.Mathlib.Omega.{arith}
 use lib.ListN.{length, getD, take, drop, set, length-append, length-take, length-drop, length-set, List·getD-append, drop-of-length-le}
-use lib.Seq.{take-at, length-take-le, take-append-add, drop-append-add, take-append-le, drop-append-le, drop-at, drop-drop, drop-cons, set-at, sets-eq, paste-zero, getD-take, getD-drop, getD-append-add}
+use lib.Seq.{length-take-le, take-at, take-append-add, drop-append-add, take-append-le, drop-append-le, drop-at, drop-drop, drop-cons, set-at, sets-eq, paste-zero, getD-take, getD-drop, getD-append-add}
 use Rattle.base.specs.Words.{part, laid, Same}
 use Rattle.base.proofs.Part.{length-part, part-split, part-append, same-part}
 
@@ -178,19 +178,6 @@ laid-laid ws at a b h =
     ∙ ap (λ (x : List ℕ). ((take at ws ++ a) ++ b) ++ x) back
     ∙ ap (λ (x : List ℕ). x ++ drop (n + length b) ws) (append-assoc (take at ws) a b)
     ∙ ap (λ (x : ℕ). (take at ws ++ (a ++ b)) ++ drop x ws) (sym m)
-
--- words laid, and others behind them
-pub laid-append : (ws : List ℕ) (at : ℕ) (a b : List ℕ) → at + length a + length b ≤ length ws → laid ws at (a ++ b) ≡ laid (laid ws at a) (at + length a) b
-laid-append ws at [] b h =
-    let e : at + 0 ≡ at = omega arith in
-    rw e (ap (λ (l : List ℕ). laid l at b) (laid-none ws at))
-laid-append ws at (x ∷ a) b h =
-    let e : at + suc (length a) ≡ at + 1 + length a = omega arith in
-    let l : length (a ++ b) ≡ length a + length b = length-append a b in
-    rw e
-    (laid-cons ws at x (a ++ b) (omega arith)
-    ∙ laid-append (set ws at x) (at + 1) a b (simp length-set (omega arith))
-    ∙ ap (λ (k : List ℕ). laid k (at + 1 + length a) b) (sym (laid-cons ws at x a (omega arith))))
 
 -- words laid over a whole run are the run
 pub laid-whole : (ws new : List ℕ) → length new ≡ length ws → laid ws 0 new ≡ new

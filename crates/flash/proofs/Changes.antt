@@ -1,27 +1,18 @@
 -- How words are laid into a sector: word by word, and through a part of the flash that is lent. Assumes nothing.
-use Prim.Native.Nat.{ℕ, zero, suc, min, _+_, _-_, _≤_, _<_}
+use Prim.Native.Nat.{ℕ, min, _+_, _-_, _≤_, _<_}
 use mathlib.Core.Path.{_≡_, refl, sym, ap, _∙_, subst}
-use mathlib.Core.List.{List, [], _∷_, _++_}
-use native.Mathlib.Numerals.{add-one}
+use mathlib.Core.List.{List, _++_}
 use native.Mathlib.Omega.{arith}
-use lib.ListN.{length, getD, take, drop, set, length-replicate, replicate-append-replicate}
-use lib.Seq.{length-take-le, take-suc}
-use lib.Dec.{leb}
+use lib.ListN.{length, take, drop, set, length-replicate, replicate-append-replicate}
 use borrow.Author.Tests.{le-leb, lt-leb}
 use Rattle.base.specs.Words.{part, laid, blanks}
-use Rattle.base.proofs.Pick.{yes, no}
 use Rattle.base.proofs.Laid.{laid-none, laid-snoc, laid-part}
+use Rattle.base.proofs.Pick.{yes, no}
 use Rattle.flash.specs.Geometry.{unitOf, sizeOf, startOf}
 use Rattle.flash.specs.Change.{stored, restOf, eraseCount, erased}
 use Rattle.flash.specs.declared.Erasing.{Erasing}
 use Rattle.flash.specs.declared.Progress.{Progress}
 use Rattle.flash.proofs.Geometry.{sector-fits}
-
--- one word of a file more
-pub file-turn : (ws : List ℕ) (at : ℕ) (file : List ℕ) (i : ℕ) → i < length file → at + length file ≤ length ws → set (laid ws at (take i file)) (at + i) (getD file i 0) ≡ laid ws at (take (i + 1) file)
-file-turn ws at file i h f =
-    sym (ap (laid ws at) (ap (λ (n : ℕ). take n file) (add-one i) ∙ take-suc file i 0 h)
-    ∙ laid-snoc ws at (take i file) (getD file i 0) i (length-take-le i file (omega arith)) (omega arith))
 
 -- one blank word more
 pub blank-turn : (ws : List ℕ) (at i : ℕ) → at + i < length ws → set (laid ws at (blanks i)) (at + i) 0xFFFF ≡ laid ws at (blanks (i + 1))

@@ -1,20 +1,20 @@
 -- Where the sectors stand: each lies within the flash, behind its first sixteenth, and no two have a word in common. Assumes nothing.
-use Prim.Native.Nat.{ℕ, zero, suc, _+_, _-_, _*_, _/_, _≤_, _<_}
+use Prim.Native.Nat.{ℕ, suc, _+_, _-_, _*_, _/_, _≤_, _<_}
 use mathlib.Core.Path.{_≡_, refl, sym, ap, _∙_}
-use mathlib.Core.Bool.{Bool, true, false, _&&_, false≢true}
+use mathlib.Core.Bool.{Bool, true, false}
 use mathlib.Core.List.{List}
-use native.Mathlib.Omega.{arith}
-use native.Mathlib.Nat.{mul-le-mul-right, suc-mul}
 use native.Mathlib.Decide.{decLt}
-use lib.ListN.{length}
+use native.Mathlib.Nat.{mul-le-mul-right, suc-mul}
+use native.Mathlib.Omega.{arith}
+use lib.ListN.{length, getD}
 use lib.Dec.{leb, eqb}
-use borrow.Author.Tests.{leb-true, le-leb, eqb-true, eqb-false, eq-eqb, ne-eqb}
-use Rattle.base.specs.Pick.{pick}
+use borrow.Author.Tests.{leb-true, le-leb, eqb-true, eqb-false, ne-eqb}
 use Rattle.base.specs.Words.{part, laid}
-use Rattle.base.proofs.Pick.{yes, no, pick-case, and-left, and-right, and-yes}
-use Rattle.base.proofs.Part.{length-part}
-use Rattle.base.proofs.Laid.{length-laid, part-laid-within, part-laid-before, part-laid-after}
+use Rattle.base.proofs.Laid.{length-laid, getD-laid-before, getD-laid-after, part-laid-within}
+use Rattle.base.proofs.Part.{length-part, same-part}
+use Rattle.base.proofs.Pick.{yes, no, and-left, and-right, and-yes}
 use Rattle.flash.specs.Geometry.{isSector, bySector, sizeOf, startOf, unitOf, sectorOf}
+use Rattle.flash.specs.Change.{OnlySector}
 
 -- a file sector is one of 3 to 10
 pub sector-least : (s : ℕ) → isSector s ≡ true → 3 ≤ s
@@ -28,6 +28,14 @@ sector-most s h = leb-true s 10 (and-right (leb 3 s) (leb s 10) h)
 pub is-sector : (s : ℕ) → 3 ≤ s → s ≤ 10 → isSector s ≡ true
 unfolding isSector
 is-sector s p q = sym (and-yes (le-leb 3 s p) (sym (le-leb s 10 q)))
+
+-- both at once, as the proofs of functions use it
+pub record Sector (s : ℕ) : Type 0 where
+  pub least : 3 ≤ s
+  pub most : s ≤ 10
+
+pub sector-tells : (s : ℕ) → isSector s ≡ true → Sector s
+sector-tells s h = record { least = sector-least s h; most = sector-most s h }
 
 -- the number of sector 3, of a later one, and of none
 pub by-third : (s third later : ℕ) → s ≡ 3 → bySector s third later ≡ third
@@ -107,14 +115,38 @@ module _ (flash : List ℕ) (s at : ℕ) (new : List ℕ) (fits : at + length ne
       rw length-laid-in
       (part-laid-within flash (startOf (unitOf flash) s) (sizeOf (unitOf flash) s) at new (omega (arith, sector-fits (unitOf flash) s)) fits)
 
-  pub laid-other : (t : ℕ) → isSector s ≡ true → isSector t ≡ true → (t ≡ s → ⊥) → sectorOf laidIn t ≡ sectorOf flash t
-  unfolding sectorOf
-  laid-other t p q n = rw length-laid-in (by (decLt t s))
-    where
-      by : Dec (t < s) → part laidIn (startOf (unitOf flash) t) (sizeOf (unitOf flash) t) ≡ part flash (startOf (unitOf flash) t) (sizeOf (unitOf flash) t)
-      by (Dec.yes h) =
-          part-laid-before flash (startOf (unitOf flash) t) (sizeOf (unitOf flash) t) (startOf (unitOf flash) s + at) new laid-in-fits
-          (omega (arith, sectors-apart (unitOf flash) t s q p h))
-      by (Dec.no h) =
-          part-laid-after flash (startOf (unitOf flash) t) (sizeOf (unitOf flash) t) (startOf (unitOf flash) s + at) new laid-in-fits
-          (omega (arith, sectors-apart (unitOf flash) s t p q (omega arith)))
+  -- words are laid into that sector alone
+  pub laid-only : OnlySector s flash laidIn
+  laid-only =
+      record {
+        size = length-laid-in;
+        before = λ i p. getD-laid-before flash (startOf (unitOf flash) s + at) new laid-in-fits i (omega arith);
+        behind = λ i p. getD-laid-after flash (startOf (unitOf flash) s + at) new laid-in-fits i (omega arith);
+      }
+
+-- a change inside one sector leaves the words of the others ..
+pub other-kept : {s : ℕ} {old new : List ℕ} → OnlySector s old new → isSector s ≡ true → (t : ℕ) → isSector t ≡ true → (t ≡ s → ⊥) → sectorOf new t ≡ sectorOf old t
+unfolding sectorOf
+other-kept {s} {old} {new} o p t q n =
+    let l = o .size in
+    let u : unitOf new ≡ unitOf old = ap (λ (k : ℕ). k / 16) l in
+    ap (λ (k : ℕ). part new (startOf k t) (sizeOf k t)) u ∙ by l (decLt t s)
+  where
+    by : length new ≡ length old → Dec (t < s) → part new (startOf (unitOf old) t) (sizeOf (unitOf old) t) ≡ part old (startOf (unitOf old) t) (sizeOf (unitOf old) t)
+    by l (Dec.yes h) =
+        let f = sector-fits (unitOf old) s in
+        same-part {from = 0} {to = startOf (unitOf old) s} (startOf (unitOf old) t) (sizeOf (unitOf old) t)
+        (record { left = omega arith; right = omega arith; words = λ i a b. o .before i b })
+        (omega arith) (sectors-apart (unitOf old) t s q p h)
+    by l (Dec.no h) =
+        let f = sector-fits (unitOf old) t in
+        same-part {from = startOf (unitOf old) s + sizeOf (unitOf old) s} {to = length old} (startOf (unitOf old) t) (sizeOf (unitOf old) t)
+        (record { left = omega arith; right = omega arith; words = λ i a b. o .behind i a })
+        (sectors-apart (unitOf old) s t p q (omega arith)) (omega arith)
+
+-- .. and words 0 to U-1
+pub below-kept : {s : ℕ} {old new : List ℕ} → OnlySector s old new → isSector s ≡ true → (i : ℕ) → i < unitOf old → getD new i 0 ≡ getD old i 0
+below-kept {s} {old} o p i h = o .before i (omega (arith, sector-above (unitOf old) s p))
+
+pub only-same : {s : ℕ} {old new : List ℕ} → new ≡ old → OnlySector s old new
+only-same e = record { size = ap length e; before = λ i p. ap (λ (l : List ℕ). getD l i 0) e; behind = λ i p. ap (λ (l : List ℕ). getD l i 0) e }

@@ -1,10 +1,10 @@
 -- What a sector's words tell of its status: blank words, the first word, and a file that starts the sector. Assumes nothing.
-use Prim.Native.Nat.{ℕ, zero, suc, _+_, _/_, _%_, _≤_, _<_}
+use Prim.Native.Nat.{ℕ, zero, suc, _+_, _<_}
 use mathlib.Core.Path.{_≡_, refl, sym, ap, _∙_}
-use mathlib.Core.Bool.{Bool, true, false, _&&_, false≢true}
+use mathlib.Core.Bool.{Bool, true, false, _&&_}
 use mathlib.Core.List.{List, [], _∷_, _++_}
-use native.Mathlib.Numerals.{add-one}
 use native.Mathlib.Nat.{not-suc-le-zero, le-of-suc-le-suc}
+use native.Mathlib.Numerals.{add-one}
 use native.Mathlib.Omega.{arith}
 use lib.ListN.{length, getD, drop}
 use lib.Seq.{drop-cons}
@@ -12,14 +12,15 @@ use lib.Dec.{ltb, leb, eqb}
 use borrow.Author.Tests.{ltb-true, eqb-true, eq-eqb, ne-eqb}
 use Rattle.base.specs.Pick.{pick}
 use Rattle.base.specs.Words.{blanks}
-use Rattle.base.proofs.Pick.{yes, no, and-left, and-right, and-yes, and-no}
-use Rattle.image.specs.Header.{typeOf, segmentsOf, headerOk}
-use Rattle.image.specs.File.{fileEnd}
-use Rattle.image.specs.declared.End.{End}
+use Rattle.base.proofs.Pick.{yes, no, and-left, and-right, and-yes}
 use Rattle.image.proofs.File.{file-tells}
-use Rattle.flash.specs.Status.{isEmpty, statusBy, statusOf, firstOf, isErasing, statusIn, statusWord}
-use Rattle.flash.specs.declared.Status.{Status}
+use Rattle.image.specs.File.{fileEnd}
+use Rattle.image.specs.Header.{typeOf, segmentsOf, headerOk}
+use Rattle.image.specs.declared.End.{End}
+use Rattle.flash.specs.Status.{isEmpty, statusBy, statusOf, firstOf, isErasing, statusIn}
 use Rattle.flash.specs.declared.Erasing.{Erasing}
+use Rattle.flash.specs.declared.Progress.{Progress}
+use Rattle.flash.specs.declared.Status.{Status}
 
 -- one word more
 pub empty-turn : (words : List ℕ) (i : ℕ) → i < length words → isEmpty (drop i words) ≡ (eqb (getD words i 0) 0xFFFF && isEmpty (drop (i + 1) words))
@@ -112,3 +113,9 @@ status-erasing erasing s words h = sym (yes _ h refl)
 pub status-quiet : (erasing : Erasing) (s : ℕ) (words : List ℕ) → isErasing erasing s ≡ false → statusIn erasing s words ≡ statusOf words
 unfolding statusIn
 status-quiet erasing s words h = sym (no _ h refl)
+
+pub erasing-this : (p : Progress) → isErasing (Erasing.Sector p) (p .sector) ≡ true
+erasing-this p = eq-eqb (p .sector) (p .sector) refl
+
+pub erasing-other : (p : Progress) (t : ℕ) → (t ≡ p .sector → ⊥) → isErasing (Erasing.Sector p) t ≡ false
+erasing-other p t n = ne-eqb t (p .sector) n

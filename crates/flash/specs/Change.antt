@@ -10,6 +10,7 @@ use Rattle.base.specs.Words.{laid, blanks}
 use Rattle.image.specs.Header.{attributeOf}
 use Rattle.flash.specs.Geometry.{unitOf, sizeOf, startOf, sectorOf}
 use Rattle.flash.specs.Status.{isEmpty, progress}
+use Rattle.flash.specs.declared.Status.{Status}
 use Rattle.flash.specs.declared.Setting.{Setting}
 use Rattle.flash.specs.declared.Erasing.{Erasing}
 use Rattle.flash.specs.declared.Progress.{Progress}
@@ -62,6 +63,11 @@ erasingAfter u Erasing.Nothing budget = Erasing.Nothing
 erasingAfter u (Erasing.Sector p) budget =
     pick (leb (restOf u p) budget) Erasing.Nothing (Erasing.Sector (progress (p .sector) (p .done + budget)))
 
+-- The status of the sector after it: being erased, or empty once the erasure has ended.
+abbrev pub erasureStatus : Erasing → Status
+erasureStatus Erasing.Nothing = Status.Empty
+erasureStatus (Erasing.Sector p) = Status.Erasing
+
 -- What holds while a sector is erased: the words done are FFFF, and there are more to do.
 pub record Erased (flash : List ℕ) (p : Progress) : Type 0 where
   pub below : p .done < sizeOf (unitOf flash) (p .sector)
@@ -83,6 +89,12 @@ countedBy u erasing (b ∷ budgets) = eraseCount u erasing b + countedBy u (eras
 abbrev pub sum : List ℕ → ℕ
 sum [] = 0
 sum (b ∷ budgets) = b + sum budgets
+
+-- A flash that differs from another in words of one sector alone.
+pub record OnlySector (s : ℕ) (old new : List ℕ) : Type 0 where
+  pub size : length new ≡ length old
+  pub before : (i : ℕ) → i < startOf (unitOf old) s → getD new i 0 ≡ getD old i 0
+  pub behind : (i : ℕ) → startOf (unitOf old) s + sizeOf (unitOf old) s ≤ i → getD new i 0 ≡ getD old i 0
 
 -- Bit k of a word.
 abbrev pub bitOf : ℕ → ℕ → ℕ

@@ -36,14 +36,17 @@ entered directory s first status = pick (isSector s) (laid directory (entryPlace
 abbrev pub refreshed : List ℕ → List ℕ → ℕ → Status → List ℕ
 refreshed directory flash s status = entered directory s (firstOf (sectorOf flash s)) status
 
--- Whether the kept entry of a file sector is this one: it differs if any of its four words does.
-unfoldable pub entryIs : List ℕ → ℕ → ℕ → Status → Bool
-entryIs directory s first status =
+-- Whether the kept entry of a file sector has its address, this status and the fourth word of it ..
+unfoldable pub entrySays : List ℕ → ℕ → Status → Bool
+entrySays directory s status =
     isSector s
-    && (eqb (getD directory (entryPlace s) 0) first
-    && eqb (getD directory (entryPlace s + 1) 0) (sectorAddress s)
+    && (eqb (getD directory (entryPlace s + 1) 0) (sectorAddress s)
     && eqb (getD directory (entryPlace s + 2) 0) (statusWord status)
     && eqb (getD directory (entryPlace s + 3) 0) (fourthWord status))
+
+-- .. and this first word. An entry differs if any of its four words does.
+unfoldable pub entryIs : List ℕ → ℕ → ℕ → Status → Bool
+entryIs directory s first status = entrySays directory s status && eqb (getD directory (entryPlace s) 0) first
 
 -- The status of a sector to the commands: that of the flash, where the kept entry is the one worked out afresh; a sector whose
 -- entry differs is bad.

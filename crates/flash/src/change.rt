@@ -11,18 +11,6 @@ ghost use Rattle.base.specs.Words.{laid, blanks};
 ghost use Rattle.flash.specs.Geometry.{unitOf};
 ghost use Rattle.flash.specs.Change.{stored, toDefault, toPlain, settingOf, headed, eraseCount, erased, erasingAfter};
 
-// Lays a file at the front of a sector's words.
-fn lay(words: &mut [u16], file: &[u16])
-    requires { ⌜ length (now file) ≤ length (now words) ⌝ }
-    ensures { λ _. ⌜ now (words .exit) ≡ laid (now (words .entry)) 0 (now (file .entry)) ⌝ }
-{
-    let mut i = 0;
-    while i < file.len() {
-        words[i] = file[i];
-        i += 1;
-    }
-}
-
 // Sets n of a sector's words to FFFF, from a place on.
 fn blank(words: &mut [u16], at: usize, n: usize)
     requires { ⌜ at + n ≤ length (now words) ⌝ }
@@ -45,7 +33,7 @@ pub fn store_file(flash: &mut [u16], sector: usize, file: &[u16])
     }
     let start = sector_start(flash.len(), sector);
     let end = start + size;
-    lay(&mut flash[start..end], file);
+    base::copy(&mut flash[start..end], 0, file);
 }
 
 // To default: clears bit 12 of a plain header word, once.

@@ -9,8 +9,8 @@ use crate::sectors::sector_of;
 use crate::sectors::status_in;
 use crate::sectors::status_of;
 ghost use mathlib.Core.Path.{_≡_};
-ghost use Rattle.flash.specs.Status.{statusWord, fourthWord};
-ghost use Rattle.flash.specs.Directory.{directoryOf, entered, refreshed, entryIs, keptStatus};
+ghost use Rattle.flash.specs.Status.{firstOf, statusWord, fourthWord};
+ghost use Rattle.flash.specs.Directory.{directoryOf, entered, refreshed, entrySays, entryIs, keptStatus};
 
 // The status word of an entry.
 pub fn status_word(status: Status) -> u16
@@ -75,32 +75,52 @@ pub fn scan(flash: &[u16], erasing: Erasing) -> [u16; 32]
     directory
 }
 
-// Whether the kept entry of a file sector is this one.
-pub fn entry_is(directory: [u16; 32], sector: usize, first: u16, status: Status) -> bool
-    ensures { λ r. ⌜ r ≡ entryIs directory sector first status ⌝ }
+// Whether the kept entry of a file sector has its address, this status and the fourth word of it.
+fn entry_says(directory: [u16; 32], sector: usize, status: Status) -> bool
+    ensures { λ r. ⌜ r ≡ entrySays directory sector status ⌝ }
 {
     if !is_sector(sector) {
         return false;
     }
     let place = (sector - 3) * 4;
-    (directory[place] == first)
-        & (directory[place + 1] == sector_address(sector))
+    (directory[place + 1] == sector_address(sector))
         & (directory[place + 2] == status_word(status))
         & (directory[place + 3] == fourth_word(status))
 }
 
-// The status of a sector to the commands. Where its entry cannot be right, no word but the first is looked at.
+// Whether the kept entry of a file sector is this one.
+pub fn entry_is(directory: [u16; 32], sector: usize, first: u16, status: Status) -> bool
+    ensures { λ r. ⌜ r ≡ entryIs directory sector first status ⌝ }
+{
+    if !entry_says(directory, sector, status) {
+        return false;
+    }
+    directory[(sector - 3) * 4] == first
+}
+
+// Whether the kept entry of a sector of these words is right, the sector having this status. The words are looked at only where the
+// rest of the entry is right.
+fn entry_stands(directory: [u16; 32], sector: usize, words: &[u16], status: Status) -> bool
+    ensures { λ r. ⌜ r ≡ entryIs directory sector (firstOf (now (words .entry))) status ⌝ }
+{
+    if !entry_says(directory, sector, status) {
+        return false;
+    }
+    directory[(sector - 3) * 4] == first_of(words)
+}
+
+// The status of a sector to the commands. Where its entry cannot be right, its words are not looked at.
 pub fn kept_status(directory: [u16; 32], flash: &[u16], erasing: Erasing, sector: usize) -> Status
     ensures { λ r. ⌜ r ≡ keptStatus directory (now (flash .entry)) erasing sector ⌝ }
 {
     let words = sector_of(flash, sector);
     if is_erasing(erasing, sector) {
-        if entry_is(directory, sector, first_of(words), Status::Erasing) {
+        if entry_stands(directory, sector, words, Status::Erasing) {
             return Status::Erasing;
         }
         return Status::Bad;
     }
-    if entry_is(directory, sector, first_of(words), Status::Empty) {
+    if entry_stands(directory, sector, words, Status::Empty) {
         return status_of(words);
     }
     Status::Bad

@@ -1,20 +1,14 @@
 -- `flash::change::erasing_after` meets its contract, by whether words are left. Assumes nothing.
-use Rattle.flash.specs.Status.{isEmpty, firstOf, statusOf, statusBy, isErasing, statusIn, statusWord, fourthWord, progress}
-use Rattle.flash.specs.declared.Erasing.{Erasing}
-use Rattle.flash.specs.Change.{stored, toDefault, toPlain, settingOf, headed, restOf, eraseCount, erased, erasingAfter}
-use Rattle.flash.specs.Geometry.{isSector, bySector, sizeOf, startOf, unitOf, sectorOf, sectorAddress, entryPlace}
-use borrow.Author.Tests.{lt-leb, le-leb, eq-eqb, ne-eqb, lt-ltb, le-ltb, not-true, not-false}
-use Rattle.base.specs.Pick.{pick}
-use Rattle.base.proofs.Pick.{yes, no, via, and-yes, and-no}
-use Prim.Native.Nat.{ℕ, zero, suc, min, _+_, _-_, _*_, _/_, _%_, _≤_, _<_}
+use Prim.Native.Nat.{_-_, _/_}
+use mathlib.Core.Path.{refl}
 use native.Mathlib.Omega.{arith}
-use mathlib.Core.Path.{_≡_, refl, sym, ap, _∙_}
 use borrow.Author.Needs.{needs}
+use borrow.Author.Tests.{lt-leb, le-leb}
+use Rattle.base.proofs.Pick.{yes, no, via}
+use Rattle.flash.specs.Change.{restOf, erasingAfter}
+use Rattle.flash.specs.declared.Erasing.{Erasing}
 use Rattle.flash.proofs.change.erasing_after.Statement.{statement}
 use Rattle.flash.proofs.change.erasing_after.Tie as tie
-use Rattle.flash.proofs.change.erasing_after.Reads as reads
-use Rattle.flash.proofs.change.erasing_after.Lts as lts
-use Rattle.flash.proofs.sectors.sector_size.Reads as sector-size-reads
 
 enum-told : tie.Need-enum-told
 enum-told c = search needs
@@ -27,25 +21,32 @@ sector-size-requires c κs = search needs
 
 returns : tie.Need-returns
 unfolding erasingAfter
-returns c = let p = c .before .before .before .erasing .given .0 .0 in via (λ (e : Erasing). erasingAfter (c .before .before .before .before .before .args .len / 16) e (c .before .before .before .before .before .args .budget)) (c .before .before .before .erasing .given .1) (yes _ (le-leb (restOf (c .before .before .before .before .before .args .len / 16) p) (c .before .before .before .before .before .args .budget) (omega arith)) refl)
+returns c =
+    let p = c .before .before .before .erasing .given .0 .0 in
+    via (λ (e : Erasing). erasingAfter (c .before .before .before .before .before .args .len / 16) e (c .before .before .before .before .before .args .budget)) (c .before .before .before .erasing .given .1) (yes _ (le-leb (restOf (c .before .before .before .before .before .args .len / 16) p) (c .before .before .before .before .before .args .budget) (omega arith)) refl)
 
 sub-if2 : tie.Need-sub-if2
 sub-if2 c = search needs
 
 returns-2 : tie.Need-returns-2
 unfolding erasingAfter
-returns-2 c = let p = c .before .before .before .before .erasing .given .0 .0 in via (λ (e : Erasing). erasingAfter (c .before .before .before .before .before .before .args .len / 16) e (c .before .before .before .before .before .before .args .budget)) (c .before .before .before .before .erasing .given .1) (yes _ (le-leb (restOf (c .before .before .before .before .before .before .args .len / 16) p) (c .before .before .before .before .before .before .args .budget) (omega arith)) refl)
+returns-2 c =
+    let p = c .before .before .before .before .erasing .given .0 .0 in
+    via (λ (e : Erasing). erasingAfter (c .before .before .before .before .before .before .args .len / 16) e (c .before .before .before .before .before .before .args .budget)) (c .before .before .before .before .erasing .given .1) (yes _ (le-leb (restOf (c .before .before .before .before .before .before .args .len / 16) p) (c .before .before .before .before .before .before .args .budget) (omega arith)) refl)
 
 add-t9 : tie.Need-add-t9
 add-t9 c = search needs
 
 returns-3 : tie.Need-returns-3
 unfolding erasingAfter
-returns-3 c = via (λ (e : Erasing). erasingAfter (c .before .before .args .len / 16) e (c .before .before .args .budget)) (c .enum-told .given .1) refl
+returns-3 c =
+    via (λ (e : Erasing). erasingAfter (c .before .before .args .len / 16) e (c .before .before .args .budget)) (c .enum-told .given .1) refl
 
 returns-4 : tie.Need-returns-4
 unfolding erasingAfter
-returns-4 c = let p = c .before .before .before .before .erasing .given .0 .0 in via (λ (e : Erasing). erasingAfter (c .before .before .before .before .before .before .args .len / 16) e (c .before .before .before .before .before .before .args .budget)) (c .before .before .before .before .erasing .given .1) (no _ (lt-leb (restOf (c .before .before .before .before .before .before .args .len / 16) p) (c .before .before .before .before .before .before .args .budget) (omega arith)) refl)
+returns-4 c =
+    let p = c .before .before .before .before .erasing .given .0 .0 in
+    via (λ (e : Erasing). erasingAfter (c .before .before .before .before .before .before .args .len / 16) e (c .before .before .before .before .before .before .args .budget)) (c .before .before .before .before .erasing .given .1) (no _ (lt-leb (restOf (c .before .before .before .before .before .before .args .len / 16) p) (c .before .before .before .before .before .before .args .budget) (omega arith)) refl)
 
 pub erasing-after-spec : {M : Type 1} → statement M
 erasing-after-spec =

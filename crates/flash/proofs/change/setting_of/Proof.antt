@@ -1,18 +1,12 @@
 -- `flash::change::setting_of` meets its contract, by the value. Assumes nothing.
-use Rattle.flash.specs.declared.Setting.{Setting}
-use Rattle.flash.specs.Change.{stored, toDefault, toPlain, settingOf, headed, restOf, eraseCount, erased, erasingAfter}
-use borrow.Author.Tests.{lt-leb, le-leb, eq-eqb, ne-eqb, lt-ltb, le-ltb, not-true, not-false}
-use Rattle.base.specs.Pick.{pick}
-use Rattle.base.proofs.Pick.{yes, no, via, and-yes, and-no}
-use Prim.Native.Nat.{ℕ, zero, suc, min, _+_, _-_, _*_, _/_, _%_, _≤_, _<_}
-use mathlib.Core.Path.{_≡_, refl, sym, ap, _∙_}
+use Prim.Native.Nat.{_-_}
+use mathlib.Core.Path.{refl}
 use borrow.Author.Needs.{needs}
+use borrow.Author.Tests.{eq-eqb, ne-eqb}
+use Rattle.base.proofs.Pick.{yes, no}
+use Rattle.flash.specs.Change.{settingOf}
 use Rattle.flash.proofs.change.setting_of.Statement.{statement}
 use Rattle.flash.proofs.change.setting_of.Tie as tie
-use Rattle.flash.proofs.change.setting_of.Reads as reads
-use Rattle.flash.proofs.change.setting_of.Lts as lts
-use Rattle.flash.proofs.change.to_default.Reads as to-default-reads
-use Rattle.flash.proofs.change.to_plain.Reads as to-plain-reads
 
 to-default-requires : tie.Need-to-default-requires
 to-default-requires c κs = search needs

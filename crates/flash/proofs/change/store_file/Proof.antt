@@ -1,58 +1,52 @@
 -- `flash::change::store_file` meets its contract: the sector's words are lent, and come back with the file at their front. Assumes nothing.
-use native.Mathlib.Nat.{zero-add}
-use lib.ListN.{length-replicate, length, getD, take, drop, set, length-set}
-use lib.Seq.{take-length}
-use Rattle.base.proofs.Laid.{laid-none}
-use Rattle.flash.proofs.Changes.{file-turn, blank-turn, lent-sector, stored-laid, stored-none, erases-nothing, erases-done, erases-some}
-use Rattle.flash.specs.Change.{stored, toDefault, toPlain, settingOf, headed, restOf, eraseCount, erased, erasingAfter}
-use Rattle.base.specs.Words.{part, laid, blanks}
-use Rattle.flash.proofs.Geometry.{sector-least, sector-most, is-sector, by-third, by-later, by-none, sector-fits, length-sector}
-use Rattle.flash.specs.Geometry.{isSector, bySector, sizeOf, startOf, unitOf, sectorOf, sectorAddress, entryPlace}
-use mathlib.Core.List.{List, [], _∷_, _++_}
-use Prim.Native.Nat.{ℕ, zero, suc, min, _+_, _-_, _*_, _/_, _%_, _≤_, _<_}
+use Prim.Native.Nat.{_-_}
+use mathlib.Core.Path.{sym, _∙_}
 use native.Mathlib.Omega.{arith}
-use mathlib.Core.Path.{_≡_, refl, sym, ap, _∙_}
 use borrow.Author.Needs.{needs}
+use Rattle.flash.specs.Geometry.{unitOf}
+use Rattle.flash.proofs.Geometry.{sector-fits}
+use Rattle.flash.proofs.Changes.{lent-sector, stored-laid, stored-none}
 use Rattle.flash.proofs.change.store_file.Statement.{statement}
 use Rattle.flash.proofs.change.store_file.Tie as tie
-use Rattle.flash.proofs.change.store_file.Reads as reads
-use Rattle.flash.proofs.change.store_file.Lts as lts
-use Rattle.flash.proofs.change.lay.Reads as lay-reads
-use Rattle.flash.proofs.sectors.sector_size.Reads as sector-size-reads
-use Rattle.flash.proofs.sectors.sector_start.Reads as sector-start-reads
 
 sector-size-requires : tie.Need-sector-size-requires
 sector-size-requires c κs = search needs
 
 returns : tie.Need-returns
-returns c = sym (stored-none (c .before .before .before .before .args .flash .now) (c .before .before .before .before .args .sector) (c .before .before .before .before .args .file .now) (omega arith))
+returns c =
+    sym (stored-none (c .before .before .before .before .args .flash .now) (c .before .before .before .before .args .sector) (c .before .before .before .before .args .file .now) (omega arith))
 
 sector-start-requires : tie.Need-sector-start-requires
 sector-start-requires c κs = search needs
 
 add-end : tie.Need-add-end
-add-end c = omega (arith, sector-fits (unitOf (c .before .before .before .before .before .args .flash .now)) (c .before .before .before .before .before .args .sector))
+add-end c =
+    omega (arith, sector-fits (unitOf (c .before .before .before .before .before .args .flash .now)) (c .before .before .before .before .before .args .sector))
 
-mul-lay : tie.Need-mul-lay
-mul-lay c = omega (arith, sector-fits (unitOf (c .before .before .before .before .before .args .flash .now)) (c .before .before .before .before .before .args .sector))
+mul-copy : tie.Need-mul-copy
+mul-copy c =
+    omega (arith, sector-fits (unitOf (c .before .before .before .before .before .args .flash .now)) (c .before .before .before .before .before .args .sector))
 
-sub-lay : tie.Need-sub-lay
-sub-lay c = search needs
+sub-copy : tie.Need-sub-copy
+sub-copy c = search needs
 
-part-lay-start : tie.Need-part-lay-start
-part-lay-start c = search needs
+part-copy-start : tie.Need-part-copy-start
+part-copy-start c = search needs
 
-part-lay-end : tie.Need-part-lay-end
-part-lay-end c = omega (arith, sector-fits (unitOf (c .before .before .before .before .before .args .flash .now)) (c .before .before .before .before .before .args .sector))
+part-copy-end : tie.Need-part-copy-end
+part-copy-end c =
+    omega (arith, sector-fits (unitOf (c .before .before .before .before .before .args .flash .now)) (c .before .before .before .before .before .args .sector))
 
-lay-requires : tie.Need-lay-requires
-lay-requires c κs = search needs
+copy-requires : tie.Need-copy-requires
+copy-requires c κs = search needs
 
 same-length : tie.Need-same-length
 same-length c = search needs
 
 returns-2 : tie.Need-returns-2
-returns-2 c = lent-sector (c .before .before .before .before .before .before .before .before .before .args .flash .now) (c .before .before .before .before .before .before .before .before .before .args .sector) 0 (c .before .before .before .before .before .before .before .before .before .args .file .now) _ (c .before .before .before .before .sector-start .result) (c .before .before .before .before .before .before .sector-size .result) (c .before .before .before .before .sector-start .ensures) (c .before .before .before .before .before .before .sector-size .ensures) (c .before .before .lay .ensures) (omega arith) ∙ sym (stored-laid (c .before .before .before .before .before .before .before .before .before .args .flash .now) (c .before .before .before .before .before .before .before .before .before .args .sector) (c .before .before .before .before .before .before .before .before .before .args .file .now) (omega arith))
+returns-2 c =
+    lent-sector (c .before .before .before .before .before .before .before .before .before .args .flash .now) (c .before .before .before .before .before .before .before .before .before .args .sector) 0 (c .before .before .before .before .before .before .before .before .before .args .file .now) _ (c .before .before .before .before .sector-start .result) (c .before .before .before .before .before .before .sector-size .result) (c .before .before .before .before .sector-start .ensures) (c .before .before .before .before .before .before .sector-size .ensures) (c .before .before .copy .ensures) (omega arith)
+    ∙ sym (stored-laid (c .before .before .before .before .before .before .before .before .before .args .flash .now) (c .before .before .before .before .before .before .before .before .before .args .sector) (c .before .before .before .before .before .before .before .before .before .args .file .now) (omega arith))
 
 pub store-file-spec : {M : Type 1} → statement M
 store-file-spec =
@@ -62,10 +56,10 @@ store-file-spec =
     returns
     sector-start-requires
     add-end
-    mul-lay
-    sub-lay
-    part-lay-start
-    part-lay-end
-    lay-requires
+    mul-copy
+    sub-copy
+    part-copy-start
+    part-copy-end
+    copy-requires
     same-length
     returns-2)

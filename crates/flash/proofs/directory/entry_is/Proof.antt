@@ -1,106 +1,50 @@
--- `flash::directory::entry_is` meets its contract: the tests are the definition's. Assumes nothing.
-use lib.Dec.{eqb}
-use Rattle.flash.specs.Directory.{entryOf, entryFor, entriesFrom, directoryOf, entered, refreshed, entryIs, checkedStatus, keptStatus}
-use Rattle.flash.specs.Status.{isEmpty, firstOf, statusOf, statusBy, isErasing, statusIn, statusWord, fourthWord, progress}
-use Rattle.flash.proofs.Geometry.{sector-least, sector-most, is-sector, by-third, by-later, by-none, sector-fits, length-sector}
-use Rattle.flash.specs.Geometry.{isSector, bySector, sizeOf, startOf, unitOf, sectorOf, sectorAddress, entryPlace}
-use Rattle.base.specs.Pick.{pick}
-use Rattle.base.proofs.Pick.{yes, no, via, and-yes, and-no}
-use borrow.Author.Tests.{lt-leb, le-leb, eq-eqb, ne-eqb, lt-ltb, le-ltb, not-true, not-false}
-use lib.ListN.{length, getD, take, drop, set, length-set}
-use mathlib.Core.Bool.{Bool, true, false, _&&_}
-use Prim.Native.Nat.{ℕ, zero, suc, min, _+_, _-_, _*_, _/_, _%_, _≤_, _<_}
+-- `flash::directory::entry_is` meets its contract: the rest of the entry, then its first word. Assumes nothing.
+use Prim.Native.Nat.{_-_}
+use mathlib.Core.Path.{refl, sym, _∙_}
 use native.Mathlib.Omega.{arith}
-use mathlib.Core.Path.{_≡_, refl, sym, ap, _∙_}
 use borrow.Author.Needs.{needs}
+use borrow.Author.Tests.{not-true, not-false}
+use Rattle.base.proofs.Pick.{and-yes, and-no}
+use Rattle.flash.specs.Directory.{entryIs}
+use Rattle.flash.proofs.Geometry.{Sector, sector-tells}
+use Rattle.flash.proofs.Kept.{says-sector}
 use Rattle.flash.proofs.directory.entry_is.Statement.{statement}
 use Rattle.flash.proofs.directory.entry_is.Tie as tie
-use Rattle.flash.proofs.directory.entry_is.Reads as reads
-use Rattle.flash.proofs.directory.entry_is.Lts as lts
-use Rattle.flash.proofs.directory.fourth_word.Reads as fourth-word-reads
-use Rattle.flash.proofs.directory.status_word.Reads as status-word-reads
-use Rattle.flash.proofs.sectors.is_sector.Reads as is-sector-reads
-use Rattle.flash.proofs.sectors.sector_address.Reads as sector-address-reads
 
-is-sector-requires : tie.Need-is-sector-requires
-is-sector-requires c κs = search needs
+entry-says-requires : tie.Need-entry-says-requires
+entry-says-requires c κs = search needs
 
 returns : tie.Need-returns
 unfolding entryIs
-returns c = and-no _ (sym (c .before .is-sector .ensures) ∙ not-true _ (c .if1 .taken))
+returns c = and-no _ (sym (c .before .entry-says .ensures) ∙ not-true _ (c .if1 .taken))
 
-sub-place : tie.Need-sub-place
-sub-place c = let l = sector-least _ (sym (c .before .is-sector .ensures) ∙ not-false _ (c .if1 .left)) in let m = sector-most _ (sym (c .before .is-sector .ensures) ∙ not-false _ (c .if1 .left)) in omega arith
+here : (c : tie.Else1) → Sector (c .before .before .args .sector)
+here c = sector-tells _ (says-sector _ _ _ (sym (c .before .entry-says .ensures) ∙ not-false _ (c .if1 .left)))
 
-mul-place : tie.Need-mul-place
-mul-place c = let l = sector-least _ (sym (c .before .is-sector .ensures) ∙ not-false _ (c .if1 .left)) in let m = sector-most _ (sym (c .before .is-sector .ensures) ∙ not-false _ (c .if1 .left)) in omega arith
+sub-result : tie.Need-sub-result
+sub-result c = let s = here c in omega arith
 
 mul-result : tie.Need-mul-result
-mul-result c = let l = sector-least _ (sym (c .before .is-sector .ensures) ∙ not-false _ (c .if1 .left)) in let m = sector-most _ (sym (c .before .is-sector .ensures) ∙ not-false _ (c .if1 .left)) in omega arith
-
-array-read-result : tie.Need-array-read-result
-array-read-result c = let l = sector-least _ (sym (c .before .is-sector .ensures) ∙ not-false _ (c .if1 .left)) in let m = sector-most _ (sym (c .before .is-sector .ensures) ∙ not-false _ (c .if1 .left)) in omega arith
-
-add-result : tie.Need-add-result
-add-result c = let l = sector-least _ (sym (c .before .is-sector .ensures) ∙ not-false _ (c .if1 .left)) in let m = sector-most _ (sym (c .before .is-sector .ensures) ∙ not-false _ (c .if1 .left)) in omega arith
+mul-result c = let s = here c in omega arith
 
 mul-result-2 : tie.Need-mul-result-2
-mul-result-2 c = let l = sector-least _ (sym (c .before .is-sector .ensures) ∙ not-false _ (c .if1 .left)) in let m = sector-most _ (sym (c .before .is-sector .ensures) ∙ not-false _ (c .if1 .left)) in omega arith
+mul-result-2 c = let s = here c in omega arith
 
-array-read-result-2 : tie.Need-array-read-result-2
-array-read-result-2 c = let l = sector-least _ (sym (c .before .is-sector .ensures) ∙ not-false _ (c .if1 .left)) in let m = sector-most _ (sym (c .before .is-sector .ensures) ∙ not-false _ (c .if1 .left)) in omega arith
-
-sector-address-requires : tie.Need-sector-address-requires
-sector-address-requires c κs = search needs
-
-add-result-2 : tie.Need-add-result-2
-add-result-2 c = let l = sector-least _ (sym (c .before .before .is-sector .ensures) ∙ not-false _ (c .before .if1 .left)) in let m = sector-most _ (sym (c .before .before .is-sector .ensures) ∙ not-false _ (c .before .if1 .left)) in omega arith
-
-mul-result-3 : tie.Need-mul-result-3
-mul-result-3 c = let l = sector-least _ (sym (c .before .before .is-sector .ensures) ∙ not-false _ (c .before .if1 .left)) in let m = sector-most _ (sym (c .before .before .is-sector .ensures) ∙ not-false _ (c .before .if1 .left)) in omega arith
-
-array-read-result-3 : tie.Need-array-read-result-3
-array-read-result-3 c = let l = sector-least _ (sym (c .before .before .is-sector .ensures) ∙ not-false _ (c .before .if1 .left)) in let m = sector-most _ (sym (c .before .before .is-sector .ensures) ∙ not-false _ (c .before .if1 .left)) in omega arith
-
-status-word-requires : tie.Need-status-word-requires
-status-word-requires c κs = search needs
-
-add-result-3 : tie.Need-add-result-3
-add-result-3 c = let l = sector-least _ (sym (c .before .before .before .is-sector .ensures) ∙ not-false _ (c .before .before .if1 .left)) in let m = sector-most _ (sym (c .before .before .before .is-sector .ensures) ∙ not-false _ (c .before .before .if1 .left)) in omega arith
-
-mul-result-4 : tie.Need-mul-result-4
-mul-result-4 c = let l = sector-least _ (sym (c .before .before .before .is-sector .ensures) ∙ not-false _ (c .before .before .if1 .left)) in let m = sector-most _ (sym (c .before .before .before .is-sector .ensures) ∙ not-false _ (c .before .before .if1 .left)) in omega arith
-
-array-read-result-4 : tie.Need-array-read-result-4
-array-read-result-4 c = let l = sector-least _ (sym (c .before .before .before .is-sector .ensures) ∙ not-false _ (c .before .before .if1 .left)) in let m = sector-most _ (sym (c .before .before .before .is-sector .ensures) ∙ not-false _ (c .before .before .if1 .left)) in omega arith
-
-fourth-word-requires : tie.Need-fourth-word-requires
-fourth-word-requires c κs = search needs
+array-read-result : tie.Need-array-read-result
+array-read-result c = let s = here c in omega arith
 
 returns-2 : tie.Need-returns-2
 unfolding entryIs
-returns-2 c = let d = c .before .before .before .before .before .args .t1 in let n = (c .before .before .before .before .before .args .sector - 3) * 4 in and-yes (sym (c .before .before .before .before .is-sector .ensures) ∙ not-false _ (c .before .before .before .if1 .left)) (λ i. eqb (getD d n 0) (c .before .before .before .before .before .args .first) && eqb (getD d (n + 1) 0) ((c .before .before .sector-address .ensures) i) && eqb (getD d (n + 2) 0) ((c .before .status-word .ensures) i) && eqb (getD d (n + 3) 0) ((c .fourth-word .ensures) i))
+returns-2 c = and-yes (sym (c .before .entry-says .ensures) ∙ not-false _ (c .if1 .left)) refl
 
 pub entry-is-spec : {M : Type 1} → statement M
 entry-is-spec =
     tie.close
     (tie.spec
-    is-sector-requires
+    entry-says-requires
     returns
-    sub-place
-    mul-place
+    sub-result
     mul-result
-    array-read-result
-    add-result
     mul-result-2
-    array-read-result-2
-    sector-address-requires
-    add-result-2
-    mul-result-3
-    array-read-result-3
-    status-word-requires
-    add-result-3
-    mul-result-4
-    array-read-result-4
-    fourth-word-requires
+    array-read-result
     returns-2)

@@ -1,23 +1,15 @@
 -- `flash::directory::kept_status` meets its contract: what the entry rules out needs no look at the words. Assumes nothing.
-use Rattle.flash.proofs.Kept.{kept-erasing, kept-quiet, kept-empty, kept-not-empty}
-use Rattle.flash.specs.declared.Status.{Status}
-use Rattle.flash.specs.Directory.{entryOf, entryFor, entriesFrom, directoryOf, entered, refreshed, entryIs, checkedStatus, keptStatus}
-use Rattle.flash.specs.Geometry.{isSector, bySector, sizeOf, startOf, unitOf, sectorOf, sectorAddress, entryPlace}
-use Rattle.flash.specs.Status.{isEmpty, firstOf, statusOf, statusBy, isErasing, statusIn, statusWord, fourthWord, progress}
-use Rattle.base.specs.Pick.{pick}
-use Rattle.base.proofs.Pick.{yes, no, via, and-yes, and-no}
-use Prim.Native.Nat.{ℕ, zero, suc, min, _+_, _-_, _*_, _/_, _%_, _≤_, _<_}
-use mathlib.Core.Path.{_≡_, refl, sym, ap, _∙_}
+use Prim.Native.Nat.{ℕ, _-_}
+use mathlib.Core.Path.{refl, sym, ap, _∙_}
+use mathlib.Core.List.{List}
 use borrow.Author.Needs.{needs}
+use Rattle.base.proofs.Pick.{yes, no}
+use Rattle.flash.specs.Status.{firstOf, statusOf}
+use Rattle.flash.specs.Directory.{entryIs}
+use Rattle.flash.specs.declared.Status.{Status}
+use Rattle.flash.proofs.Kept.{kept-erasing, kept-quiet}
 use Rattle.flash.proofs.directory.kept_status.Statement.{statement}
 use Rattle.flash.proofs.directory.kept_status.Tie as tie
-use Rattle.flash.proofs.directory.kept_status.Reads as reads
-use Rattle.flash.proofs.directory.kept_status.Lts as lts
-use Rattle.flash.proofs.directory.entry_is.Reads as entry-is-reads
-use Rattle.flash.proofs.sectors.first_of.Reads as first-of-reads
-use Rattle.flash.proofs.sectors.is_erasing.Reads as is-erasing-reads
-use Rattle.flash.proofs.sectors.sector_of.Reads as sector-of-reads
-use Rattle.flash.proofs.sectors.status_of.Reads as status-of-reads
 
 sector-of-requires : tie.Need-sector-of-requires
 sector-of-requires c κs = search needs
@@ -25,32 +17,50 @@ sector-of-requires c κs = search needs
 is-erasing-requires : tie.Need-is-erasing-requires
 is-erasing-requires c κs = search needs
 
-first-of-requires : tie.Need-first-of-requires
-first-of-requires c κs = search needs
-
-entry-is-requires : tie.Need-entry-is-requires
-entry-is-requires c κs = search needs
+entry-stands-requires : tie.Need-entry-stands-requires
+entry-stands-requires c κs = search needs
 
 returns : tie.Need-returns
-returns c = let d = c .before .before .before .before .before .before .before .args .directory in let f = c .before .before .before .before .before .before .before .args .flash .now in let e = c .before .before .before .before .before .before .before .args .erasing in let s = c .before .before .before .before .before .before .before .args .sector in yes _ (ap (λ (x : ℕ). entryIs d s x Status.Erasing) (sym (c .before .before .first-of .ensures ∙ ap firstOf (c .before .before .before .before .before .sector-of .ensures))) ∙ sym (c .before .entry-is .ensures) ∙ c .if2 .taken) refl ∙ sym (kept-erasing d f e s (sym (c .before .before .before .before .is-erasing .ensures) ∙ c .before .before .before .if1 .taken))
+returns c =
+    let d = c .before .before .before .before .before .before .args .directory in
+    let f = c .before .before .before .before .before .before .args .flash .now in
+    let e = c .before .before .before .before .before .before .args .erasing in
+    let s = c .before .before .before .before .before .before .args .sector in
+    yes _ (ap (λ (x : List ℕ). entryIs d s (firstOf x) Status.Erasing) (sym (c .before .before .before .before .sector-of .ensures)) ∙ sym (c .before .entry-stands .ensures) ∙ c .if2 .taken) refl
+    ∙ sym (kept-erasing d f e s (sym (c .before .before .before .is-erasing .ensures) ∙ c .before .before .if1 .taken))
 
 returns-2 : tie.Need-returns-2
-returns-2 c = let d = c .before .before .before .before .before .before .before .args .directory in let f = c .before .before .before .before .before .before .before .args .flash .now in let e = c .before .before .before .before .before .before .before .args .erasing in let s = c .before .before .before .before .before .before .before .args .sector in no _ (ap (λ (x : ℕ). entryIs d s x Status.Erasing) (sym (c .before .before .first-of .ensures ∙ ap firstOf (c .before .before .before .before .before .sector-of .ensures))) ∙ sym (c .before .entry-is .ensures) ∙ c .if2 .left) refl ∙ sym (kept-erasing d f e s (sym (c .before .before .before .before .is-erasing .ensures) ∙ c .before .before .before .if1 .taken))
+returns-2 c =
+    let d = c .before .before .before .before .before .before .args .directory in
+    let f = c .before .before .before .before .before .before .args .flash .now in
+    let e = c .before .before .before .before .before .before .args .erasing in
+    let s = c .before .before .before .before .before .before .args .sector in
+    no _ (ap (λ (x : List ℕ). entryIs d s (firstOf x) Status.Erasing) (sym (c .before .before .before .before .sector-of .ensures)) ∙ sym (c .before .entry-stands .ensures) ∙ c .if2 .left) refl
+    ∙ sym (kept-erasing d f e s (sym (c .before .before .before .is-erasing .ensures) ∙ c .before .before .if1 .taken))
 
-first-of-requires-2 : tie.Need-first-of-requires-2
-first-of-requires-2 c κs = search needs
-
-entry-is-requires-2 : tie.Need-entry-is-requires-2
-entry-is-requires-2 c κs = search needs
+entry-stands-requires-2 : tie.Need-entry-stands-requires-2
+entry-stands-requires-2 c κs = search needs
 
 status-of-requires : tie.Need-status-of-requires
 status-of-requires c κs = search needs
 
 returns-3 : tie.Need-returns-3
-returns-3 c = let d = c .before .before .before .before .before .before .before .before .args .directory in let f = c .before .before .before .before .before .before .before .before .args .flash .now in let e = c .before .before .before .before .before .before .before .before .args .erasing in let s = c .before .before .before .before .before .before .before .before .args .sector in yes _ (ap (λ (x : ℕ). entryIs d s x Status.Empty) (sym (c .before .before .before .first-of2 .ensures ∙ ap firstOf (c .before .before .before .before .before .before .sector-of .ensures))) ∙ sym (c .before .before .entry-is2 .ensures) ∙ c .before .if3 .taken) (c .status-of .ensures ∙ ap statusOf (c .before .before .before .before .before .before .sector-of .ensures)) ∙ sym (kept-quiet d f e s (sym (c .before .before .before .before .before .is-erasing .ensures) ∙ c .before .before .before .before .if1 .left))
+returns-3 c =
+    let d = c .before .before .before .before .before .before .before .args .directory in
+    let f = c .before .before .before .before .before .before .before .args .flash .now in
+    let e = c .before .before .before .before .before .before .before .args .erasing in
+    let s = c .before .before .before .before .before .before .before .args .sector in
+    yes _ (ap (λ (x : List ℕ). entryIs d s (firstOf x) Status.Empty) (sym (c .before .before .before .before .before .sector-of .ensures)) ∙ sym (c .before .before .entry-stands2 .ensures) ∙ c .before .if3 .taken) (c .status-of .ensures ∙ ap statusOf (c .before .before .before .before .before .sector-of .ensures))
+    ∙ sym (kept-quiet d f e s (sym (c .before .before .before .before .is-erasing .ensures) ∙ c .before .before .before .if1 .left))
 
 returns-4 : tie.Need-returns-4
-returns-4 c = let d = c .before .before .before .before .before .before .before .args .directory in let f = c .before .before .before .before .before .before .before .args .flash .now in let e = c .before .before .before .before .before .before .before .args .erasing in let s = c .before .before .before .before .before .before .before .args .sector in no _ (ap (λ (x : ℕ). entryIs d s x Status.Empty) (sym (c .before .before .first-of2 .ensures ∙ ap firstOf (c .before .before .before .before .before .sector-of .ensures))) ∙ sym (c .before .entry-is2 .ensures) ∙ c .if3 .left) refl ∙ sym (kept-quiet d f e s (sym (c .before .before .before .before .is-erasing .ensures) ∙ c .before .before .before .if1 .left))
+returns-4 c =
+    let d = c .before .before .before .before .before .before .args .directory in
+    let f = c .before .before .before .before .before .before .args .flash .now in
+    let e = c .before .before .before .before .before .before .args .erasing in
+    let s = c .before .before .before .before .before .before .args .sector in
+    no _ (ap (λ (x : List ℕ). entryIs d s (firstOf x) Status.Empty) (sym (c .before .before .before .before .sector-of .ensures)) ∙ sym (c .before .entry-stands2 .ensures) ∙ c .if3 .left) refl
+    ∙ sym (kept-quiet d f e s (sym (c .before .before .before .is-erasing .ensures) ∙ c .before .before .if1 .left))
 
 pub kept-status-spec : {M : Type 1} → statement M
 kept-status-spec =
@@ -58,12 +68,10 @@ kept-status-spec =
     (tie.spec
     sector-of-requires
     is-erasing-requires
-    first-of-requires
-    entry-is-requires
+    entry-stands-requires
     returns
     returns-2
-    first-of-requires-2
-    entry-is-requires-2
+    entry-stands-requires-2
     status-of-requires
     returns-3
     returns-4)

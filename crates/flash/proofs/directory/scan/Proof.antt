@@ -1,28 +1,22 @@
 -- `flash::directory::scan` meets its contract. The loop's invariant: the entries made so far, and those of the sectors from here on, are the
 -- directory. The measure is how many sectors are left. Assumes nothing.
-use mathlib.Core.List.{append-nil, List, [], _∷_, _++_}
--- directory. The measure is how many sectors are left. Assumes nothing.
-use borrow.Author.Needs.{needs}
-use lib.Seq.{take-all}
-use Rattle.flash.proofs.Entries.{entered-laid, entered-none, length-entered, four-stores, scan-turn, entries-end}
-use Rattle.flash.specs.Directory.{entryOf, entryFor, entriesFrom, directoryOf, entered, refreshed, entryIs, checkedStatus, keptStatus}
-use Rattle.flash.specs.Status.{isEmpty, firstOf, statusOf, statusBy, isErasing, statusIn, statusWord, fourthWord, progress}
-use Rattle.flash.specs.Geometry.{isSector, bySector, sizeOf, startOf, unitOf, sectorOf, sectorAddress, entryPlace}
-use lib.ListN.{length, getD, take, drop, set, length-set}
-use Prim.Native.Nat.{ℕ, zero, suc, min, _+_, _-_, _*_, _/_, _%_, _≤_, _<_}
-use native.Mathlib.Omega.{arith}
+use Prim.Native.Nat.{ℕ, _+_, _-_, _≤_}
 use mathlib.Core.Path.{_≡_, refl, sym, ap, _∙_}
+use mathlib.Core.List.{append-nil, List, _++_}
+use native.Mathlib.Omega.{arith}
+use lib.ListN.{length, take}
+use lib.Seq.{take-all}
+use borrow.Author.Needs.{needs}
+use Rattle.flash.specs.Geometry.{sectorOf, entryPlace}
+use Rattle.flash.specs.Status.{firstOf, statusIn}
+use Rattle.flash.specs.Directory.{entriesFrom, directoryOf, entered}
+use Rattle.flash.proofs.Entries.{length-entered, scan-turn, entries-end}
 use Rattle.flash.proofs.directory.scan.Statement.{statement}
 use Rattle.flash.proofs.directory.scan.Tie as tie
-use Rattle.flash.proofs.directory.scan.Reads as reads
-use Rattle.flash.proofs.directory.scan.Lts as lts
-use Rattle.flash.proofs.directory.with_entry.Reads as with-entry-reads
-use Rattle.flash.proofs.sectors.first_of.Reads as first-of-reads
-use Rattle.flash.proofs.sectors.sector_of.Reads as sector-of-reads
-use Rattle.flash.proofs.sectors.status_in.Reads as status-in-reads
 
 abbrev Inv-loop : tie.InvT-loop
-Inv-loop flash erasing directory₀ sector₀ directory sector = (3 ≤ sector) × (sector ≤ 11) × (length directory ≡ 32) × (directoryOf flash erasing ≡ take (entryPlace sector) directory ++ entriesFrom (11 - sector) sector flash erasing)
+Inv-loop flash erasing directory₀ sector₀ directory sector =
+    (3 ≤ sector) × (sector ≤ 11) × (length directory ≡ 32) × (directoryOf flash erasing ≡ take (entryPlace sector) directory ++ entriesFrom (11 - sector) sector flash erasing)
 
 abbrev μ-loop : tie.MeasureT-loop
 μ-loop flash erasing directory₀ sector₀ directory sector = 11 - sector
@@ -50,10 +44,34 @@ loop-less : tie.Need-loop-less Inv-loop μ-loop
 loop-less c = search needs
 
 loop-again : tie.Need-loop-again Inv-loop μ-loop
-loop-again c = let d = c .before .before .before .before .before .loop .directory in let s = c .before .before .before .before .before .loop .sector in let f = c .before .before .before .before .before .before .before .args .flash .now in let e = c .before .before .before .before .before .before .before .args .erasing in let w = c .before .before .before .sector-of .ensures in let v = c .before .before .before .before .before .loop .inv in let t = c .before .before .before .before .loop-test .taken in let st : c .before .before .status-in .result ≡ statusIn e s (sectorOf f s) = c .before .before .status-in .ensures ∙ ap (statusIn e s) w in let fi : c .before .first-of .result ≡ firstOf (sectorOf f s) = c .before .first-of .ensures ∙ ap firstOf w in let r : c .with-entry .result ≡ entered d s (firstOf (sectorOf f s)) (statusIn e s (sectorOf f s)) = c .with-entry .ensures ∙ (λ i. entered d s (fi i) (st i)) in (omega arith, omega arith, ap length r ∙ length-entered d s (firstOf (sectorOf f s)) (statusIn e s (sectorOf f s)) (v .2), v .3 ∙ scan-turn d f e s (v .0) t (v .2) ∙ ap (λ (l : List ℕ). take (entryPlace (s + 1)) l ++ entriesFrom (11 - (s + 1)) (s + 1) f e) (sym r))
+loop-again c =
+    let d = c .before .before .before .before .before .loop .directory in
+    let s = c .before .before .before .before .before .loop .sector in
+    let f = c .before .before .before .before .before .before .before .args .flash .now in
+    let e = c .before .before .before .before .before .before .before .args .erasing in
+    let w = c .before .before .before .sector-of .ensures in
+    let v = c .before .before .before .before .before .loop .inv in
+    let t = c .before .before .before .before .loop-test .taken in
+    let st : c .before .before .status-in .result ≡ statusIn e s (sectorOf f s) = c .before .before .status-in .ensures ∙ ap (statusIn e s) w in
+    let fi : c .before .first-of .result ≡ firstOf (sectorOf f s) = c .before .first-of .ensures ∙ ap firstOf w in
+    let r : c .with-entry .result ≡ entered d s (firstOf (sectorOf f s)) (statusIn e s (sectorOf f s)) = c .with-entry .ensures ∙ (λ i. entered d s (fi i) (st i)) in (
+      omega arith,
+      omega arith,
+      ap length r ∙ length-entered d s (firstOf (sectorOf f s)) (statusIn e s (sectorOf f s)) (v .2),
+      v .3
+          ∙ scan-turn d f e s (v .0) t (v .2)
+          ∙ ap (λ (l : List ℕ). take (entryPlace (s + 1)) l ++ entriesFrom (11 - (s + 1)) (s + 1) f e) (sym r),
+    )
 
 returns : tie.Need-returns Inv-loop μ-loop
-returns c = let d = c .before .loop .directory in let s = c .before .loop .sector in let f = c .before .before .before .args .flash .now in let v = c .before .loop .inv in let n = v .1 in let e : s ≡ 11 = omega arith in sym (v .3 ∙ ap (λ (l : List ℕ). take (entryPlace s) d ++ l) (entries-end s f (c .before .before .before .args .erasing) (omega arith)) ∙ append-nil (take (entryPlace s) d) ∙ take-all (entryPlace s) d (omega (arith, v .2)))
+returns c =
+    let d = c .before .loop .directory in
+    let s = c .before .loop .sector in
+    let f = c .before .before .before .args .flash .now in
+    let v = c .before .loop .inv in
+    let n = v .1 in
+    let e : s ≡ 11 = omega arith in
+    sym (v .3 ∙ ap (λ (l : List ℕ). take (entryPlace s) d ++ l) (entries-end s f (c .before .before .before .args .erasing) (omega arith)) ∙ append-nil (take (entryPlace s) d) ∙ take-all (entryPlace s) d (omega (arith, v .2)))
 
 pub scan-spec : {M : Type 1} → statement M
 scan-spec =

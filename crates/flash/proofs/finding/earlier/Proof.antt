@@ -1,14 +1,11 @@
 -- `flash::finding::earlier` meets its contract, case by case. Assumes nothing.
-use Rattle.flash.specs.declared.Found.{Found}
-use Rattle.flash.specs.Search.{firstFrom, firstSector, countFrom, orElse, countedWith, isNamed, namedAt, searchOf, targetBy, targetOf, addressed, takes, placeOf}
-use Rattle.base.specs.Pick.{pick}
-use Rattle.base.proofs.Pick.{yes, no, via, and-yes, and-no}
-use mathlib.Core.Path.{_≡_, refl, sym, ap, _∙_}
+use mathlib.Core.Path.{refl}
 use borrow.Author.Needs.{needs}
+use Rattle.base.proofs.Pick.{via}
+use Rattle.flash.specs.Search.{orElse}
+use Rattle.flash.specs.declared.Found.{Found}
 use Rattle.flash.proofs.finding.earlier.Statement.{statement}
 use Rattle.flash.proofs.finding.earlier.Tie as tie
-use Rattle.flash.proofs.finding.earlier.Reads as reads
-use Rattle.flash.proofs.finding.earlier.Lts as lts
 
 enum-known-found : tie.Need-enum-known-found
 enum-known-found c = search needs

@@ -1,25 +1,19 @@
 -- `flash::finding::place` meets its contract. The loop's invariant: nothing is found yet, and the search from here on finds what the whole
 -- search does. The measure is how many sectors are left. Assumes nothing.
-use borrow.Author.Needs.{needs}
-use Rattle.flash.proofs.Searches.{first-turn, first-end}
-use Rattle.flash.specs.declared.Found.{Found}
-use Rattle.flash.specs.Search.{firstFrom, firstSector, countFrom, orElse, countedWith, isNamed, namedAt, searchOf, targetBy, targetOf, addressed, takes, placeOf}
-use Rattle.flash.specs.Geometry.{isSector, bySector, sizeOf, startOf, unitOf, sectorOf, sectorAddress, entryPlace}
-use Rattle.base.specs.Pick.{pick}
-use Rattle.base.proofs.Pick.{yes, no, via, and-yes, and-no}
-use borrow.Author.Tests.{lt-leb, le-leb, eq-eqb, ne-eqb, lt-ltb, le-ltb, not-true, not-false}
-use mathlib.Core.Bool.{Bool, true, false, _&&_}
-use Prim.Native.Nat.{ℕ, zero, suc, min, _+_, _-_, _*_, _/_, _%_, _≤_, _<_}
+use Prim.Native.Nat.{_-_, _≤_}
+use mathlib.Core.Path.{_≡_, refl, sym, _∙_}
 use native.Mathlib.Omega.{arith}
-use mathlib.Core.Path.{_≡_, refl, sym, ap, _∙_}
+use borrow.Author.Needs.{needs}
+use Rattle.base.proofs.Pick.{yes, no}
+use Rattle.flash.specs.Search.{firstFrom, takes, placeOf}
+use Rattle.flash.specs.declared.Found.{Found}
+use Rattle.flash.proofs.Searches.{first-turn, first-end}
 use Rattle.flash.proofs.finding.place.Statement.{statement}
 use Rattle.flash.proofs.finding.place.Tie as tie
-use Rattle.flash.proofs.finding.place.Reads as reads
-use Rattle.flash.proofs.finding.place.Lts as lts
-use Rattle.flash.proofs.finding.may_take.Reads as may-take-reads
 
 abbrev Inv-loop : tie.InvT-loop
-Inv-loop directory flash erasing n found₀ sector₀ found sector = (3 ≤ sector) × (sector ≤ 11) × (found ≡ Found.Nothing) × (placeOf directory flash erasing n ≡ firstFrom (11 - sector) sector (takes directory flash erasing n))
+Inv-loop directory flash erasing n found₀ sector₀ found sector =
+    (3 ≤ sector) × (sector ≤ 11) × (found ≡ Found.Nothing) × (placeOf directory flash erasing n ≡ firstFrom (11 - sector) sector (takes directory flash erasing n))
 
 abbrev μ-loop : tie.MeasureT-loop
 μ-loop directory flash erasing n found₀ sector₀ found sector = 11 - sector
@@ -38,13 +32,27 @@ loop-less : tie.Need-loop-less Inv-loop μ-loop
 loop-less c = search needs
 
 loop-again : tie.Need-loop-again Inv-loop μ-loop
-loop-again c = let v = c .before .before .before .loop .inv in let s = c .before .before .before .loop .sector in (omega arith, omega arith, v .2, v .3 ∙ first-turn s (takes (c .before .before .before .before .before .args .directory) (c .before .before .before .before .before .args .flash .now) (c .before .before .before .before .before .args .erasing) (c .before .before .before .before .before .args .n)) (c .before .before .loop-test .taken) ∙ sym (no _ (sym (c .before .may-take .ensures) ∙ c .if1 .left) refl))
+loop-again c =
+    let v = c .before .before .before .loop .inv in
+    let s = c .before .before .before .loop .sector in (
+      omega arith,
+      omega arith,
+      v .2,
+      v .3
+          ∙ first-turn s (takes (c .before .before .before .before .before .args .directory) (c .before .before .before .before .before .args .flash .now) (c .before .before .before .before .before .args .erasing) (c .before .before .before .before .before .args .n)) (c .before .before .loop-test .taken)
+          ∙ sym (no _ (sym (c .before .may-take .ensures) ∙ c .if1 .left) refl),
+    )
 
 returns : tie.Need-returns Inv-loop μ-loop
-returns c = let v = c .before .loop .inv in v .2 ∙ sym (v .3 ∙ first-end _ _ (c .loop-test .left))
+returns c =
+    let v = c .before .loop .inv in
+    v .2 ∙ sym (v .3 ∙ first-end _ _ (c .loop-test .left))
 
 returns-2 : tie.Need-returns-2 Inv-loop μ-loop
-returns-2 c = let v = c .before .before .before .loop .inv in let s = c .before .before .before .loop .sector in sym (v .3 ∙ first-turn s (takes (c .before .before .before .before .before .args .directory) (c .before .before .before .before .before .args .flash .now) (c .before .before .before .before .before .args .erasing) (c .before .before .before .before .before .args .n)) (c .before .before .loop-test .taken) ∙ sym (yes _ (sym (c .before .may-take .ensures) ∙ c .if1 .taken) refl))
+returns-2 c =
+    let v = c .before .before .before .loop .inv in
+    let s = c .before .before .before .loop .sector in
+    sym (v .3 ∙ first-turn s (takes (c .before .before .before .before .before .args .directory) (c .before .before .before .before .before .args .flash .now) (c .before .before .before .before .before .args .erasing) (c .before .before .before .before .before .args .n)) (c .before .before .loop-test .taken) ∙ sym (yes _ (sym (c .before .may-take .ensures) ∙ c .if1 .taken) refl))
 
 pub place-spec : {M : Type 1} → statement M
 place-spec =

@@ -1,26 +1,19 @@
 -- `flash::finding::search` meets its contract. The loop's invariant: what is found so far and in the sectors from here on is what the whole
 -- search finds. The measure is how many sectors are left. Assumes nothing.
-use Rattle.flash.proofs.Searches.{first-turn, first-end, onwards, search-start, search-turn, search-end, counted-most}
--- search finds. The measure is how many sectors are left. Assumes nothing.
-use borrow.Author.Needs.{needs}
-use Rattle.flash.specs.declared.Found.{Found}
-use Rattle.flash.specs.declared.Search.{Search}
-use Rattle.flash.specs.Search.{firstFrom, firstSector, countFrom, orElse, countedWith, isNamed, namedAt, searchOf, targetBy, targetOf, addressed, takes, placeOf}
-use Rattle.flash.specs.Geometry.{isSector, bySector, sizeOf, startOf, unitOf, sectorOf, sectorAddress, entryPlace}
-use lib.ListN.{length, getD, take, drop, set, length-set}
-use mathlib.Core.Bool.{Bool, true, false, _&&_}
-use Prim.Native.Nat.{ℕ, zero, suc, min, _+_, _-_, _*_, _/_, _%_, _≤_, _<_}
+use Prim.Native.Nat.{ℕ, _+_, _-_, _≤_}
+use mathlib.Core.Path.{_≡_, sym, ap, _∙_}
+use mathlib.Core.Bool.{Bool}
 use native.Mathlib.Omega.{arith}
-use mathlib.Core.Path.{_≡_, refl, sym, ap, _∙_}
+use borrow.Author.Needs.{needs}
+use Rattle.flash.specs.Search.{countedWith, namedAt, searchOf}
+use Rattle.flash.specs.declared.Search.{Search}
+use Rattle.flash.proofs.Searches.{onwards, search-start, search-turn, search-end, counted-most}
 use Rattle.flash.proofs.finding.search.Statement.{statement}
 use Rattle.flash.proofs.finding.search.Tie as tie
-use Rattle.flash.proofs.finding.search.Reads as reads
-use Rattle.flash.proofs.finding.search.Lts as lts
-use Rattle.flash.proofs.finding.counted.Reads as counted-reads
-use Rattle.flash.proofs.finding.is_named.Reads as is-named-reads
 
 abbrev Inv-loop : tie.InvT-loop
-Inv-loop name directory found₀ sector₀ found sector = (3 ≤ sector) × (sector ≤ 11) × (found .count + 3 ≤ sector) × (searchOf directory name ≡ onwards found sector (namedAt directory name))
+Inv-loop name directory found₀ sector₀ found sector =
+    (3 ≤ sector) × (sector ≤ 11) × (found .count + 3 ≤ sector) × (searchOf directory name ≡ onwards found sector (namedAt directory name))
 
 abbrev μ-loop : tie.MeasureT-loop
 μ-loop name directory found₀ sector₀ found sector = 11 - sector
@@ -53,10 +46,22 @@ loop-less : tie.Need-loop-less Inv-loop μ-loop
 loop-less c = search needs
 
 loop-again : tie.Need-loop-again Inv-loop μ-loop
-loop-again c = let s = c .before .before .before .loop .sector in let g = c .before .before .before .loop .found in let v = c .before .before .before .loop .inv in let t : ℕ → Bool = namedAt (c .before .before .before .before .args .t1) (c .before .before .before .before .args .name) in let r : c .counted .result ≡ countedWith g s (t s) = c .counted .ensures ∙ ap (countedWith g s) (c .before .is-named .ensures) in (omega arith, omega arith, omega (arith, counted-most g s (t s), ap (λ (x : Search). x .count) r), v .3 ∙ search-turn g s t (c .before .before .loop-test .taken) ∙ ap (λ (x : Search). onwards x (s + 1) t) (sym r))
+loop-again c =
+    let s = c .before .before .before .loop .sector in
+    let g = c .before .before .before .loop .found in
+    let v = c .before .before .before .loop .inv in
+    let t : ℕ → Bool = namedAt (c .before .before .before .before .args .t1) (c .before .before .before .before .args .name) in
+    let r : c .counted .result ≡ countedWith g s (t s) = c .counted .ensures ∙ ap (countedWith g s) (c .before .is-named .ensures) in (
+      omega arith,
+      omega arith,
+      omega (arith, counted-most g s (t s), ap (λ (x : Search). x .count) r),
+      v .3 ∙ search-turn g s t (c .before .before .loop-test .taken) ∙ ap (λ (x : Search). onwards x (s + 1) t) (sym r),
+    )
 
 returns : tie.Need-returns Inv-loop μ-loop
-returns c = let v = c .before .loop .inv in sym (v .3 ∙ search-end _ _ _ (c .loop-test .left))
+returns c =
+    let v = c .before .loop .inv in
+    sym (v .3 ∙ search-end _ _ _ (c .loop-test .left))
 
 pub search-spec : {M : Type 1} → statement M
 search-spec =

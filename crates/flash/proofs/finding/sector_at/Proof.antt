@@ -1,27 +1,22 @@
 -- `flash::finding::sector_at` meets its contract. The loop's invariant: nothing is found yet, and the search from here on finds what the whole
 -- search does. The measure is how many sectors are left. Assumes nothing.
-use Rattle.flash.proofs.Searches.{first-turn, first-end, onwards, search-start, search-turn, search-end, counted-most}
--- search does. The measure is how many sectors are left. Assumes nothing.
-use borrow.Author.Needs.{needs}
-use lib.Dec.{eqb}
-use Rattle.flash.specs.declared.Found.{Found}
-use Rattle.flash.specs.Search.{firstFrom, firstSector, countFrom, orElse, countedWith, isNamed, namedAt, searchOf, targetBy, targetOf, addressed, takes, placeOf}
-use Rattle.flash.specs.Geometry.{isSector, bySector, sizeOf, startOf, unitOf, sectorOf, sectorAddress, entryPlace}
-use Rattle.base.specs.Pick.{pick}
-use Rattle.base.proofs.Pick.{yes, no, via, and-yes, and-no}
-use borrow.Author.Tests.{lt-leb, le-leb, eq-eqb, ne-eqb, lt-ltb, le-ltb, not-true, not-false}
-use mathlib.Core.Bool.{Bool, true, false, _&&_}
-use Prim.Native.Nat.{ℕ, zero, suc, min, _+_, _-_, _*_, _/_, _%_, _≤_, _<_}
+use Prim.Native.Nat.{_-_, _≤_}
+use mathlib.Core.Path.{_≡_, refl, sym, _∙_}
 use native.Mathlib.Omega.{arith}
-use mathlib.Core.Path.{_≡_, refl, sym, ap, _∙_}
+use lib.Dec.{eqb}
+use borrow.Author.Needs.{needs}
+use borrow.Author.Tests.{eq-eqb, ne-eqb}
+use Rattle.base.proofs.Pick.{yes, no}
+use Rattle.flash.specs.Geometry.{sectorAddress}
+use Rattle.flash.specs.Search.{firstFrom, addressed}
+use Rattle.flash.specs.declared.Found.{Found}
+use Rattle.flash.proofs.Searches.{first-turn, first-end}
 use Rattle.flash.proofs.finding.sector_at.Statement.{statement}
 use Rattle.flash.proofs.finding.sector_at.Tie as tie
-use Rattle.flash.proofs.finding.sector_at.Reads as reads
-use Rattle.flash.proofs.finding.sector_at.Lts as lts
-use Rattle.flash.proofs.sectors.sector_address.Reads as sector-address-reads
 
 abbrev Inv-loop : tie.InvT-loop
-Inv-loop address found₀ sector₀ found sector = (3 ≤ sector) × (sector ≤ 11) × (found ≡ Found.Nothing) × (addressed address ≡ firstFrom (11 - sector) sector (λ s. eqb (sectorAddress s) address))
+Inv-loop address found₀ sector₀ found sector =
+    (3 ≤ sector) × (sector ≤ 11) × (found ≡ Found.Nothing) × (addressed address ≡ firstFrom (11 - sector) sector (λ s. eqb (sectorAddress s) address))
 
 abbrev μ-loop : tie.MeasureT-loop
 μ-loop address found₀ sector₀ found sector = 11 - sector
@@ -40,13 +35,27 @@ loop-less : tie.Need-loop-less Inv-loop μ-loop
 loop-less c = search needs
 
 loop-again : tie.Need-loop-again Inv-loop μ-loop
-loop-again c = let v = c .before .before .before .loop .inv in let s = c .before .before .before .loop .sector in (omega arith, omega arith, v .2, v .3 ∙ first-turn s (λ j. eqb (sectorAddress j) (c .before .before .before .before .args .address)) (c .before .before .loop-test .taken) ∙ sym (no _ (ne-eqb _ _ (λ q. c .if1 .left (c .before .sector-address .ensures ∙ q))) refl))
+loop-again c =
+    let v = c .before .before .before .loop .inv in
+    let s = c .before .before .before .loop .sector in (
+      omega arith,
+      omega arith,
+      v .2,
+      v .3
+          ∙ first-turn s (λ j. eqb (sectorAddress j) (c .before .before .before .before .args .address)) (c .before .before .loop-test .taken)
+          ∙ sym (no _ (ne-eqb _ _ (λ q. c .if1 .left (c .before .sector-address .ensures ∙ q))) refl),
+    )
 
 returns : tie.Need-returns Inv-loop μ-loop
-returns c = let v = c .before .loop .inv in v .2 ∙ sym (v .3 ∙ first-end _ _ (c .loop-test .left))
+returns c =
+    let v = c .before .loop .inv in
+    v .2 ∙ sym (v .3 ∙ first-end _ _ (c .loop-test .left))
 
 returns-2 : tie.Need-returns-2 Inv-loop μ-loop
-returns-2 c = let v = c .before .before .before .loop .inv in let s = c .before .before .before .loop .sector in sym (v .3 ∙ first-turn s (λ j. eqb (sectorAddress j) (c .before .before .before .before .args .address)) (c .before .before .loop-test .taken) ∙ sym (yes _ (eq-eqb _ _ (sym (c .before .sector-address .ensures) ∙ c .if1 .taken)) refl))
+returns-2 c =
+    let v = c .before .before .before .loop .inv in
+    let s = c .before .before .before .loop .sector in
+    sym (v .3 ∙ first-turn s (λ j. eqb (sectorAddress j) (c .before .before .before .before .args .address)) (c .before .before .loop-test .taken) ∙ sym (yes _ (eq-eqb _ _ (sym (c .before .sector-address .ensures) ∙ c .if1 .taken)) refl))
 
 pub sector-at-spec : {M : Type 1} → statement M
 sector-at-spec =

@@ -1,13 +1,11 @@
 -- `flash::sectors::first_of` meets its contract, with and without a word. Assumes nothing.
-use Rattle.flash.proofs.Statuses.{first-word}
-use lib.ListN.{List·getD-eq-default, length, getD, take, drop, set, length-set}
+use mathlib.Core.Path.{sym}
 use native.Mathlib.Omega.{arith}
-use mathlib.Core.Path.{_≡_, refl, sym, ap, _∙_}
+use lib.ListN.{List·getD-eq-default}
 use borrow.Author.Needs.{needs}
+use Rattle.flash.proofs.Statuses.{first-word}
 use Rattle.flash.proofs.sectors.first_of.Statement.{statement}
 use Rattle.flash.proofs.sectors.first_of.Tie as tie
-use Rattle.flash.proofs.sectors.first_of.Reads as reads
-use Rattle.flash.proofs.sectors.first_of.Lts as lts
 
 returns : tie.Need-returns
 returns c = sym (List·getD-eq-default (c .before .args .words .now) 0xFFFF {n = 0} (omega arith))

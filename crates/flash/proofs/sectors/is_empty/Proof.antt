@@ -1,19 +1,16 @@
 -- `flash::sectors::is_empty` meets its contract. The loop's invariant: the words from here on are empty just where all are. The measure is
 -- how many words are left. Assumes nothing.
-use borrow.Author.Needs.{needs}
-use lib.ListN.{drop-of-length-le, length, getD, take, drop, set, length-set}
-use Rattle.flash.proofs.Statuses.{empty-turn}
-use Rattle.flash.specs.Status.{isEmpty, firstOf, statusOf, statusBy, isErasing, statusIn, statusWord, fourthWord, progress}
-use Rattle.base.specs.Pick.{pick}
-use Rattle.base.proofs.Pick.{yes, no, via, and-yes, and-no}
-use borrow.Author.Tests.{lt-leb, le-leb, eq-eqb, ne-eqb, lt-ltb, le-ltb, not-true, not-false}
+use Prim.Native.Nat.{_-_, _≤_}
+use mathlib.Core.Path.{_≡_, refl, sym, _∙_}
 use native.Mathlib.Omega.{arith}
-use Prim.Native.Nat.{ℕ, zero, suc, min, _+_, _-_, _*_, _/_, _%_, _≤_, _<_}
-use mathlib.Core.Path.{_≡_, refl, sym, ap, _∙_}
+use lib.ListN.{drop-of-length-le, length, getD, drop}
+use borrow.Author.Needs.{needs}
+use borrow.Author.Tests.{eq-eqb, ne-eqb}
+use Rattle.base.proofs.Pick.{and-yes, and-no}
+use Rattle.flash.specs.Status.{isEmpty}
+use Rattle.flash.proofs.Statuses.{empty-turn}
 use Rattle.flash.proofs.sectors.is_empty.Statement.{statement}
 use Rattle.flash.proofs.sectors.is_empty.Tie as tie
-use Rattle.flash.proofs.sectors.is_empty.Reads as reads
-use Rattle.flash.proofs.sectors.is_empty.Lts as lts
 
 abbrev Inv-loop : tie.InvT-loop
 Inv-loop words i₀ i = (i ≤ length words) × (isEmpty words ≡ isEmpty (drop i words))
@@ -31,7 +28,10 @@ shared-slice-read-if1 : tie.Need-shared-slice-read-if1 Inv-loop μ-loop
 shared-slice-read-if1 c = search needs
 
 returns : tie.Need-returns Inv-loop μ-loop
-returns c = let i = c .before .before .before .loop .i in let ws = c .before .before .before .before .args .words .now in sym (c .before .before .before .loop .inv .1 ∙ empty-turn ws i (omega arith) ∙ sym (and-no _ (ne-eqb (getD ws i 0) 0xFFFF (omega arith))))
+returns c =
+    let i = c .before .before .before .loop .i in
+    let ws = c .before .before .before .before .args .words .now in
+    sym (c .before .before .before .loop .inv .1 ∙ empty-turn ws i (omega arith) ∙ sym (and-no _ (ne-eqb (getD ws i 0) 0xFFFF (omega arith))))
 
 add-i : tie.Need-add-i Inv-loop μ-loop
 add-i c = search needs
@@ -40,11 +40,19 @@ loop-less : tie.Need-loop-less Inv-loop μ-loop
 loop-less c = search needs
 
 loop-again : tie.Need-loop-again Inv-loop μ-loop
-loop-again c = let i = c .before .before .before .loop .i in let ws = c .before .before .before .before .args .words .now in (search needs, c .before .before .before .loop .inv .1 ∙ empty-turn ws i (omega arith) ∙ sym (and-yes (eq-eqb (getD ws i 0) 0xFFFF (omega arith)) refl))
+loop-again c =
+    let i = c .before .before .before .loop .i in
+    let ws = c .before .before .before .before .args .words .now in (
+      search needs,
+      c .before .before .before .loop .inv .1 ∙ empty-turn ws i (omega arith) ∙ sym (and-yes (eq-eqb (getD ws i 0) 0xFFFF (omega arith)) refl),
+    )
 
 returns-2 : tie.Need-returns-2 Inv-loop μ-loop
 unfolding isEmpty
-returns-2 c = let i = c .before .loop .i in let ws = c .before .before .args .words .now in sym (c .before .loop .inv .1 ∙ simp (drop-of-length-le ws {i = i} (omega arith)))
+returns-2 c =
+    let i = c .before .loop .i in
+    let ws = c .before .before .args .words .now in
+    sym (c .before .loop .inv .1 ∙ simp (drop-of-length-le ws {i = i} (omega arith)))
 
 pub is-empty-spec : {M : Type 1} → statement M
 is-empty-spec =

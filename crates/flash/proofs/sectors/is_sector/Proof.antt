@@ -1,10 +1,8 @@
 -- `flash::sectors::is_sector` meets its contract: the tests are the definition's. Assumes nothing.
 use borrow.Author.Needs.{needs}
-use Rattle.flash.specs.Geometry.{isSector, bySector, sizeOf, startOf, unitOf, sectorOf, sectorAddress, entryPlace}
+use Rattle.flash.specs.Geometry.{isSector}
 use Rattle.flash.proofs.sectors.is_sector.Statement.{statement}
 use Rattle.flash.proofs.sectors.is_sector.Tie as tie
-use Rattle.flash.proofs.sectors.is_sector.Reads as reads
-use Rattle.flash.proofs.sectors.is_sector.Lts as lts
 
 returns : tie.Need-returns
 unfolding isSector

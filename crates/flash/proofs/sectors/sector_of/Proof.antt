@@ -1,18 +1,13 @@
 -- `flash::sectors::sector_of` meets its contract: the part of the flash between the sector's two ends. Assumes nothing.
+use Prim.Native.Nat.{_-_}
 use native.Mathlib.Nat.{add-sub-cancel-left}
-use Rattle.base.specs.Words.{part, laid, blanks}
-use Rattle.flash.proofs.Geometry.{sector-least, sector-most, is-sector, by-third, by-later, by-none, sector-fits, length-sector}
-use Rattle.flash.specs.Geometry.{isSector, bySector, sizeOf, startOf, unitOf, sectorOf, sectorAddress, entryPlace}
-use Prim.Native.Nat.{ℕ, zero, suc, min, _+_, _-_, _*_, _/_, _%_, _≤_, _<_}
 use native.Mathlib.Omega.{arith}
-use mathlib.Core.Path.{_≡_, refl, sym, ap, _∙_}
 use borrow.Author.Needs.{needs}
+use Rattle.base.specs.Words.{part}
+use Rattle.flash.specs.Geometry.{unitOf, sectorOf}
+use Rattle.flash.proofs.Geometry.{sector-fits}
 use Rattle.flash.proofs.sectors.sector_of.Statement.{statement}
 use Rattle.flash.proofs.sectors.sector_of.Tie as tie
-use Rattle.flash.proofs.sectors.sector_of.Reads as reads
-use Rattle.flash.proofs.sectors.sector_of.Lts as lts
-use Rattle.flash.proofs.sectors.sector_size.Reads as sector-size-reads
-use Rattle.flash.proofs.sectors.sector_start.Reads as sector-start-reads
 
 sector-start-requires : tie.Need-sector-start-requires
 sector-start-requires c κs = search needs

@@ -1,17 +1,11 @@
 -- `flash::sectors::sector_size` meets its contract, by the three kinds of number. Assumes nothing.
-use native.Mathlib.Nat.{mul-le-mul-right}
-use Rattle.flash.proofs.Geometry.{sector-least, sector-most, is-sector, by-third, by-later, by-none, sector-fits, length-sector}
-use Rattle.flash.specs.Geometry.{isSector, bySector, sizeOf, startOf, unitOf, sectorOf, sectorAddress, entryPlace}
-use borrow.Author.Tests.{lt-leb, le-leb, eq-eqb, ne-eqb, lt-ltb, le-ltb, not-true, not-false}
-use Prim.Native.Nat.{ℕ, zero, suc, min, _+_, _-_, _*_, _/_, _%_, _≤_, _<_}
-use native.Mathlib.Omega.{arith}
-use mathlib.Core.Path.{_≡_, refl, sym, ap, _∙_}
+use Prim.Native.Nat.{_-_}
+use mathlib.Core.Path.{sym, _∙_}
 use borrow.Author.Needs.{needs}
+use borrow.Author.Tests.{not-true, not-false}
+use Rattle.flash.proofs.Geometry.{is-sector, by-third, by-later, by-none}
 use Rattle.flash.proofs.sectors.sector_size.Statement.{statement}
 use Rattle.flash.proofs.sectors.sector_size.Tie as tie
-use Rattle.flash.proofs.sectors.sector_size.Reads as reads
-use Rattle.flash.proofs.sectors.sector_size.Lts as lts
-use Rattle.flash.proofs.sectors.is_sector.Reads as is-sector-reads
 
 is-sector-requires : tie.Need-is-sector-requires
 is-sector-requires c κs = search needs

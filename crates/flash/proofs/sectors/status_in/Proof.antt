@@ -1,14 +1,9 @@
 -- `flash::sectors::status_in` meets its contract, by whether the sector is being erased. Assumes nothing.
-use Rattle.flash.proofs.Statuses.{status-erasing, status-quiet}
-use Rattle.flash.specs.Status.{isEmpty, firstOf, statusOf, statusBy, isErasing, statusIn, statusWord, fourthWord, progress}
-use mathlib.Core.Path.{_≡_, refl, sym, ap, _∙_}
+use mathlib.Core.Path.{sym, _∙_}
 use borrow.Author.Needs.{needs}
+use Rattle.flash.proofs.Statuses.{status-erasing, status-quiet}
 use Rattle.flash.proofs.sectors.status_in.Statement.{statement}
 use Rattle.flash.proofs.sectors.status_in.Tie as tie
-use Rattle.flash.proofs.sectors.status_in.Reads as reads
-use Rattle.flash.proofs.sectors.status_in.Lts as lts
-use Rattle.flash.proofs.sectors.is_erasing.Reads as is-erasing-reads
-use Rattle.flash.proofs.sectors.status_of.Reads as status-of-reads
 
 is-erasing-requires : tie.Need-is-erasing-requires
 is-erasing-requires c κs = search needs

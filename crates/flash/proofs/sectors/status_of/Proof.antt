@@ -1,19 +1,10 @@
 -- `flash::sectors::status_of` meets its contract: empty, or what the file at its start makes it. Assumes nothing.
-use Rattle.flash.specs.declared.Status.{Status}
-use mathlib.Core.Bool.{Bool, true, false, _&&_}
-use borrow.Author.Tests.{lt-leb, le-leb, eq-eqb, ne-eqb, lt-ltb, le-ltb, not-true, not-false}
-use Rattle.image.specs.declared.End.{End}
-use Rattle.flash.specs.Status.{isEmpty, firstOf, statusOf, statusBy, isErasing, statusIn, statusWord, fourthWord, progress}
-use Rattle.base.specs.Pick.{pick}
-use Rattle.base.proofs.Pick.{yes, no, via, and-yes, and-no}
-use mathlib.Core.Path.{_≡_, refl, sym, ap, _∙_}
+use mathlib.Core.Path.{refl, sym, _∙_}
 use borrow.Author.Needs.{needs}
+use Rattle.base.proofs.Pick.{yes, no, via}
+use Rattle.flash.specs.Status.{statusOf, statusBy}
 use Rattle.flash.proofs.sectors.status_of.Statement.{statement}
 use Rattle.flash.proofs.sectors.status_of.Tie as tie
-use Rattle.flash.proofs.sectors.status_of.Reads as reads
-use Rattle.flash.proofs.sectors.status_of.Lts as lts
-use Rattle.flash.proofs.sectors.is_empty.Reads as is-empty-reads
-use Rattle.image.proofs.file_end.Reads as file-end-reads
 
 is-empty-requires : tie.Need-is-empty-requires
 is-empty-requires c κs = search needs
@@ -33,11 +24,13 @@ enum-told c = search needs
 
 returns-2 : tie.Need-returns-2
 unfolding statusOf
-returns-2 c = no _ (sym (c .before .before .before .before .before .is-empty .ensures) ∙ c .before .before .before .before .if1 .left) (via statusBy (sym (c .before .before .before .file-end .ensures) ∙ c .before .end .given .1) refl)
+returns-2 c =
+    no _ (sym (c .before .before .before .before .before .is-empty .ensures) ∙ c .before .before .before .before .if1 .left) (via statusBy (sym (c .before .before .before .file-end .ensures) ∙ c .before .end .given .1) refl)
 
 returns-3 : tie.Need-returns-3
 unfolding statusOf
-returns-3 c = no _ (sym (c .before .before .before .before .is-empty .ensures) ∙ c .before .before .before .if1 .left) (via statusBy (sym (c .before .before .file-end .ensures) ∙ c .enum-told .given .1) refl)
+returns-3 c =
+    no _ (sym (c .before .before .before .before .is-empty .ensures) ∙ c .before .before .before .if1 .left) (via statusBy (sym (c .before .before .file-end .ensures) ∙ c .enum-told .given .1) refl)
 
 pub status-of-spec : {M : Type 1} → statement M
 status-of-spec =
