@@ -4,3 +4,5 @@ pub mod Stretch
 pub mod Pairs
 pub mod Packed
 pub mod Segment
+pub mod Loading
+pub mod Command

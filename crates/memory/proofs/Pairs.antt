@@ -15,7 +15,6 @@ use Rattle.base.proofs.Laid.{laid-none, laid-two}
 use Rattle.base.proofs.Pick.{and-left, and-right, pick-case}
 use Rattle.memory.specs.Pairs.{registerOf, writes, idsOk, valueOf, ioAfter, ioAnswer}
 
-
 -- what is said of no pair is said of the word, if any, that is left behind the pairs
 short : {A : Type 0} (f : List ℕ → A) (a : A) → f [] ≡ a → ((x : ℕ) → f (x ∷ []) ≡ a) → (l : List ℕ) → length l ≤ 1 → f l ≡ a
 short f a e g [] h = e

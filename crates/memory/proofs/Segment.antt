@@ -28,6 +28,12 @@ length-least Memory.Pm n h = leb-true 2 n (and-right (eqb (n % 2) 0) (leb 2 n) h
 length-least Memory.Dm n h = leb-true 2 n h
 length-least Memory.Io n h = let l = leb-true 3 n (and-right (eqb (n % 2) 1) (leb 3 n) h) in omega arith
 
+-- a memory word has at most three bytes
+pub bytes-most : (memory : Memory) → wordBytes memory ≤ 3
+bytes-most Memory.Pm = omega arith
+bytes-most Memory.Dm = omega arith
+bytes-most Memory.Io = omega arith
+
 -- a valid segment, and no words more
 pub record Exact (segment : List ℕ) : Type 0 where
   pub span : spanOf (firstOf segment) ≡ Span.Words (length segment)

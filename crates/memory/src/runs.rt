@@ -47,7 +47,11 @@ pub(crate) fn run_fits(len: usize, memory: Memory, page: Page, address: usize, n
     if !stretch_fits(len, crate::index::index_of(memory, page, address), low) {
         return false;
     }
-    stretch_fits(len, crate::index::index_of(memory, page, address + low), n - low)
+    stretch_fits(
+        len,
+        crate::index::index_of(memory, page, address + low),
+        n - low,
+    )
 }
 
 // n words from a place of one run of words to a place of another.
@@ -64,14 +68,33 @@ fn copy(from: &[u16], start: usize, to: &mut [u16], at: usize, n: usize)
 }
 
 // The words of a DM run into a reply, from a place on.
-pub(crate) fn read_dm_run(dm: &[u16], page: Page, address: usize, n: usize, reply: &mut [u16], at: usize)
+pub(crate) fn read_dm_run(
+    dm: &[u16],
+    page: Page,
+    address: usize,
+    n: usize,
+    reply: &mut [u16],
+    at: usize,
+)
     requires { ⌜ runFits (length (now dm)) Memory.Dm page address n ≡ true ⌝ }
     requires { ⌜ at + n ≤ length (now reply) ⌝ }
     ensures { λ _. ⌜ now (reply .exit) ≡ laid (now (reply .entry)) at (wordsAt (now (dm .entry)) (runOf Memory.Dm page address n)) ⌝ }
 {
     let low = low_count(address, n);
-    copy(dm, crate::index::index_of(Memory::Dm, page, address), reply, at, low);
-    copy(dm, crate::index::index_of(Memory::Dm, page, address + low), reply, at + low, n - low);
+    copy(
+        dm,
+        crate::index::index_of(Memory::Dm, page, address),
+        reply,
+        at,
+        low,
+    );
+    copy(
+        dm,
+        crate::index::index_of(Memory::Dm, page, address + low),
+        reply,
+        at + low,
+        n - low,
+    );
 }
 
 // Words into a DM run.
@@ -81,12 +104,31 @@ pub(crate) fn store_dm_run(dm: &mut [u16], page: Page, address: usize, words: &[
 {
     let n = words.len();
     let low = low_count(address, n);
-    copy(words, 0, dm, crate::index::index_of(Memory::Dm, page, address), low);
-    copy(words, low, dm, crate::index::index_of(Memory::Dm, page, address + low), n - low);
+    copy(
+        words,
+        0,
+        dm,
+        crate::index::index_of(Memory::Dm, page, address),
+        low,
+    );
+    copy(
+        words,
+        low,
+        dm,
+        crate::index::index_of(Memory::Dm, page, address + low),
+        n - low,
+    );
 }
 
 // The words of a PM run into a reply, packed, from a place on: two PM words are three packet words.
-pub(crate) fn read_pm_run(pm: &[u32], page: Page, address: usize, n: usize, reply: &mut [u16], at: usize)
+pub(crate) fn read_pm_run(
+    pm: &[u32],
+    page: Page,
+    address: usize,
+    n: usize,
+    reply: &mut [u16],
+    at: usize,
+)
     requires { ⌜ runFits (length (now pm)) Memory.Pm page address n ≡ true ⌝ }
     requires { ⌜ at + (n * 3 + 1) / 2 ≤ length (now reply) ⌝ }
     ensures { λ _. ⌜ now (reply .exit) ≡ laid (now (reply .entry)) at (packed 3 (wordsAt (now (pm .entry)) (runOf Memory.Pm page address n))) ⌝ }
@@ -121,12 +163,18 @@ pub(crate) fn store_pm_run(pm: &mut [u32], page: Page, address: usize, n: usize,
     while i + 1 < n {
         let y = body[j + 1];
         pm[crate::index::index_of(Memory::Pm, page, address + i)] = image::pm::high_of(body[j], y);
-        pm[crate::index::index_of(Memory::Pm, page, address + i + 1)] = image::pm::low_of(y, body[j + 2]);
+        pm[crate::index::index_of(Memory::Pm, page, address + i + 1)] = image::pm::low_of(
+            y,
+            body[j + 2],
+        );
         i += 2;
         j += 3;
     }
     if n <= i {
         return;
     }
-    pm[crate::index::index_of(Memory::Pm, page, address + i)] = image::pm::high_of(body[j], body[j + 1]);
+    pm[crate::index::index_of(Memory::Pm, page, address + i)] = image::pm::high_of(
+        body[j],
+        body[j + 1],
+    );
 }

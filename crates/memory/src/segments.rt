@@ -16,7 +16,13 @@ pub(crate) fn header_fits(len: usize, memory: Memory, first: u16, second: u16) -
     ensures { λ r. ⌜ r ≡ headerFits len memory first second ⌝ }
 {
     let n = image::length_of(first) - 1;
-    crate::runs::run_fits(len, memory, image::page_of(second), image::address_of(second), n)
+    crate::runs::run_fits(
+        len,
+        memory,
+        image::page_of(second),
+        image::address_of(second),
+        n,
+    )
 }
 
 // Whether the words are one valid segment and no more.
@@ -63,7 +69,13 @@ pub(crate) fn store_pm(pm: &mut [u32], segment: &[u16])
 {
     let second = segment[1];
     let n = image::length_of(segment[0]) - 1;
-    crate::runs::store_pm_run(pm, image::page_of(second), image::address_of(second), n, &segment[2..]);
+    crate::runs::store_pm_run(
+        pm,
+        image::page_of(second),
+        image::address_of(second),
+        n,
+        &segment[2..],
+    );
 }
 
 // The words of a DM segment into its run.
@@ -75,7 +87,12 @@ pub(crate) fn store_dm(dm: &mut [u16], segment: &[u16])
 {
     let second = segment[1];
     let end = segment.len() - 1;
-    crate::runs::store_dm_run(dm, image::page_of(second), image::address_of(second), &segment[2..end]);
+    crate::runs::store_dm_run(
+        dm,
+        image::page_of(second),
+        image::address_of(second),
+        &segment[2..end],
+    );
 }
 
 // The pairs of an IO segment, run.

@@ -101,13 +101,14 @@ loop-again : tie.Need-loop-again Inv-loop μ-loop
 loop-again c =
     let a = c .before .before .before .before .before .before .before .before .before .before .args in
     let l = c .before .before .before .before .before .before .loop in
-    let t = ids-tells (length (a .io .now)) (a .pairs .now) (l .i) (omega arith) (l .inv .2) in
-    (omega arith,
-    simp length-set (l .inv .1),
-    t .rest,
-    l .inv .3 ∙ after-next (l .io) (a .pairs .now) (l .i) _ (omega arith) (c .before .before .before .wide .ensures) (c .pair-value .ensures),
-    simp length-set (l .inv .4),
-    l .inv .5 ∙ answer-laid (l .io) (a .pairs .now) (l .reply) (a .at) (l .i) _ (omega arith) (omega arith) (c .before .before .before .wide .ensures) (c .pair-value .ensures))
+    let t = ids-tells (length (a .io .now)) (a .pairs .now) (l .i) (omega arith) (l .inv .2) in (
+      omega arith,
+      simp length-set (l .inv .1),
+      t .rest,
+      l .inv .3 ∙ after-next (l .io) (a .pairs .now) (l .i) _ (omega arith) (c .before .before .before .wide .ensures) (c .pair-value .ensures),
+      simp length-set (l .inv .4),
+      l .inv .5 ∙ answer-laid (l .io) (a .pairs .now) (l .reply) (a .at) (l .i) _ (omega arith) (omega arith) (c .before .before .before .wide .ensures) (c .pair-value .ensures),
+    )
 
 same-length : tie.Need-same-length Inv-loop μ-loop
 same-length c = search needs
@@ -118,9 +119,10 @@ same-length-2 c = search needs
 returns : tie.Need-returns Inv-loop μ-loop
 returns c =
     let a = c .before .before .before .before .before .args in
-    let l = c .before .loop in
-    (sym (l .inv .3 ∙ after-done (l .io) (a .pairs .now) (l .i) (omega arith)),
-    sym (l .inv .5 ∙ answer-done (l .io) (a .pairs .now) (l .reply) (a .at + l .i) (l .i) (omega arith)))
+    let l = c .before .loop in (
+      sym (l .inv .3 ∙ after-done (l .io) (a .pairs .now) (l .i) (omega arith)),
+      sym (l .inv .5 ∙ answer-done (l .io) (a .pairs .now) (l .reply) (a .at + l .i) (l .i) (omega arith)),
+    )
 
 pub answer-pairs-spec : {M : Type 1} → statement M
 answer-pairs-spec =

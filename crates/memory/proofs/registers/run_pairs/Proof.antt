@@ -77,11 +77,12 @@ loop-again : tie.Need-loop-again Inv-loop μ-loop
 loop-again c =
     let a = c .before .before .before .before .before .before .before .before .before .args in
     let l = c .before .before .before .before .before .before .loop in
-    let t = ids-tells (length (a .io .now)) (a .pairs .now) (l .i) (omega arith) (l .inv .2) in
-    (omega arith,
-    simp length-set (l .inv .1),
-    t .rest,
-    l .inv .3 ∙ after-next (l .io) (a .pairs .now) (l .i) _ (omega arith) (c .before .before .before .wide .ensures) (c .pair-value .ensures))
+    let t = ids-tells (length (a .io .now)) (a .pairs .now) (l .i) (omega arith) (l .inv .2) in (
+      omega arith,
+      simp length-set (l .inv .1),
+      t .rest,
+      l .inv .3 ∙ after-next (l .io) (a .pairs .now) (l .i) _ (omega arith) (c .before .before .before .wide .ensures) (c .pair-value .ensures),
+    )
 
 same-length : tie.Need-same-length Inv-loop μ-loop
 same-length c = search needs

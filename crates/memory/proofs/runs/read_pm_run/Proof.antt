@@ -155,15 +155,16 @@ loop-again c =
     let many = length-run-words pm Memory.Pm (a .page) (a .address) (a .n) in
     let d : a .address + (l .i + 1) ≡ a .address + l .i + 1 = omega arith in
     let one = word-read pm Memory.Pm (a .page) (a .address) (a .n) (l .i) (omega arith) (c .before .before .before .before .before .before .index-of .ensures) in
-    let two = word-read pm Memory.Pm (a .page) (a .address) (a .n) (l .i + 1) (omega arith) (c .before .before .before .before .index-of2 .ensures ∙ ap (indexOf Memory.Pm (a .page)) (sym d)) in
-    (omega arith,
-    simp length-set (l .inv .1),
-    omega arith,
-    l .inv .3
-    ∙ pack-turn (l .reply) words (l .i) (l .j) (omega arith) (omega arith)
-    (c .before .before .first-of .ensures ∙ ap (λ (w : ℕ). w / 256 % 65536) one)
-    (c .before .second-of .ensures ∙ ap₂ (λ (w : ℕ) (v : ℕ). w % 256 * 256 + v / 65536 % 256) one two)
-    (c .third-of .ensures ∙ ap (λ (w : ℕ). w % 65536) two))
+    let two = word-read pm Memory.Pm (a .page) (a .address) (a .n) (l .i + 1) (omega arith) (c .before .before .before .before .index-of2 .ensures ∙ ap (indexOf Memory.Pm (a .page)) (sym d)) in (
+      omega arith,
+      simp length-set (l .inv .1),
+      omega arith,
+      l .inv .3
+          ∙ pack-turn (l .reply) words (l .i) (l .j) (omega arith) (omega arith)
+          (c .before .before .first-of .ensures ∙ ap (λ (w : ℕ). w / 256 % 65536) one)
+          (c .before .second-of .ensures ∙ ap₂ (λ (w : ℕ) (v : ℕ). w % 256 * 256 + v / 65536 % 256) one two)
+          (c .third-of .ensures ∙ ap (λ (w : ℕ). w % 65536) two),
+    )
 
 same-length : tie.Need-same-length Inv-loop μ-loop
 same-length c = search needs

@@ -147,12 +147,13 @@ loop-less c = search needs
 loop-again : tie.Need-loop-again Inv-loop μ-loop
 loop-again c =
     let a = c .before .before .before .before .before .before .before .before .before .before .before .args in
-    let l = c .before .before .before .before .before .before .before .before .loop in
-    (omega arith,
-    simp length-set (l .inv .1),
-    omega arith,
-    l .inv .3
-    ∙ put-packed-two (l .pm) (a .body .now) Memory.Pm (a .page) (a .address) (a .n) (l .i) (l .j) (omega arith) (omega arith) (c .before .before .before .index-of .ensures) (c .index-of2 .ensures) (c .before .before .before .before .high-of .ensures) (c .before .low-of .ensures))
+    let l = c .before .before .before .before .before .before .before .before .loop in (
+      omega arith,
+      simp length-set (l .inv .1),
+      omega arith,
+      l .inv .3
+          ∙ put-packed-two (l .pm) (a .body .now) Memory.Pm (a .page) (a .address) (a .n) (l .i) (l .j) (omega arith) (omega arith) (c .before .before .before .index-of .ensures) (c .index-of2 .ensures) (c .before .before .before .before .high-of .ensures) (c .before .low-of .ensures),
+    )
 
 same-length : tie.Need-same-length Inv-loop μ-loop
 same-length c = search needs
