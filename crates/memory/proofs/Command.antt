@@ -1,26 +1,26 @@
 -- Memory Read, Memory Write and Perform IO: what their tests tell, and how an answer is laid and sealed. Assumes nothing.
-use Prim.Native.Nat.{ℕ, _+_, _-_, _*_, _/_, _%_, _≤_, _<_}
+use Prim.Native.Nat.{ℕ, _+_, _-_, _*_, _/_, _%_, _≤_}
 use mathlib.Core.Path.{_≡_, refl, sym, ap, _∙_}
-use mathlib.Core.Bool.{Bool, true, false, _&&_}
+use mathlib.Core.Bool.{true, false, _&&_}
 use mathlib.Core.List.{List, [], _∷_, _++_}
 use native.Mathlib.Omega.{arith}
-use lib.ListN.{length, getD, take, drop, set, length-set, length-append}
+use lib.ListN.{length, set, length-set, length-append}
 use lib.Dec.{leb, eqb}
 use borrow.Author.Tests.{leb-true, eqb-true}
 use Rattle.base.specs.Words.{part, laid, Below}
 use Rattle.base.proofs.Pick.{yes, no, and-left, and-right}
 use Rattle.base.proofs.Laid.{laid-two, laid-snoc, part-laid}
 use Rattle.fcs.specs.Fcs.{fcsOf}
-use Rattle.image.specs.Segment.{memoryOf, lengthOf, lengthOk, wordBytes}
-use Rattle.image.specs.Packing.{packed, bodyWords, sealed, bodyOf}
+use Rattle.image.specs.Segment.{memoryOf, lengthOf, lengthOk}
+use Rattle.image.specs.Packing.{packed, bodyWords, sealed}
 use Rattle.image.proofs.Packing.{packed-two}
 use Rattle.image.specs.declared.Memory.{Memory}
 use Rattle.memory.specs.Run.{wordsAt, putAt}
-use Rattle.memory.specs.Pairs.{idsOk, ioAfter, ioAnswer}
+use Rattle.memory.specs.Pairs.{idsOk, ioAfter}
 use Rattle.memory.specs.Segment.{firstOf, secondOf, segmentWords, headerRun, headerFits, isSegment}
 use Rattle.memory.specs.Command.{memoryNumber, isOwn, readWords, readAnswer, readable, read, readOf, writable, written, writeOf, performAnswer, performable, performed, performOf}
 use Rattle.memory.specs.declared.Answer.{Answer}
-use Rattle.memory.proofs.Segment.{Exact, exact-tells, length-least}
+use Rattle.memory.proofs.Segment.{length-least}
 use Rattle.memory.proofs.Run.{below-words}
 
 -- a memory is known by its number

@@ -6,3 +6,5 @@ pub mod Packed
 pub mod Segment
 pub mod Loading
 pub mod Command
+pub mod Laws
+pub mod Examples

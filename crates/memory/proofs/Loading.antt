@@ -9,7 +9,7 @@ use lib.ListN.{length}
 use Rattle.base.specs.Words.{part}
 use Rattle.base.proofs.Pick.{yes, no, and-left, and-right}
 use Rattle.image.specs.Segment.{segmentEnd}
-use Rattle.image.specs.File.{after, walk, fileEnd}
+use Rattle.image.specs.File.{walk, fileEnd}
 use Rattle.image.proofs.File.{walk-turn, FileTo, file-tells}
 use Rattle.image.specs.declared.End.{End}
 use Rattle.memory.specs.Segment.{Memories}
