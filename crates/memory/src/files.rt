@@ -1,4 +1,6 @@
 // The segments of a valid file, one after the other: tested, and stored. 01 'Flash': Load.
+use crate::segments::segment_fits;
+use crate::segments::store_segment;
 use image::Span;
 ghost use mathlib.Core.Path.{_≡_};
 ghost use mathlib.Core.Bool.{true};
@@ -26,15 +28,15 @@ pub(crate) fn all_fit(file: &[u16], pm: usize, dm: usize, io: usize) -> bool
     requires { ⌜ isAt (fileEnd (now file)) ≡ true ⌝ }
     ensures { λ r. ⌜ r ≡ allFit pm dm io (fileSegments (now (file .entry))) ⌝ }
 {
-    let mut left = image::segments_of(file[0]);
+    let mut untested = image::segments_of(file[0]);
     let mut at: usize = 1;
-    while 0 < left {
+    while 0 < untested {
         let end = end_of(file, at);
-        if !crate::segments::segment_fits(pm, dm, io, &file[at..end]) {
+        if !segment_fits(pm, dm, io, &file[at..end]) {
             return false;
         }
         at = end;
-        left -= 1;
+        untested -= 1;
     }
     true
 }
@@ -45,12 +47,12 @@ pub(crate) fn store_all(file: &[u16], pm: &mut [u32], dm: &mut [u16], io: &mut [
     requires { ⌜ allFit (length (now pm)) (length (now dm)) (length (now io)) (fileSegments (now file)) ≡ true ⌝ }
     ensures { λ _. ⌜ memories (now (pm .exit)) (now (dm .exit)) (now (io .exit)) ≡ allStored (fileSegments (now (file .entry))) (memories (now (pm .entry)) (now (dm .entry)) (now (io .entry))) ⌝ }
 {
-    let mut left = image::segments_of(file[0]);
+    let mut unstored = image::segments_of(file[0]);
     let mut at: usize = 1;
-    while 0 < left {
+    while 0 < unstored {
         let end = end_of(file, at);
-        crate::segments::store_segment(&file[at..end], pm, dm, io);
+        store_segment(&file[at..end], pm, dm, io);
         at = end;
-        left -= 1;
+        unstored -= 1;
     }
 }

@@ -15,12 +15,12 @@ use Rattle.memory.proofs.files.all_fit.Statement.{statement}
 use Rattle.memory.proofs.files.all_fit.Tie as tie
 
 abbrev Inv-loop : tie.InvT-loop
-Inv-loop file pm dm io left₀ at₀ left at =
-    (isAt (walk left file at) ≡ true)
-    × (allFit pm dm io (fileSegments file) ≡ allFit pm dm io (segmentsFrom left file at))
+Inv-loop file pm dm io untested₀ at₀ untested at =
+    (isAt (walk untested file at) ≡ true)
+    × (allFit pm dm io (fileSegments file) ≡ allFit pm dm io (segmentsFrom untested file at))
 
 abbrev μ-loop : tie.MeasureT-loop
-μ-loop file pm dm io left₀ at₀ left at = left
+μ-loop file pm dm io untested₀ at₀ untested at = untested
 
 shared-slice-read-segments-of : tie.Need-shared-slice-read-segments-of Inv-loop μ-loop
 shared-slice-read-segments-of c =
@@ -42,14 +42,14 @@ end-of-requires : tie.Need-end-of-requires Inv-loop μ-loop
 end-of-requires c κs =
     let file = c .before .before .before .before .before .args .file .now in
     let l = c .before .loop in
-    let h : 0 < l .left = c .loop-test .taken in
-    walk-here (l .left) file (l .at) h (l .inv .0)
+    let h : 0 < l .untested = c .loop-test .taken in
+    walk-here (l .untested) file (l .at) h (l .inv .0)
 
 mul-segment-fits : tie.Need-mul-segment-fits Inv-loop μ-loop
 mul-segment-fits c =
     let file = c .before .before .before .before .before .before .args .file .now in
     let l = c .before .before .loop in
-    let h : 0 < l .left = c .before .loop-test .taken in
+    let h : 0 < l .untested = c .before .loop-test .taken in
     let s = segment-tells file (l .at) (c .end-of .result) (c .end-of .ensures) in
     omega (arith, s .ends, s .fits, s .least)
 
@@ -57,7 +57,7 @@ sub-segment-fits : tie.Need-sub-segment-fits Inv-loop μ-loop
 sub-segment-fits c =
     let file = c .before .before .before .before .before .before .args .file .now in
     let l = c .before .before .loop in
-    let h : 0 < l .left = c .before .loop-test .taken in
+    let h : 0 < l .untested = c .before .loop-test .taken in
     let s = segment-tells file (l .at) (c .end-of .result) (c .end-of .ensures) in
     omega (arith, s .ends, s .fits, s .least)
 
@@ -65,7 +65,7 @@ part-segment-fits-start : tie.Need-part-segment-fits-start Inv-loop μ-loop
 part-segment-fits-start c =
     let file = c .before .before .before .before .before .before .args .file .now in
     let l = c .before .before .loop in
-    let h : 0 < l .left = c .before .loop-test .taken in
+    let h : 0 < l .untested = c .before .loop-test .taken in
     let s = segment-tells file (l .at) (c .end-of .result) (c .end-of .ensures) in
     omega (arith, s .ends, s .fits, s .least)
 
@@ -73,7 +73,7 @@ part-segment-fits-end : tie.Need-part-segment-fits-end Inv-loop μ-loop
 part-segment-fits-end c =
     let file = c .before .before .before .before .before .before .args .file .now in
     let l = c .before .before .loop in
-    let h : 0 < l .left = c .before .loop-test .taken in
+    let h : 0 < l .untested = c .before .loop-test .taken in
     let s = segment-tells file (l .at) (c .end-of .result) (c .end-of .ensures) in
     omega (arith, s .ends, s .fits, s .least)
 
@@ -81,7 +81,7 @@ segment-fits-requires : tie.Need-segment-fits-requires Inv-loop μ-loop
 segment-fits-requires c κs =
     let file = c .before .before .before .before .before .before .before .args .file .now in
     let l = c .before .before .before .loop in
-    let h : 0 < l .left = c .before .before .loop-test .taken in
+    let h : 0 < l .untested = c .before .before .loop-test .taken in
     segment-alone file (l .at) (c .before .end-of .result) (c .before .end-of .ensures)
 
 returns : tie.Need-returns Inv-loop μ-loop
@@ -89,12 +89,12 @@ unfolding allFit
 returns c =
     let file = c .before .before .before .before .before .before .before .before .before .args .file .now in
     let l = c .before .before .before .before .before .loop in
-    let h : 0 < l .left = c .before .before .before .before .loop-test .taken in
-    let turn = segments-turn (l .left) file (l .at) (c .before .before .before .end-of .result) h (c .before .before .before .end-of .ensures) in
+    let h : 0 < l .untested = c .before .before .before .before .loop-test .taken in
+    let turn = segments-turn (l .untested) file (l .at) (c .before .before .before .end-of .result) h (c .before .before .before .end-of .ensures) in
     and-no _ (sym (c .before .segment-fits .ensures) ∙ not-true _ (c .if1 .taken)) ∙ sym (l .inv .1 ∙ ap (allFit (c .before .before .before .before .before .before .before .before .before .args .pm) (c .before .before .before .before .before .before .before .before .before .args .dm) (c .before .before .before .before .before .before .before .before .before .args .io)) turn)
 
-sub-left : tie.Need-sub-left Inv-loop μ-loop
-sub-left c = search needs
+sub-untested : tie.Need-sub-untested Inv-loop μ-loop
+sub-untested c = search needs
 
 loop-less : tie.Need-loop-less Inv-loop μ-loop
 loop-less c = search needs
@@ -104,10 +104,10 @@ unfolding allFit
 loop-again c =
     let file = c .before .before .before .before .before .before .before .before .before .args .file .now in
     let l = c .before .before .before .before .before .loop in
-    let h : 0 < l .left = c .before .before .before .before .loop-test .taken in
-    let turn = segments-turn (l .left) file (l .at) (c .before .before .before .end-of .result) h (c .before .before .before .end-of .ensures) in
-    let rest = allFit (c .before .before .before .before .before .before .before .before .before .args .pm) (c .before .before .before .before .before .before .before .before .before .args .dm) (c .before .before .before .before .before .before .before .before .before .args .io) (segmentsFrom (l .left - 1) file (c .before .before .before .end-of .result)) in (
-      walk-rest (l .left) file (l .at) (c .before .before .before .end-of .result) h (l .inv .0) (c .before .before .before .end-of .ensures),
+    let h : 0 < l .untested = c .before .before .before .before .loop-test .taken in
+    let turn = segments-turn (l .untested) file (l .at) (c .before .before .before .end-of .result) h (c .before .before .before .end-of .ensures) in
+    let rest = allFit (c .before .before .before .before .before .before .before .before .before .args .pm) (c .before .before .before .before .before .before .before .before .before .args .dm) (c .before .before .before .before .before .before .before .before .before .args .io) (segmentsFrom (l .untested - 1) file (c .before .before .before .end-of .result)) in (
+      walk-rest (l .untested) file (l .at) (c .before .before .before .end-of .result) h (l .inv .0) (c .before .before .before .end-of .ensures),
       l .inv .1
           ∙ ap (allFit (c .before .before .before .before .before .before .before .before .before .args .pm) (c .before .before .before .before .before .before .before .before .before .args .dm) (c .before .before .before .before .before .before .before .before .before .args .io)) turn
           ∙ sym (and-yes {u = rest} (sym (c .before .segment-fits .ensures) ∙ not-false _ (c .if1 .left)) refl),
@@ -118,7 +118,7 @@ unfolding allFit
 returns-2 c =
     let file = c .before .before .before .before .before .args .file .now in
     let l = c .before .loop in
-    sym (l .inv .1 ∙ ap (allFit (c .before .before .before .before .before .args .pm) (c .before .before .before .before .before .args .dm) (c .before .before .before .before .before .args .io)) (segments-end (l .left) file (l .at) (c .loop-test .left)))
+    sym (l .inv .1 ∙ ap (allFit (c .before .before .before .before .before .args .pm) (c .before .before .before .before .before .args .dm) (c .before .before .before .before .before .args .io)) (segments-end (l .untested) file (l .at) (c .loop-test .left)))
 
 pub all-fit-spec : {M : Type 1} → statement M
 all-fit-spec =
@@ -136,7 +136,7 @@ all-fit-spec =
     part-segment-fits-end
     segment-fits-requires
     returns
-    sub-left
+    sub-untested
     loop-less
     loop-again
     returns-2)

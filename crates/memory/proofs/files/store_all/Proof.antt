@@ -18,16 +18,16 @@ use Rattle.memory.proofs.files.store_all.Statement.{statement}
 use Rattle.memory.proofs.files.store_all.Tie as tie
 
 abbrev Inv-loop : tie.InvT-loop
-Inv-loop file pm₀ dm₀ io₀ left₀ at₀ pm dm io left at =
-    (isAt (walk left file at) ≡ true)
-    × (allFit (length pm₀) (length dm₀) (length io₀) (segmentsFrom left file at) ≡ true)
+Inv-loop file pm₀ dm₀ io₀ unstored₀ at₀ pm dm io unstored at =
+    (isAt (walk unstored file at) ≡ true)
+    × (allFit (length pm₀) (length dm₀) (length io₀) (segmentsFrom unstored file at) ≡ true)
     × (length pm ≡ length pm₀)
     × (length dm ≡ length dm₀)
     × (length io ≡ length io₀)
-    × (allStored (fileSegments file) (memories pm₀ dm₀ io₀) ≡ allStored (segmentsFrom left file at) (memories pm dm io))
+    × (allStored (fileSegments file) (memories pm₀ dm₀ io₀) ≡ allStored (segmentsFrom unstored file at) (memories pm dm io))
 
 abbrev μ-loop : tie.MeasureT-loop
-μ-loop file pm₀ dm₀ io₀ left₀ at₀ pm dm io left at = left
+μ-loop file pm₀ dm₀ io₀ unstored₀ at₀ pm dm io unstored at = unstored
 
 shared-slice-read-segments-of : tie.Need-shared-slice-read-segments-of Inv-loop μ-loop
 shared-slice-read-segments-of c =
@@ -58,14 +58,14 @@ end-of-requires : tie.Need-end-of-requires Inv-loop μ-loop
 end-of-requires c κs =
     let file = c .before .before .before .before .before .before .before .before .args .file .now in
     let l = c .before .loop in
-    let h : 0 < l .left = c .loop-test .taken in
-    walk-here (l .left) file (l .at) h (l .inv .0)
+    let h : 0 < l .unstored = c .loop-test .taken in
+    walk-here (l .unstored) file (l .at) h (l .inv .0)
 
 mul-store-segment : tie.Need-mul-store-segment Inv-loop μ-loop
 mul-store-segment c =
     let file = c .before .before .before .before .before .before .before .before .before .args .file .now in
     let l = c .before .before .loop in
-    let h : 0 < l .left = c .before .loop-test .taken in
+    let h : 0 < l .unstored = c .before .loop-test .taken in
     let s = segment-tells file (l .at) (c .end-of .result) (c .end-of .ensures) in
     omega (arith, s .ends, s .fits, s .least)
 
@@ -73,7 +73,7 @@ sub-store-segment : tie.Need-sub-store-segment Inv-loop μ-loop
 sub-store-segment c =
     let file = c .before .before .before .before .before .before .before .before .before .args .file .now in
     let l = c .before .before .loop in
-    let h : 0 < l .left = c .before .loop-test .taken in
+    let h : 0 < l .unstored = c .before .loop-test .taken in
     let s = segment-tells file (l .at) (c .end-of .result) (c .end-of .ensures) in
     omega (arith, s .ends, s .fits, s .least)
 
@@ -81,7 +81,7 @@ part-store-segment-start : tie.Need-part-store-segment-start Inv-loop μ-loop
 part-store-segment-start c =
     let file = c .before .before .before .before .before .before .before .before .before .args .file .now in
     let l = c .before .before .loop in
-    let h : 0 < l .left = c .before .loop-test .taken in
+    let h : 0 < l .unstored = c .before .loop-test .taken in
     let s = segment-tells file (l .at) (c .end-of .result) (c .end-of .ensures) in
     omega (arith, s .ends, s .fits, s .least)
 
@@ -89,7 +89,7 @@ part-store-segment-end : tie.Need-part-store-segment-end Inv-loop μ-loop
 part-store-segment-end c =
     let file = c .before .before .before .before .before .before .before .before .before .args .file .now in
     let l = c .before .before .loop in
-    let h : 0 < l .left = c .before .loop-test .taken in
+    let h : 0 < l .unstored = c .before .loop-test .taken in
     let s = segment-tells file (l .at) (c .end-of .result) (c .end-of .ensures) in
     omega (arith, s .ends, s .fits, s .least)
 
@@ -98,20 +98,20 @@ unfolding allFit
 store-segment-requires c κs =
     let file = c .before .before .before .before .before .before .before .before .before .before .before .before .before .args .file .now in
     let l = c .before .before .before .before .before .before .loop in
-    let h : 0 < l .left = c .before .before .before .before .before .loop-test .taken in
-    let turn = segments-turn (l .left) file (l .at) (c .before .before .before .before .end-of .result) h (c .before .before .before .before .end-of .ensures) in
+    let h : 0 < l .unstored = c .before .before .before .before .before .loop-test .taken in
+    let turn = segments-turn (l .unstored) file (l .at) (c .before .before .before .before .end-of .result) h (c .before .before .before .before .end-of .ensures) in
     let pm = length (c .before .before .before .before .before .before .before .before .before .before .before .before .before .args .pm .now) in
     let dm = length (c .before .before .before .before .before .before .before .before .before .before .before .before .before .args .dm .now) in
     let io = length (c .before .before .before .before .before .before .before .before .before .before .before .before .before .args .io .now) in
     let this = part file (l .at) (c .before .before .before .before .end-of .result - l .at) in
-    let rest = segmentsFrom (l .left - 1) file (c .before .before .before .before .end-of .result) in
+    let rest = segmentsFrom (l .unstored - 1) file (c .before .before .before .before .end-of .result) in
     let both : (segmentFits pm dm io this && allFit pm dm io rest) ≡ true = sym (ap (allFit pm dm io) turn) ∙ l .inv .1 in (
       segment-alone file (l .at) (c .before .before .before .before .end-of .result) (c .before .before .before .before .end-of .ensures),
       rw (l .inv .2, l .inv .3, l .inv .4) (and-left (segmentFits pm dm io this) (allFit pm dm io rest) both),
     )
 
-sub-left : tie.Need-sub-left Inv-loop μ-loop
-sub-left c = search needs
+sub-unstored : tie.Need-sub-unstored Inv-loop μ-loop
+sub-unstored c = search needs
 
 loop-less : tie.Need-loop-less Inv-loop μ-loop
 loop-less c = search needs
@@ -121,15 +121,15 @@ unfolding allFit allStored
 loop-again c =
     let file = c .before .before .before .before .before .before .before .before .before .before .before .before .before .before .before .before .before .before .before .before .args .file .now in
     let l = c .before .before .before .before .before .before .before .before .before .before .before .before .before .loop in
-    let h : 0 < l .left = c .before .before .before .before .before .before .before .before .before .before .before .before .loop-test .taken in
-    let turn = segments-turn (l .left) file (l .at) (c .before .before .before .before .before .before .before .before .before .before .before .end-of .result) h (c .before .before .before .before .before .before .before .before .before .before .before .end-of .ensures) in
+    let h : 0 < l .unstored = c .before .before .before .before .before .before .before .before .before .before .before .before .loop-test .taken in
+    let turn = segments-turn (l .unstored) file (l .at) (c .before .before .before .before .before .before .before .before .before .before .before .end-of .result) h (c .before .before .before .before .before .before .before .before .before .before .before .end-of .ensures) in
     let pm = length (c .before .before .before .before .before .before .before .before .before .before .before .before .before .before .before .before .before .before .before .before .args .pm .now) in
     let dm = length (c .before .before .before .before .before .before .before .before .before .before .before .before .before .before .before .before .before .before .before .before .args .dm .now) in
     let io = length (c .before .before .before .before .before .before .before .before .before .before .before .before .before .before .before .before .before .before .before .before .args .io .now) in
     let this = part file (l .at) (c .before .before .before .before .before .before .before .before .before .before .before .end-of .result - l .at) in
-    let rest = segmentsFrom (l .left - 1) file (c .before .before .before .before .before .before .before .before .before .before .before .end-of .result) in
+    let rest = segmentsFrom (l .unstored - 1) file (c .before .before .before .before .before .before .before .before .before .before .before .end-of .result) in
     let both : (segmentFits pm dm io this && allFit pm dm io rest) ≡ true = sym (ap (allFit pm dm io) turn) ∙ l .inv .1 in (
-      walk-rest (l .left) file (l .at) (c .before .before .before .before .before .before .before .before .before .before .before .end-of .result) h (l .inv .0) (c .before .before .before .before .before .before .before .before .before .before .before .end-of .ensures),
+      walk-rest (l .unstored) file (l .at) (c .before .before .before .before .before .before .before .before .before .before .before .end-of .result) h (l .inv .0) (c .before .before .before .before .before .before .before .before .before .before .before .end-of .ensures),
       and-right (segmentFits pm dm io this) (allFit pm dm io rest) both,
       c .before .before .before .before .before .before .store-segment .kept .1 .0 ∙ l .inv .2,
       c .before .before .before .before .before .before .store-segment .kept .1 .1 .0 ∙ l .inv .3,
@@ -153,7 +153,7 @@ unfolding allStored
 returns c =
     let file = c .before .before .before .before .before .before .before .before .args .file .now in
     let l = c .before .loop in
-    sym (l .inv .5 ∙ ap (λ (ss : List (List ℕ)). allStored ss (memories (l .pm) (l .dm) (l .io))) (segments-end (l .left) file (l .at) (c .loop-test .left)))
+    sym (l .inv .5 ∙ ap (λ (ss : List (List ℕ)). allStored ss (memories (l .pm) (l .dm) (l .io))) (segments-end (l .unstored) file (l .at) (c .loop-test .left)))
 
 pub store-all-spec : {M : Type 1} → statement M
 store-all-spec =
@@ -170,7 +170,7 @@ store-all-spec =
     part-store-segment-start
     part-store-segment-end
     store-segment-requires
-    sub-left
+    sub-unstored
     loop-less
     loop-again
     same-length
