@@ -26,5 +26,5 @@ def outputs(stdin):
     for line in stdin.splitlines():
         words = words_of(line)
         middle = len(words) // 2
-        lines.append("%04X %04X\n" % (fcs(words), fcs(words[middle:], fcs(words[:middle]))))
+        lines.append("%04x %04x\n" % (fcs(words), fcs(words[middle:], fcs(words[:middle]))))
     return "".join(lines)
