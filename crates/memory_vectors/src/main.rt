@@ -231,13 +231,16 @@ fn load(file: &[u16], pm: &mut [u32], pm_len: usize, dm: &mut [u16], dm_len: usi
     print_pm(&pm[0..pm_len], dm);
 }
 
-// Does what a line says with the memories that it asks for.
-fn answer(line: &[u16], pm: &mut [u32], dm: &mut [u16], io: &mut [u16], reply: &mut [u16]) {
-    let seed = item(line, 5);
+// All that is lent, from one seed.
+fn seed_all(seed: u16, pm: &mut [u32], dm: &mut [u16], io: &mut [u16], reply: &mut [u16]) {
     seed_pm(pm, seed);
     seed_words(dm, seed);
     seed_words(io, seed);
     seed_words(reply, seed);
+}
+
+// Does what a line says with the memories that it asks for.
+fn answer(line: &[u16], pm: &mut [u32], dm: &mut [u16], io: &mut [u16], reply: &mut [u16]) {
     let pm_len = lent(line, 1, pm.len());
     let dm_len = lent(line, 2, dm.len());
     let io_len = lent(line, 3, io.len());
@@ -263,6 +266,7 @@ fn turn(
     reply: &mut [u16],
 ) {
     let n = feed::words_of(line, words);
+    seed_all(item(&words[0..n], 5), pm, dm, io, reply);
     answer(&words[0..n], pm, dm, io, reply);
     io::write_all(1, b"\n");
 }
