@@ -173,7 +173,7 @@ def inputs():
 
 
 def digest(words):
-    return "%04X" % check_sequence(words)
+    return "%04x" % check_sequence(words)
 
 
 def pm_digests(pm):
@@ -185,7 +185,7 @@ def shown(data, reply):
     if data is None:
         return ["0", "ABORT", digest(reply)]
     reply = data + reply[len(data):]
-    return ["1", "%d" % len(data)] + ["%04X" % word for word in data[:16]] + [digest(reply)]
+    return ["1", "%d" % len(data)] + ["%04x" % word for word in data[:16]] + [digest(reply)]
 
 
 def done(ok):
