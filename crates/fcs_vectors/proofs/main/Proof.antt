@@ -1,82 +1,63 @@
+-- `fcs_vectors::main` meets its contract: both buffers keep their lengths. The measure is how many turns are left. Assumes nothing.
+use mathlib.Core.Path.{_≡_}
+use lib.ListN.{length}
+use borrow.Author.Needs.{needs}
 use Rattle.fcs_vectors.proofs.main.Statement.{statement}
 use Rattle.fcs_vectors.proofs.main.Tie as tie
-use Rattle.fcs_vectors.proofs.main.Reads as reads
-use Rattle.fcs_vectors.proofs.main.Lts as lts
-use Rattle.fcs_vectors.proofs.room.Reads as room-reads
-use Rattle.fcs_vectors.proofs.turn.Reads as turn-reads
-use Rattle.feed.proofs.before.Reads as before-reads
-use Rattle.feed.proofs.next_line.Reads as next-line-reads
-use Rattle.io.proofs.large_buffer.Reads as large-buffer-reads
 
 abbrev Inv-loop : tie.InvT-loop
-Inv-loop buffer₀ words₀ line₀ turns₀ buffer words line turns = ?
+Inv-loop buffer₀ words₀ line₀ turns₀ buffer words line turns = (length buffer ≡ 65536) × (length words ≡ 4096)
 
 abbrev μ-loop : tie.MeasureT-loop
-μ-loop buffer₀ words₀ line₀ turns₀ buffer words line turns = ?
+μ-loop buffer₀ words₀ line₀ turns₀ buffer words line turns = turns
 
--- src/main.rt:32:22
 large-buffer-requires : tie.Need-large-buffer-requires Inv-loop μ-loop
-large-buffer-requires c κs = ?
+large-buffer-requires c κs = search needs
 
--- src/main.rt:33:21
 room-requires : tie.Need-room-requires Inv-loop μ-loop
-room-requires c κs = ?
+room-requires c κs = search needs
 
--- src/main.rt:34:9
 before-requires : tie.Need-before-requires Inv-loop μ-loop
-before-requires c κs = ?
+before-requires c κs = search needs
 
--- src/main.rt:36:5
 loop-holds : tie.Need-loop-holds Inv-loop μ-loop
-loop-holds c = ?
+loop-holds c = search needs
 
--- src/main.rt:37:9
 sub-turns : tie.Need-sub-turns Inv-loop μ-loop
-sub-turns c = ?
+sub-turns c = search needs
 
--- src/main.rt:38:32
 slice-aggregate-next-line : tie.Need-slice-aggregate-next-line Inv-loop μ-loop
-slice-aggregate-next-line c = ?
+slice-aggregate-next-line c = search needs
 
--- src/main.rt:38:9
 next-line-requires : tie.Need-next-line-requires Inv-loop μ-loop
-next-line-requires c κs = ?
+next-line-requires c κs = search needs
 
--- src/main.rt:40:13
 returns : tie.Need-returns Inv-loop μ-loop
-returns c = ?
+returns c = search needs
 
--- src/main.rt:44:14
 sub-turn : tie.Need-sub-turn Inv-loop μ-loop
-sub-turn c = ?
+sub-turn c = search needs
 
--- src/main.rt:44:14
 part-turn-start : tie.Need-part-turn-start Inv-loop μ-loop
-part-turn-start c = ?
+part-turn-start c = search needs
 
--- src/main.rt:44:14
 part-turn-end : tie.Need-part-turn-end Inv-loop μ-loop
-part-turn-end c = ?
+part-turn-end c = search needs
 
--- src/main.rt:44:35
 slice-aggregate-turn : tie.Need-slice-aggregate-turn Inv-loop μ-loop
-slice-aggregate-turn c = ?
+slice-aggregate-turn c = search needs
 
--- src/main.rt:44:9
 turn-requires : tie.Need-turn-requires Inv-loop μ-loop
-turn-requires c κs = ?
+turn-requires c κs = search needs
 
--- src/main.rt:36:5
 loop-less : tie.Need-loop-less Inv-loop μ-loop
-loop-less c = ?
+loop-less c = search needs
 
--- src/main.rt:36:5
 loop-again : tie.Need-loop-again Inv-loop μ-loop
-loop-again c = ?
+loop-again c = search needs
 
--- src/main.rt:31:1
 returns-2 : tie.Need-returns-2 Inv-loop μ-loop
-returns-2 c = ?
+returns-2 c = search needs
 
 pub main-spec : {M : Type 1} → statement M
 main-spec =

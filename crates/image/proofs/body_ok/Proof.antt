@@ -1,8 +1,10 @@
 -- `image::body_ok` meets its contract: the last word against the FCS of those before it, then the zero byte by the memory. Assumes nothing.
-use mathlib.Core.Path.{_≡_, refl, sym, _∙_}
+use mathlib.Core.Path.{_≡_, refl, sym, ap, _∙_}
+use mathlib.Core.Bool.{Bool}
+use mathlib.Core.List.{List}
 use native.Mathlib.Omega.{arith}
-use Prim.Native.Nat.{_-_}
-use lib.ListN.{length, take}
+use Prim.Native.Nat.{ℕ, _-_, _≤_}
+use lib.ListN.{length, getD, take}
 use borrow.Author.Tests.{lt-leb, le-leb, eq-eqb, ne-eqb}
 use Rattle.base.proofs.Pick.{via, and-yes, and-no}
 use Rattle.image.specs.Segment.{bodyOk, zeroByteOk}
@@ -11,6 +13,18 @@ use Rattle.fcs.specs.Fcs.{fcsOf}
 use borrow.Author.Needs.{needs}
 use Rattle.image.proofs.body_ok.Statement.{statement}
 use Rattle.image.proofs.body_ok.Tie as tie
+
+-- the words that are lent are those before the last
+before-last : (body : List ℕ) {f : ℕ} → f ≡ fcsOf (take (length body - 1 - 0) body) → f ≡ fcsOf (take (length body - 1) body)
+before-last body f =
+    let z : length body - 1 - 0 ≡ length body - 1 = omega arith in
+    f ∙ ap (λ (n : ℕ). fcsOf (take n body)) z
+
+-- where the length is enough and the last word is the FCS of the words that were lent, the zero byte decides
+judged : (memory : Memory) (body : List ℕ) {f : ℕ} {r : Bool} → 2 ≤ length body → f ≡ fcsOf (take (length body - 1 - 0) body)
+    → getD body (length body - 1) 0 ≡ f → r ≡ zeroByteOk memory body → r ≡ bodyOk memory body
+unfolding bodyOk
+judged memory body h f last zero-byte = and-yes (le-leb 2 (length body) h) (and-yes (eq-eqb _ _ (last ∙ before-last body f)) zero-byte)
 
 returns : tie.Need-returns
 unfolding bodyOk
@@ -41,9 +55,7 @@ returns-2 : tie.Need-returns-2
 unfolding bodyOk
 returns-2 c =
     let b = c .before .before .before .before .before .before .args .body .now in
-    let z : length b - 1 - 0 ≡ length b - 1 = omega arith in
-    let f : c .before .fcs .result ≡ fcsOf (take (length b - 1) b) = rw z at (c .before .fcs .ensures) in
-    and-yes (le-leb 2 (length b) (omega arith)) (and-no _ (ne-eqb _ _ (λ q. c .if2 .taken (q ∙ sym f))))
+    and-yes (le-leb 2 (length b) (omega arith)) (and-no _ (ne-eqb _ _ (λ q. c .if2 .taken (q ∙ sym (before-last b (c .before .fcs .ensures))))))
 
 enum-told : tie.Need-enum-told
 enum-told c = search needs
@@ -61,28 +73,22 @@ enum-told-3 : tie.Need-enum-told-3
 enum-told-3 c = search needs
 
 returns-3 : tie.Need-returns-3
-unfolding bodyOk
 returns-3 c =
     let b = c .before .before .before .before .before .before .before .before .before .args .body .now in
-    let z : length b - 1 - 0 ≡ length b - 1 = omega arith in
-    let f : c .before .before .before .before .fcs .result ≡ fcsOf (take (length b - 1) b) = rw z at (c .before .before .before .before .fcs .ensures) in
-    and-yes (le-leb 2 (length b) (omega arith)) (and-yes (eq-eqb _ _ (c .before .before .before .if2 .left ∙ f)) (via (λ (m : Memory). zeroByteOk m b) (c .before .enum-told .given .1) refl))
+    judged _ b (omega arith) (c .before .before .before .before .fcs .ensures) (c .before .before .before .if2 .left)
+    (via (λ (m : Memory). zeroByteOk m b) (c .before .enum-told .given .1) refl)
 
 returns-4 : tie.Need-returns-4
-unfolding bodyOk
 returns-4 c =
     let b = c .before .before .before .before .before .before .before .before .args .body .now in
-    let z : length b - 1 - 0 ≡ length b - 1 = omega arith in
-    let f : c .before .before .before .fcs .result ≡ fcsOf (take (length b - 1) b) = rw z at (c .before .before .before .fcs .ensures) in
-    and-yes (le-leb 2 (length b) (omega arith)) (and-yes (eq-eqb _ _ (c .before .before .if2 .left ∙ f)) (via (λ (m : Memory). zeroByteOk m b) (c .enum-told2 .given .1) refl))
+    judged _ b (omega arith) (c .before .before .before .fcs .ensures) (c .before .before .if2 .left)
+    (via (λ (m : Memory). zeroByteOk m b) (c .enum-told2 .given .1) refl)
 
 returns-5 : tie.Need-returns-5
-unfolding bodyOk
 returns-5 c =
     let b = c .before .before .before .before .before .before .before .before .args .body .now in
-    let z : length b - 1 - 0 ≡ length b - 1 = omega arith in
-    let f : c .before .before .before .fcs .result ≡ fcsOf (take (length b - 1) b) = rw z at (c .before .before .before .fcs .ensures) in
-    and-yes (le-leb 2 (length b) (omega arith)) (and-yes (eq-eqb _ _ (c .before .before .if2 .left ∙ f)) (via (λ (m : Memory). zeroByteOk m b) (c .enum-told3 .given .1) refl))
+    judged _ b (omega arith) (c .before .before .before .fcs .ensures) (c .before .before .if2 .left)
+    (via (λ (m : Memory). zeroByteOk m b) (c .enum-told3 .given .1) refl)
 
 pub body-ok-spec : {M : Type 1} → statement M
 body-ok-spec =

@@ -1,5 +1,4 @@
 -- `image::header_ok` meets its contract: the tests are the definition's. Assumes nothing.
-use Prim.Native.Nat.{_-_}
 use borrow.Author.Needs.{needs}
 use Rattle.image.specs.Header.{headerOk}
 use Rattle.image.proofs.header_ok.Statement.{statement}

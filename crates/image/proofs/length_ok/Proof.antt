@@ -1,5 +1,4 @@
 -- `image::length_ok` meets its contract, memory by memory. Assumes nothing.
-use Prim.Native.Nat.{_-_}
 use borrow.Author.Needs.{needs}
 use Rattle.base.proofs.Pick.{via}
 use Rattle.image.specs.Segment.{lengthOk}

@@ -1,18 +1,38 @@
 -- `image::segment_end` meets its contract: what is tested is the definition's, and the part that is lent is the segment. Assumes nothing.
-use Prim.Native.Nat.{_+_, _-_}
-use mathlib.Core.Path.{_≡_, refl, sym, _∙_}
+use Prim.Native.Nat.{ℕ, _+_, _-_, _≤_, _<_}
+use mathlib.Core.Path.{_≡_, refl, sym, ap, _∙_}
+use mathlib.Core.Bool.{Bool}
+use mathlib.Core.List.{List}
 use lib.ListN.{length, getD}
 use native.Mathlib.Omega.{arith}
 use borrow.Author.Tests.{lt-leb, le-leb}
+use Rattle.base.specs.Pick.{pick}
 use Rattle.base.specs.Words.{part}
 use Rattle.base.proofs.Part.{length-part}
 use Rattle.base.proofs.Pick.{yes, no, via}
 use Rattle.image.specs.Segment.{spanOf, segmentOk, endFor, segmentEnd}
 use Rattle.image.specs.declared.Span.{Span}
+use Rattle.image.specs.declared.End.{End}
 use Rattle.image.proofs.Segment.{span-least}
 use borrow.Author.Needs.{needs}
 use Rattle.image.proofs.segment_end.Statement.{statement}
 use Rattle.image.proofs.segment_end.Tie as tie
+
+-- by the span of the segment that starts at a place
+module _ (words : List ℕ) (at : ℕ) (reaches : at + 2 ≤ length words) where
+  by-span : {s : Span} {r : End} → spanOf (getD words at 0) ≡ s → r ≡ endFor words at s → r ≡ segmentEnd words at
+  unfolding segmentEnd
+  by-span e h = yes _ (le-leb (at + 2) (length words) reaches) (via (endFor words at) e h)
+
+  past-the-end : {n : ℕ} → spanOf (getD words at 0) ≡ Span.Words n → length words < at + n → End.Invalid ≡ segmentEnd words at
+  past-the-end {n} e h = by-span e (no _ (lt-leb (at + n) (length words) h) refl)
+
+  judged : {n : ℕ} {ok : Bool} {r : End} → spanOf (getD words at 0) ≡ Span.Words n → at + n ≤ length words
+      → ok ≡ segmentOk (part words at (at + n - at)) → r ≡ pick ok (End.At (at + n)) End.Invalid → r ≡ segmentEnd words at
+  judged {n} {ok} e h o r =
+      let d : at + n - at ≡ n = omega arith in
+      let p : ok ≡ segmentOk (part words at n) = o ∙ ap (λ (k : ℕ). segmentOk (part words at k)) d in
+      by-span e (yes _ (le-leb (at + n) (length words) h) (r ∙ ap (λ (t : Bool). pick t (End.At (at + n)) End.Invalid) p))
 
 returns : tie.Need-returns
 unfolding segmentEnd
@@ -47,14 +67,10 @@ sub-if3 : tie.Need-sub-if3
 sub-if3 c = search needs
 
 returns-3 : tie.Need-returns-3
-unfolding segmentEnd
 returns-3 c =
     let a = c .before .before .before .before .before .before .before .before .before .args in
-    let ws = a .words .now in
-    let n = c .before .before .span .given .0 .0 in
-    let s : spanOf (getD ws (a .at) 0) ≡ Span.Words n = sym (c .before .before .before .before .span-of .ensures) ∙ c .before .before .span .given .1 in
-    let t = le-leb (a .at + 2) (length ws) (omega arith) in
-    yes _ t (via (endFor ws (a .at)) s (no _ (lt-leb (a .at + n) (length ws) (omega arith)) refl))
+    let span = sym (c .before .before .before .before .span-of .ensures) ∙ c .before .before .span .given .1 in
+    past-the-end (a .words .now) (a .at) (omega arith) span (omega arith)
 
 add-end : tie.Need-add-end
 add-end c = search needs
@@ -76,43 +92,27 @@ segment-ok-requires c κs =
     let a = c .before .before .before .before .before .before .before .before .before .before .args in
     let ws = a .words .now in
     let n = c .before .before .before .span .given .0 .0 in
-    let s : spanOf (getD ws (a .at) 0) ≡ Span.Words n = sym (c .before .before .before .before .before .span-of .ensures) ∙ c .before .before .before .span .given .1 in
-    let t = le-leb (a .at + 2) (length ws) (omega arith) in
+    let span = sym (c .before .before .before .before .before .span-of .ensures) ∙ c .before .before .before .span .given .1 in
     let d : a .at + n - a .at ≡ n = omega arith in
     let l = length-part ws (a .at) n (omega arith) in
-    let m = span-least (getD ws (a .at) 0) n s in
-    rw d (rw l m)
+    rw d (rw l (span-least (getD ws (a .at) 0) n span))
 
 returns-4 : tie.Need-returns-4
-unfolding segmentEnd
 returns-4 c =
     let a = c .before .before .before .before .before .before .before .before .before .before .before .before .args in
-    let ws = a .words .now in
-    let n = c .before .before .before .before .before .span .given .0 .0 in
-    let s : spanOf (getD ws (a .at) 0) ≡ Span.Words n = sym (c .before .before .before .before .before .before .before .span-of .ensures) ∙ c .before .before .before .before .before .span .given .1 in
-    let t = le-leb (a .at + 2) (length ws) (omega arith) in
-    let d : a .at + n - a .at ≡ n = omega arith in
-    let o : c .before .segment-ok .result ≡ segmentOk (part ws (a .at) n) = rw d at (c .before .segment-ok .ensures) in
-    yes _ t (via (endFor ws (a .at)) s (yes _ (le-leb (a .at + n) (length ws) (omega arith)) (yes _ (sym o ∙ c .if4 .taken) refl)))
+    let span = sym (c .before .before .before .before .before .before .before .span-of .ensures) ∙ c .before .before .before .before .before .span .given .1 in
+    judged (a .words .now) (a .at) (omega arith) span (omega arith) (c .before .segment-ok .ensures) (yes _ (c .if4 .taken) refl)
 
 returns-5 : tie.Need-returns-5
-unfolding segmentEnd
 returns-5 c =
     let a = c .before .before .before .before .before .before .before .args in
-    let ws = a .words .now in
-    yes _ (le-leb (a .at + 2) (length ws) (omega arith)) (via (endFor ws (a .at)) (sym (c .before .before .span-of .ensures) ∙ c .enum-told .given .1) refl)
+    by-span (a .words .now) (a .at) (omega arith) (sym (c .before .before .span-of .ensures) ∙ c .enum-told .given .1) refl
 
 returns-6 : tie.Need-returns-6
-unfolding segmentEnd
 returns-6 c =
     let a = c .before .before .before .before .before .before .before .before .before .before .before .before .args in
-    let ws = a .words .now in
-    let n = c .before .before .before .before .before .span .given .0 .0 in
-    let s : spanOf (getD ws (a .at) 0) ≡ Span.Words n = sym (c .before .before .before .before .before .before .before .span-of .ensures) ∙ c .before .before .before .before .before .span .given .1 in
-    let t = le-leb (a .at + 2) (length ws) (omega arith) in
-    let d : a .at + n - a .at ≡ n = omega arith in
-    let o : c .before .segment-ok .result ≡ segmentOk (part ws (a .at) n) = rw d at (c .before .segment-ok .ensures) in
-    yes _ t (via (endFor ws (a .at)) s (yes _ (le-leb (a .at + n) (length ws) (omega arith)) (no _ (sym o ∙ c .if4 .left) refl)))
+    let span = sym (c .before .before .before .before .before .before .before .span-of .ensures) ∙ c .before .before .before .before .before .span .given .1 in
+    judged (a .words .now) (a .at) (omega arith) span (omega arith) (c .before .segment-ok .ensures) (no _ (c .if4 .left) refl)
 
 pub segment-end-spec : {M : Type 1} → statement M
 segment-end-spec =

@@ -1,0 +1,32 @@
+# Logodwen: the reference node. `make run` does the main job, `make test` is the whole test. Each does its own set-up.
+SHELL := /bin/sh
+WORDS ?= crates/fcs_vectors/stdin
+
+.PHONY: run test perf vectors tools clean
+
+# The check sequence of each line of words of a file (WORDS=..), by the proved program.
+run: tools
+	@rt check fcs_vectors >build/run.log 2>&1 || { cat build/run.log; exit 1; }
+	@host/run target/bin/fcs_vectors <"$(WORDS)"
+
+# Everything that can be proved or run and compared. The last line is that of `rt ci`, and stands there only if all passed.
+test: tools
+	@host/gate
+
+# Proved functions against plain C, in one process.
+perf: tools
+	@rt staticlib perf >build/perf.log 2>&1 || { cat build/perf.log; exit 1; }
+	@host/build build/perf target/staticlib/libperf.a host/perf/*.c
+	@host/run build/perf
+
+# The stored vectors anew, by the model: for a change of what is tested, never of what is right.
+vectors: tools
+	@python3 model/vectors.py write
+
+tools:
+	@mkdir -p build
+	@command -v rt >/dev/null 2>&1 || { echo "make: the Rattle toolchain's command 'rt' is not on the PATH"; exit 1; }
+	@host/need python3 python3
+
+clean:
+	rm -rf build target
