@@ -230,7 +230,7 @@ def load_line(words, memories):
 
 @lru_cache(maxsize=None)
 def seeded(seed):
-    return run_of(seed, FULL)
+    return list(run_of(seed, FULL))
 
 
 def outputs(stdin):
