@@ -4,3 +4,7 @@ pub mod Stretch
 pub mod Pairs
 pub mod Packed
 pub mod Segment
+pub mod Loading
+pub mod Command
+pub mod Laws
+pub mod Examples

@@ -5,7 +5,7 @@ use mathlib.Core.List.{List, [], _∷_}
 use native.Mathlib.Omega.{arith}
 use lib.ListN.{length, getD, drop, set}
 use Rattle.base.proofs.Part.{drop-two, drop-three}
-use Rattle.image.specs.Packing.{unpacked, gather}
+use Rattle.image.specs.Packing.{unpacked}
 use Rattle.image.proofs.Packing.{unpacked-three, unpacked-three-last}
 use Rattle.image.specs.declared.Memory.{Memory}
 use Rattle.image.specs.declared.Page.{Page}

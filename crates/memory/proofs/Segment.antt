@@ -1,7 +1,7 @@
 -- What the words of one valid segment tell: its length by its header, and where its memory words stand. Assumes nothing.
 use Prim.Native.Nat.{ℕ, _+_, _-_, _*_, _/_, _%_, _≤_}
 use mathlib.Core.Path.{_≡_, refl, sym, ap, _∙_}
-use mathlib.Core.Bool.{Bool, true, false, false≢true}
+use mathlib.Core.Bool.{true, false≢true}
 use mathlib.Core.List.{List}
 use native.Mathlib.Omega.{arith}
 use lib.ListN.{length, getD, take, drop, length-drop}
@@ -11,15 +11,15 @@ use borrow.Author.Tests.{leb-true, eqb-true, eq-eqb}
 use Rattle.base.specs.Words.{part, Below}
 use Rattle.base.proofs.Pick.{via, and-left, and-right}
 use Rattle.base.proofs.Part.{length-part, getD-part, below-drop}
-use Rattle.image.specs.Segment.{memoryOf, lengthOf, pageOf, lengthOk, wordBytes, spanOf, segmentOk, segmentEnd}
-use Rattle.image.specs.Packing.{unpacked, bodyWords, memoryWords}
+use Rattle.image.specs.Segment.{memoryOf, lengthOf, lengthOk, wordBytes, spanOf, segmentOk, segmentEnd}
+use Rattle.image.specs.Packing.{unpacked, bodyWords}
 use Rattle.image.proofs.Segment.{segment-tells, segment-told, segment-ok-tells}
 use Rattle.image.proofs.Body.{span-body}
 use Rattle.image.proofs.Packing.{unpacked-two}
 use Rattle.image.specs.declared.Memory.{Memory}
 use Rattle.image.specs.declared.Span.{Span}
 use Rattle.image.specs.declared.End.{End}
-use Rattle.memory.specs.Segment.{firstOf, secondOf, segmentWords, endsAt, isSegment, fitsIn, segmentFits, Memories, memories, storedIn, segmentStored}
+use Rattle.memory.specs.Segment.{firstOf, segmentWords, endsAt, isSegment, fitsIn, segmentFits, Memories, storedIn, segmentStored}
 
 -- a permitted length is two or more
 pub length-least : (memory : Memory) (n : ℕ) → lengthOk memory n ≡ true → 2 ≤ n
@@ -27,6 +27,12 @@ unfolding lengthOk
 length-least Memory.Pm n h = leb-true 2 n (and-right (eqb (n % 2) 0) (leb 2 n) h)
 length-least Memory.Dm n h = leb-true 2 n h
 length-least Memory.Io n h = let l = leb-true 3 n (and-right (eqb (n % 2) 1) (leb 3 n) h) in omega arith
+
+-- a memory word has at most three bytes
+pub bytes-most : (memory : Memory) → wordBytes memory ≤ 3
+bytes-most Memory.Pm = omega arith
+bytes-most Memory.Dm = omega arith
+bytes-most Memory.Io = omega arith
 
 -- a valid segment, and no words more
 pub record Exact (segment : List ℕ) : Type 0 where

@@ -1,4 +1,6 @@
 // Runs of addresses in PM and DM: whether one fits, and its words read and stored.
+use crate::index::index_of;
+use crate::index::is_seen;
 use image::Memory;
 use image::Page;
 ghost use mathlib.Core.Path.{_≡_};
@@ -34,7 +36,7 @@ fn stretch_fits(len: usize, first: usize, n: usize) -> bool
 pub(crate) fn run_fits(len: usize, memory: Memory, page: Page, address: usize, n: usize) -> bool
     ensures { λ r. ⌜ r ≡ runFits len memory page address n ⌝ }
 {
-    if !crate::index::is_seen(memory, page) {
+    if !is_seen(memory, page) {
         return false;
     }
     if 0x4000 < address {
@@ -44,14 +46,10 @@ pub(crate) fn run_fits(len: usize, memory: Memory, page: Page, address: usize, n
         return false;
     }
     let low = low_count(address, n);
-    if !stretch_fits(len, crate::index::index_of(memory, page, address), low) {
+    if !stretch_fits(len, index_of(memory, page, address), low) {
         return false;
     }
-    stretch_fits(
-        len,
-        crate::index::index_of(memory, page, address + low),
-        n - low,
-    )
+    stretch_fits(len, index_of(memory, page, address + low), n - low)
 }
 
 // n words from a place of one run of words to a place of another.
@@ -81,16 +79,10 @@ pub(crate) fn read_dm_run(
     ensures { λ _. ⌜ now (reply .exit) ≡ laid (now (reply .entry)) at (wordsAt (now (dm .entry)) (runOf Memory.Dm page address n)) ⌝ }
 {
     let low = low_count(address, n);
+    copy(dm, index_of(Memory::Dm, page, address), reply, at, low);
     copy(
         dm,
-        crate::index::index_of(Memory::Dm, page, address),
-        reply,
-        at,
-        low,
-    );
-    copy(
-        dm,
-        crate::index::index_of(Memory::Dm, page, address + low),
+        index_of(Memory::Dm, page, address + low),
         reply,
         at + low,
         n - low,
@@ -104,18 +96,12 @@ pub(crate) fn store_dm_run(dm: &mut [u16], page: Page, address: usize, words: &[
 {
     let n = words.len();
     let low = low_count(address, n);
-    copy(
-        words,
-        0,
-        dm,
-        crate::index::index_of(Memory::Dm, page, address),
-        low,
-    );
+    copy(words, 0, dm, index_of(Memory::Dm, page, address), low);
     copy(
         words,
         low,
         dm,
-        crate::index::index_of(Memory::Dm, page, address + low),
+        index_of(Memory::Dm, page, address + low),
         n - low,
     );
 }
@@ -136,8 +122,8 @@ pub(crate) fn read_pm_run(
     let mut i = 0;
     let mut j = at;
     while i + 1 < n {
-        let a = pm[crate::index::index_of(Memory::Pm, page, address + i)];
-        let b = pm[crate::index::index_of(Memory::Pm, page, address + i + 1)];
+        let a = pm[index_of(Memory::Pm, page, address + i)];
+        let b = pm[index_of(Memory::Pm, page, address + i + 1)];
         reply[j] = image::pm::first_of(a);
         reply[j + 1] = image::pm::second_of(a, b);
         reply[j + 2] = image::pm::third_of(b);
@@ -147,7 +133,7 @@ pub(crate) fn read_pm_run(
     if n <= i {
         return;
     }
-    let a = pm[crate::index::index_of(Memory::Pm, page, address + i)];
+    let a = pm[index_of(Memory::Pm, page, address + i)];
     reply[j] = image::pm::first_of(a);
     reply[j + 1] = image::pm::second_of(a, 0);
 }
@@ -162,19 +148,13 @@ pub(crate) fn store_pm_run(pm: &mut [u32], page: Page, address: usize, n: usize,
     let mut j = 0;
     while i + 1 < n {
         let y = body[j + 1];
-        pm[crate::index::index_of(Memory::Pm, page, address + i)] = image::pm::high_of(body[j], y);
-        pm[crate::index::index_of(Memory::Pm, page, address + i + 1)] = image::pm::low_of(
-            y,
-            body[j + 2],
-        );
+        pm[index_of(Memory::Pm, page, address + i)] = image::pm::high_of(body[j], y);
+        pm[index_of(Memory::Pm, page, address + i + 1)] = image::pm::low_of(y, body[j + 2]);
         i += 2;
         j += 3;
     }
     if n <= i {
         return;
     }
-    pm[crate::index::index_of(Memory::Pm, page, address + i)] = image::pm::high_of(
-        body[j],
-        body[j + 1],
-    );
+    pm[index_of(Memory::Pm, page, address + i)] = image::pm::high_of(body[j], body[j + 1]);
 }

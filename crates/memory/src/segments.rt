@@ -1,4 +1,9 @@
 // Segments in the memories: whether one fits, and its words stored. Every function is lent the words of one valid segment.
+use crate::registers::ids_ok;
+use crate::registers::run_pairs;
+use crate::runs::run_fits;
+use crate::runs::store_dm_run;
+use crate::runs::store_pm_run;
 use image::End;
 use image::Memory;
 ghost use mathlib.Core.Path.{_≡_};
@@ -16,7 +21,7 @@ pub(crate) fn header_fits(len: usize, memory: Memory, first: u16, second: u16) -
     ensures { λ r. ⌜ r ≡ headerFits len memory first second ⌝ }
 {
     let n = image::length_of(first) - 1;
-    crate::runs::run_fits(
+    run_fits(
         len,
         memory,
         image::page_of(second),
@@ -43,7 +48,7 @@ pub(crate) fn pairs_fit(len: usize, segment: &[u16]) -> bool
     ensures { λ r. ⌜ r ≡ idsOk len (segmentWords (now (segment .entry))) ⌝ }
 {
     let end = segment.len() - 1;
-    crate::registers::ids_ok(len, &segment[2..end])
+    ids_ok(len, &segment[2..end])
 }
 
 // Whether the segment fits memories of these lengths.
@@ -69,7 +74,7 @@ pub(crate) fn store_pm(pm: &mut [u32], segment: &[u16])
 {
     let second = segment[1];
     let n = image::length_of(segment[0]) - 1;
-    crate::runs::store_pm_run(
+    store_pm_run(
         pm,
         image::page_of(second),
         image::address_of(second),
@@ -87,7 +92,7 @@ pub(crate) fn store_dm(dm: &mut [u16], segment: &[u16])
 {
     let second = segment[1];
     let end = segment.len() - 1;
-    crate::runs::store_dm_run(
+    store_dm_run(
         dm,
         image::page_of(second),
         image::address_of(second),
@@ -103,7 +108,7 @@ pub(crate) fn store_io(io: &mut [u16], segment: &[u16])
     ensures { λ _. ⌜ now (io .exit) ≡ ioAfter (now (io .entry)) (segmentWords (now (segment .entry))) ⌝ }
 {
     let end = segment.len() - 1;
-    crate::registers::run_pairs(io, &segment[2..end]);
+    run_pairs(io, &segment[2..end]);
 }
 
 // The segment into its memory.
