@@ -12,7 +12,7 @@ use borrow.Author.Tests.{ltb-true, leb-true, ltb-false, lt-ltb, le-leb, lt-leb}
 use Rattle.base.specs.Words.{part, laid}
 use Rattle.base.proofs.Pick.{and-left, and-right}
 use Rattle.base.proofs.Part.{length-part}
-use Rattle.base.proofs.Laid.{laid-none, laid-cons, laid-append}
+use Rattle.base.proofs.Laid.{laid-none, laid-cons, laid-laid}
 use Rattle.image.specs.declared.Memory.{Memory}
 use Rattle.image.specs.declared.Page.{Page}
 use Rattle.memory.specs.Map.{lowAt, highAt, indexOf}
@@ -183,4 +183,4 @@ copy-done from to start at n i h =
 pub copy-two : (to : List ℕ) (at k : ℕ) (a b : List ℕ) {x y : List ℕ} → length a ≡ k → at + k + length b ≤ length to
     → x ≡ laid to at a → y ≡ laid x (at + k) b → y ≡ laid to at (a ++ b)
 copy-two to at k a b e h ex ey =
-    ey ∙ ap (λ (l : List ℕ). laid l (at + k) b) ex ∙ ap (λ (j : ℕ). laid (laid to at a) (at + j) b) (sym e) ∙ sym (laid-append to at a b (omega arith))
+    ey ∙ ap (λ (l : List ℕ). laid l (at + k) b) ex ∙ ap (λ (j : ℕ). laid (laid to at a) (at + j) b) (sym e) ∙ laid-laid to at a b (omega arith)

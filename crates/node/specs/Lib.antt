@@ -3,3 +3,10 @@ pub mod Valid
 pub mod Refusals
 pub mod Status
 pub mod Route
+pub mod Effect
+pub mod Settings
+pub mod Files
+pub mod Memories
+pub mod Own
+pub mod Slaves
+pub mod Calls

@@ -35,3 +35,12 @@ counted false count = count
 
 abbrev pub counts : ℕ → ℕ → Counts
 counts amswire flash = record { amswire = amswire; flash = flash }
+
+-- The node with another directory and another erasure.
+abbrev pub withFlash : Node → List ℕ → Erasing → Node
+withFlash n directory erasing = node (n .masks) directory (n .given) (n .mode) (n .counts) erasing (n .pending)
+
+-- The node with one FLASH error more.
+abbrev pub withFault : Node → Node
+withFault n =
+    node (n .masks) (n .directory) (n .given) (n .mode) (counts (n .counts .amswire) (counted true (n .counts .flash))) (n .erasing) (n .pending)

@@ -1,0 +1,83 @@
+-- What comes of a slave's answer: 01 'Group assembly'. Assumes nothing.
+use Prim.Native.Nat.{ℕ}
+use mathlib.Core.Bool.{Bool, true, false, _&&_, not}
+use mathlib.Core.List.{List, []}
+use lib.ListN.{length}
+use Rattle.base.specs.Pick.{pick}
+use Rattle.group.specs.Time.{isLate}
+use Rattle.group.specs.Kind.{answer}
+use Rattle.group.specs.Slaves.{above, nextOf}
+use Rattle.group.specs.Fragment.{Assembly, assembly, taken}
+use Rattle.group.specs.Ending.{Sent, endOf}
+use Rattle.group.specs.Single.{passedOn}
+use Rattle.group.specs.declared.Built.{Built}
+use Rattle.group.specs.declared.Heard.{Heard}
+use Rattle.group.specs.declared.Next.{Next}
+use Rattle.node.specs.Route.{asking}
+use Rattle.node.specs.Effect.{Effect, effect, only, Change, Store, Setup}
+use Rattle.node.specs.Settings.{statusIn}
+use Rattle.node.specs.declared.Answer.{Answer}
+use Rattle.node.specs.declared.Ask.{Ask}
+use Rattle.node.specs.declared.Gathering.{Gathering}
+use Rattle.node.specs.declared.Node.{Node}
+use Rattle.node.specs.declared.Pending.{Pending}
+
+abbrev pub ask : ℕ → ℕ → ℕ → Ask
+ask link slave at = record { link = link; slave = slave; at = at }
+
+abbrev pub gathering : ℕ → ℕ → Built → Gathering
+gathering set from b = record { set = set; from = from; built = b }
+
+abbrev pub heard : Bool → Bool → ℕ → ℕ → ℕ → Heard
+heard late errors status address bc = record { late = late; errors = errors; «rx_status» = status; «rx_address» = address; bc = bc }
+
+-- A slave that has not answered: what is heard of it is that it is late.
+abbrev pub silent : Heard
+silent = heard true false 0 0 0
+
+-- A reply is sent, and nothing is pending any more.
+abbrev pub sends : Sent → Effect
+sends s = only (Answer.Reply (s .reply)) Pending.Nothing (s .buffer)
+
+-- After a slave's answer the next slave is asked, at the clock of this call; after the last one's the group ends.
+abbrev pub goesOn : Node → Ask → Gathering → ℕ → Assembly → Next → Effect
+goesOn n a g clock m (Next.Slave s) =
+    only (Answer.Ask (asking s (g .from))) (Pending.Group (ask (a .link) s clock) (gathering (g .set) (g .from) (m .built))) (m .reply)
+goesOn n a g clock m Next.Nobody = sends (endOf m (statusIn n))
+
+-- The slave's answer taken into the assembly, with those above it yet to ask.
+abbrev pub gathers : Node → Ask → Gathering → ℕ → Heard → List ℕ → List ℕ → Effect
+gathers n a g clock h words reply =
+    goesOn n a g clock
+    (taken (assembly reply (g .built)) (length (above (g .set) (a .slave))) (a .slave) (answer h words))
+    (nextOf (above (g .set) (a .slave)))
+
+-- A single slave's reply passes unchanged; a group's is assembled.
+abbrev pub hears : Pending → Node → ℕ → Heard → List ℕ → List ℕ → Effect
+hears Pending.Nothing n clock h words reply = only Answer.Waiting Pending.Nothing reply
+hears (Pending.Slave a) n clock h words reply = sends (passedOn reply (answer h words))
+hears (Pending.Group a g) n clock h words reply = gathers n a g clock h words reply
+
+-- When the slave was asked.
+abbrev pub askedAt : Pending → ℕ
+askedAt Pending.Nothing = 0
+askedAt (Pending.Slave a) = a .at
+askedAt (Pending.Group a g) = a .at
+
+-- A slave reply taken, before its timeout, with receive errors counts one AMSWire error.
+abbrev pub withAmswire : Bool → Effect → Effect
+withAmswire errors e = effect (e .answer) (e .change) (e .store) (e .setup) errors (e .fault) (e .pending) (e .reply)
+
+abbrev pub errorIn : Heard → Bool
+errorIn h = not (h .late) && h .errors
+
+-- A slave's reply: 60 ticks of 10 ms or more is a timeout, also when a reply is delivered then.
+unfoldable pub replyEffect : Node → ℕ → Bool → ℕ → ℕ → ℕ → List ℕ → List ℕ → Effect
+replyEffect n clock errors status address bc words reply =
+    withAmswire (errorIn (heard (isLate clock (askedAt (n .pending))) errors status address bc))
+    (hears (n .pending) n clock (heard (isLate clock (askedAt (n .pending))) errors status address bc) words reply)
+
+-- A poll: waiting, until the timeout.
+unfoldable pub pollEffect : Node → ℕ → List ℕ → Effect
+pollEffect n clock reply =
+    pick (isLate clock (askedAt (n .pending))) (hears (n .pending) n clock silent [] reply) (only Answer.Waiting (n .pending) reply)
