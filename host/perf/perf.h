@@ -21,6 +21,7 @@ uint16_t plain_fcs(const uint16_t *words, size_t n);
 /* The comparisons, a file each. Each answers how many ratios were above their limits. */
 int perf_fcs_runs(void);
 int perf_image_runs(void);
+int perf_memory_runs(void);
 int perf_group_runs(void);
 
 #endif

@@ -2,11 +2,14 @@
 ghost use mathlib.Core.Path.{_≡_};
 ghost use Rattle.fcs.specs.Fcs.{fcsOf};
 ghost use Rattle.image.specs.File.{fileEnd, lengthOr0};
+ghost use Rattle.memory.specs.Command.{dataWords, readOf, writeOf};
 ghost use Rattle.perf.specs.Group.{takenBehind, endedBehind};
 use group::Built;
 use group::Heard;
 use group::Tally;
 use image::End;
+use image::Memory;
+use memory::Answer;
 
 #[no_mangle]
 pub extern "C" fn perf_fcs(words: &[u16]) -> u16
@@ -66,4 +69,26 @@ pub extern "C" fn perf_finish(reply: &mut [u16], built: usize, own: u16) -> usiz
     };
     let sent = group::ending::finish(reply, all, own);
     sent.words
+}
+
+// A DM Read; the words of its answer, or 0.
+#[no_mangle]
+pub extern "C" fn perf_read_dm(dm: &[u16], first: u16, second: u16, reply: &mut [u16]) -> usize
+    ensures { λ r. ⌜ now (reply .exit) ≡ readOf Memory.Dm (now (dm .entry)) first second (now (reply .entry)) .reply ⌝ }
+    ensures { λ r. ⌜ r ≡ dataWords (readOf Memory.Dm (now (dm .entry)) first second (now (reply .entry)) .answer) ⌝ }
+{
+    let answer = memory::read_dm(dm, first, second, reply);
+    match answer {
+        Answer::Words(words) => words,
+        Answer::Abort => 0,
+    }
+}
+
+// A DM Write; whether it was done.
+#[no_mangle]
+pub extern "C" fn perf_write_dm(dm: &mut [u16], segment: &[u16]) -> bool
+    ensures { λ r. ⌜ now (dm .exit) ≡ writeOf Memory.Dm (now (dm .entry)) (now (segment .entry)) .after ⌝ }
+    ensures { λ r. ⌜ r ≡ writeOf Memory.Dm (now (dm .entry)) (now (segment .entry)) .done ⌝ }
+{
+    memory::write_dm(dm, segment)
 }
