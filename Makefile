@@ -1,13 +1,14 @@
 # Logodwen: the reference node. `make run` does the main job, `make test` is the whole test. Each does its own set-up.
 SHELL := /bin/sh
-WORDS ?= crates/fcs_vectors/stdin
+FILES ?= examples/files
 
 .PHONY: run test perf vectors tools clean
 
-# The check sequence of each line of words of a file (WORDS=..), by the proved program.
+# Which of some files are valid, each line the words of one in hex (FILES=..), by the proved program.
 run: tools
-	@rt check fcs_vectors >build/run.log 2>&1 || { cat build/run.log; exit 1; }
-	@host/run target/bin/fcs_vectors <"$(WORDS)"
+	@test -r "$(FILES)" || { echo "make: no file $(FILES): give one by FILES=, a line of words in hex for each file"; exit 1; }
+	@rt check image_vectors >build/run.log 2>&1 || { cat build/run.log; exit 1; }
+	@host/run target/bin/image_vectors <"$(FILES)"
 
 # Everything that can be proved or run and compared. The last line is that of `rt ci`, and stands there only if all passed.
 test: tools

@@ -40,6 +40,7 @@ int main(void) {
     over += perf_fcs_runs();
     over += perf_image_runs();
     over += perf_flash_runs();
+    over += perf_memory_runs();
     over += perf_group_runs();
     return over ? 1 : 0;
 }

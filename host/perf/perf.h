@@ -25,6 +25,7 @@ size_t plain_file_end(const uint16_t *words, size_t n);
 int perf_fcs_runs(void);
 int perf_image_runs(void);
 int perf_flash_runs(void);
+int perf_memory_runs(void);
 int perf_group_runs(void);
 
 #endif

@@ -4,24 +4,25 @@ use mathlib.Core.Path.{_≡_, refl, sym, ap, _∙_}
 use mathlib.Core.Bool.{true, false, _&&_}
 use mathlib.Core.List.{List, [], _∷_, _++_}
 use native.Mathlib.Omega.{arith}
-use lib.ListN.{length, set, length-set, length-append}
+use lib.ListN.{length, drop, set, length-set, length-append}
 use lib.Dec.{leb, eqb}
 use borrow.Author.Tests.{leb-true, eqb-true}
 use Rattle.base.specs.Words.{part, laid, Below}
 use Rattle.base.proofs.Pick.{yes, no, and-left, and-right}
 use Rattle.base.proofs.Laid.{laid-two, laid-snoc, part-laid}
 use Rattle.fcs.specs.Fcs.{fcsOf}
-use Rattle.image.specs.Segment.{memoryOf, lengthOf, lengthOk}
+use Rattle.image.specs.Segment.{memoryOf, lengthOf, pageOf, addressOf, lengthOk, wordBytes}
 use Rattle.image.specs.Packing.{packed, bodyWords, sealed}
-use Rattle.image.proofs.Packing.{packed-two}
+use Rattle.image.proofs.Packing.{packed-two, length-packed, length-unpacked}
 use Rattle.image.specs.declared.Memory.{Memory}
 use Rattle.memory.specs.Run.{wordsAt, putAt}
-use Rattle.memory.specs.Pairs.{idsOk, ioAfter}
+use Rattle.memory.specs.Pairs.{idsOk, ioAfter, ioAnswer}
 use Rattle.memory.specs.Segment.{firstOf, secondOf, segmentWords, headerRun, headerFits, isSegment}
 use Rattle.memory.specs.Command.{memoryNumber, isOwn, readWords, readAnswer, readable, read, readOf, writable, written, writeOf, performAnswer, performable, performed, performOf}
 use Rattle.memory.specs.declared.Answer.{Answer}
-use Rattle.memory.proofs.Segment.{length-least}
-use Rattle.memory.proofs.Run.{below-words}
+use Rattle.memory.proofs.Segment.{exact-tells, length-least, size-plain, pairs-even}
+use Rattle.memory.proofs.Run.{below-words, length-run-words}
+use Rattle.memory.proofs.Pairs.{length-answer-even}
 
 -- a memory is known by its number
 number-injective : (a b : Memory) → memoryNumber a ≡ memoryNumber b → a ≡ b
@@ -115,13 +116,18 @@ sealed-laid reply first second n body {x} {y} e h ex ey =
 pub packed-plain : (ws is : List ℕ) → Below 65536 ws → wordsAt ws is ≡ packed 2 (wordsAt ws is)
 packed-plain ws is below = sym (packed-two (wordsAt ws is) (below-words 65536 ws is below))
 
--- an answer of so many words
-pub words-pm : (n : ℕ) → lengthOk Memory.Pm n ≡ true → 2 + bodyWords Memory.Pm n ≡ 3 + ((n - 1) * 3 + 1) / 2
+-- a body of L memory words is L - 1 words, packed, and the FCS
+body-length : (memory : Memory) (n m : ℕ) → lengthOk memory n ≡ true → m ≡ (n - 1) * wordBytes memory → (m + 1) / 2 + 1 ≡ bodyWords memory n
 unfolding lengthOk
-words-pm n h =
+body-length Memory.Pm n m h e =
     let even = eqb-true (n % 2) 0 (and-left (eqb (n % 2) 0) (leb 2 n) h) in
     let least = leb-true 2 n (and-right (eqb (n % 2) 0) (leb 2 n) h) in
     omega arith
+body-length Memory.Dm n m h e = let least = leb-true 2 n h in omega arith
+body-length Memory.Io n m h e = let least = leb-true 3 n (and-right (eqb (n % 2) 1) (leb 3 n) h) in omega arith
+
+pub words-pm : (n : ℕ) → lengthOk Memory.Pm n ≡ true → 2 + bodyWords Memory.Pm n ≡ 3 + ((n - 1) * 3 + 1) / 2
+words-pm n h = let w = body-length Memory.Pm n ((n - 1) * 3) h refl in omega arith
 
 -- the ends of each command
 
@@ -156,3 +162,32 @@ perform-done io segment reply t p q = yes _ t (rw (p, q))
 pub perform-abort : (io segment reply : List ℕ) → performable (length io) segment (length reply) ≡ false → performed Answer.Abort io reply ≡ performOf io segment reply
 unfolding performOf
 perform-abort io segment reply t = no _ t refl
+
+-- what is answered has the length that is said
+
+length-sealed : (words : List ℕ) → length (sealed words) ≡ length words + 1
+unfolding sealed
+length-sealed words = simp length-append (omega arith)
+
+pub length-read-answer : (memory : Memory) (ws : List ℕ) (first second : ℕ) → lengthOk memory (lengthOf first) ≡ true → length (readAnswer memory ws first second) ≡ readWords memory first
+length-read-answer memory ws first second h =
+    let n = lengthOf first in
+    let words = wordsAt ws (headerRun memory first second) in
+    let many : length words ≡ n - 1 = length-run-words ws memory (pageOf second) (addressOf second) (n - 1) in
+    let body = length-sealed (packed (wordBytes memory) words) in
+    let front = length-packed (wordBytes memory) words in
+    let whole = body-length memory n (length words * wordBytes memory) h (ap (λ (k : ℕ). k * wordBytes memory) many) in
+    omega arith
+
+pub length-perform-answer : (io segment : List ℕ) → isSegment segment ≡ true → memoryOf (firstOf segment) ≡ Memory.Io → length (performAnswer io segment) ≡ length segment
+length-perform-answer io segment one own =
+    let e = exact-tells segment one in
+    let n = lengthOf (firstOf segment) in
+    let words = segmentWords segment in
+    let many : length words ≡ n - 1 = length-unpacked (wordBytes (memoryOf (firstOf segment))) (n - 1) (drop 2 segment) in
+    let size = size-plain segment e (ap wordBytes own) in
+    let even = pairs-even segment e own (omega (arith, e .counts)) in
+    let same = length-answer-even io words even in
+    let body = length-sealed (packed 2 (ioAnswer io words)) in
+    let front = length-packed 2 (ioAnswer io words) in
+    omega (arith, e .counts)

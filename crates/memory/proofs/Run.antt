@@ -113,6 +113,17 @@ below-at len memory page address (suc n) (suc i) h k =
 pub fits-at : (len : ℕ) (memory : Memory) (page : Page) (address n i : ℕ) → runFits len memory page address n ≡ true → i < n → indexOf memory page (address + i) < len
 fits-at len memory page address n i h k = below-at len memory page address n i (fits-tells len memory page address n h .below) k
 
+-- what the loops over a run that fits need at its i-th address
+pub record RunAt (len : ℕ) (memory : Memory) (page : Page) (address n i : ℕ) : Type 0 where
+  pub ends : address + n ≤ 0x4000
+  pub here : i < n → indexOf memory page (address + i) < len
+  pub next : i + 1 < n → indexOf memory page (address + i + 1) < len
+
+pub run-at : (len : ℕ) (memory : Memory) (page : Page) (address n i : ℕ) → runFits len memory page address n ≡ true → RunAt len memory page address n i
+run-at len memory page address n i h =
+    let d : address + (i + 1) ≡ address + i + 1 = omega arith in
+    record { ends = fits-tells len memory page address n h .ends; here = λ k. fits-at len memory page address n i h k; next = λ k. rw d at (fits-at len memory page address n (i + 1) h k) }
+
 -- storing
 
 -- the words at other indices stay

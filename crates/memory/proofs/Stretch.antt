@@ -157,27 +157,11 @@ put-reach ws memory page address n k new e l r =
     ∙ ap (λ (x : List ℕ). putAt x (stretch j (n - k)) (drop k new)) first
     ∙ put-stretch (laid ws i (take k new)) j (drop k new) (n - k) (length-drop k new ∙ ap (λ (m : ℕ). m - k) l) (λ p. let q = r .second p in omega arith)
 
--- the loop that copies words, a turn at a time
+-- words that are copied
 
 pub length-part-some : (ws : List ℕ) (at n : ℕ) → (0 < n → at + n ≤ length ws) → length (part ws at n) ≡ n
 length-part-some ws at zero h = refl
 length-part-some ws at (suc n) h = length-part ws at (suc n) (h (omega arith))
-
-pub copy-turn : (from to : List ℕ) (start at n i : ℕ) → i < n → start + n ≤ length from → at + n ≤ length to
-    → laid to (at + i) (part from (start + i) (n - i)) ≡ laid (set to (at + i) (getD from (start + i) 0)) (at + (i + 1)) (part from (start + (i + 1)) (n - (i + 1)))
-copy-turn from to start at n i h p q =
-    let e : n - i ≡ suc (n - (i + 1)) = omega arith in
-    let d : suc (start + i) ≡ start + (i + 1) = omega arith in
-    let f : at + i + 1 ≡ at + (i + 1) = omega arith in
-    let l = length-part from (start + (i + 1)) (n - (i + 1)) (omega arith) in
-    rw (e, drop-cons from (start + i) 0 (omega arith), d)
-    (laid-cons to (at + i) (getD from (start + i) 0) (part from (start + (i + 1)) (n - (i + 1))) (omega arith)
-    ∙ ap (λ (j : ℕ). laid (set to (at + i) (getD from (start + i) 0)) j (part from (start + (i + 1)) (n - (i + 1)))) f)
-
-pub copy-done : (from to : List ℕ) (start at n i : ℕ) → n ≤ i → laid to (at + i) (part from (start + i) (n - i)) ≡ to
-copy-done from to start at n i h =
-    let e : n - i ≡ 0 = omega arith in
-    rw e (sym (laid-none to (at + i)))
 
 -- two copies behind each other are one of both
 pub copy-two : (to : List ℕ) (at k : ℕ) (a b : List ℕ) {x y : List ℕ} → length a ≡ k → at + k + length b ≤ length to

@@ -52,17 +52,17 @@ pub(crate) fn run_fits(len: usize, memory: Memory, page: Page, address: usize, n
     stretch_fits(len, index_of(memory, page, address + low), n - low)
 }
 
-// n words from a place of one run of words to a place of another.
+// n words from a place of one run of words to a place of another. No words may stand anywhere.
 fn copy(from: &[u16], start: usize, to: &mut [u16], at: usize, n: usize)
     requires { ⌜ (0 < n → start + n ≤ length (now from)) ⌝ }
     requires { ⌜ (0 < n → at + n ≤ length (now to)) ⌝ }
     ensures { λ _. ⌜ now (to .exit) ≡ laid (now (to .entry)) at (part (now (from .entry)) start n) ⌝ }
 {
-    let mut i = 0;
-    while i < n {
-        to[at + i] = from[start + i];
-        i += 1;
+    if n == 0 {
+        return;
     }
+    let end = start + n;
+    base::copy(to, at, &from[start..end]);
 }
 
 // The words of a DM run into a reply, from a place on.

@@ -1,5 +1,4 @@
 // Entries by which a C program times the functions of the crates below: each hands what it is lent to one of them.
-use flash::Erasing;
 ghost use mathlib.Core.Path.{_≡_};
 ghost use Prim.Native.Nat.{_%_};
 ghost use lib.ListN.{getD};
@@ -7,11 +6,15 @@ ghost use Rattle.fcs.specs.Fcs.{fcsOf};
 ghost use Rattle.image.specs.File.{fileEnd, lengthOr0};
 ghost use Rattle.flash.specs.Directory.{directoryOf};
 ghost use Rattle.flash.specs.declared.Erasing;
+ghost use Rattle.memory.specs.Command.{dataWords, readOf, writeOf};
 ghost use Rattle.perf.specs.Group.{takenBehind, endedBehind};
+use flash::Erasing;
 use group::Built;
 use group::Heard;
 use group::Tally;
 use image::End;
+use image::Memory;
+use memory::Answer;
 
 #[no_mangle]
 pub extern "C" fn perf_fcs(words: &[u16]) -> u16
@@ -80,4 +83,26 @@ pub extern "C" fn perf_finish(reply: &mut [u16], built: usize, own: u16) -> usiz
     };
     let sent = group::ending::finish(reply, all, own);
     sent.words
+}
+
+// A DM Read; the words of its answer, or 0.
+#[no_mangle]
+pub extern "C" fn perf_read_dm(dm: &[u16], first: u16, second: u16, reply: &mut [u16]) -> usize
+    ensures { λ r. ⌜ now (reply .exit) ≡ readOf Memory.Dm (now (dm .entry)) first second (now (reply .entry)) .reply ⌝ }
+    ensures { λ r. ⌜ r ≡ dataWords (readOf Memory.Dm (now (dm .entry)) first second (now (reply .entry)) .answer) ⌝ }
+{
+    let answer = memory::read_dm(dm, first, second, reply);
+    match answer {
+        Answer::Words(words) => words,
+        Answer::Abort => 0,
+    }
+}
+
+// A DM Write; whether it was done.
+#[no_mangle]
+pub extern "C" fn perf_write_dm(dm: &mut [u16], segment: &[u16]) -> bool
+    ensures { λ r. ⌜ now (dm .exit) ≡ writeOf Memory.Dm (now (dm .entry)) (now (segment .entry)) .after ⌝ }
+    ensures { λ r. ⌜ r ≡ writeOf Memory.Dm (now (dm .entry)) (now (segment .entry)) .done ⌝ }
+{
+    memory::write_dm(dm, segment)
 }

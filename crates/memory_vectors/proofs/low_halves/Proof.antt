@@ -1,4 +1,5 @@
--- `memory_vectors::low_halves` meets its contract: the run keeps its length. The measure is what is left to do. Assumes nothing.
+-- `memory_vectors::low_halves` meets its contract: the run keeps its length. The measure is what is left to do. Assumes
+-- nothing.
 use mathlib.Core.Path.{_≡_}
 use Prim.Native.Nat.{_≤_, _-_}
 use lib.ListN.{length}

@@ -1,4 +1,5 @@
--- `memory_vectors::main` meets its contract: every room keeps its length. The measure is how many turns are left. Assumes nothing.
+-- `memory_vectors::main` meets its contract: every room keeps its length. The measure is how many turns are left. Assumes
+-- nothing.
 use mathlib.Core.Path.{_≡_}
 use lib.ListN.{length}
 use borrow.Author.Needs.{needs}

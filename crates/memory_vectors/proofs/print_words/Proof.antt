@@ -1,5 +1,4 @@
 -- `memory_vectors::print_words` meets its contract. The measure is what is left of the words. Assumes nothing.
-use mathlib.Core.Path.{_≡_}
 use Prim.Native.Nat.{_≤_, _-_}
 use lib.ListN.{length}
 use borrow.Author.Needs.{needs}

@@ -1,4 +1,5 @@
--- `memory::files::all_fit` meets its contract. The loop's invariant: the segments left are valid, and whether they fit decides. The measure is how many are left. Assumes nothing.
+-- `memory::files::all_fit` meets its contract. The loop's invariant: the segments left are valid, and whether they fit
+-- decides. The measure is how many are left. Assumes nothing.
 use Prim.Native.Nat.{ℕ, _-_, _<_}
 use mathlib.Core.Path.{_≡_, refl, sym, ap, _∙_}
 use mathlib.Core.Bool.{true}

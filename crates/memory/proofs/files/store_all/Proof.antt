@@ -1,4 +1,5 @@
--- `memory::files::store_all` meets its contract. The loop's invariant: the segments left are valid and fit, and stored in the memories as they are they give what all of them give at the start. The measure is how many are left. Assumes nothing.
+-- `memory::files::store_all` meets its contract. The loop's invariant: the segments left are valid and fit, and stored in
+-- the memories as they are they give what all of them give at the start. The measure is how many are left. Assumes nothing.
 use Prim.Native.Nat.{ℕ, _-_, _<_}
 use mathlib.Core.Path.{_≡_, refl, sym, ap, _∙_}
 use mathlib.Core.Bool.{true, _&&_}

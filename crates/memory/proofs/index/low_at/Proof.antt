@@ -2,7 +2,6 @@
 use mathlib.Core.Path.{sym, ap, ap₂}
 use borrow.Author.Needs.{needs}
 use Rattle.image.specs.declared.Memory.{Memory}
-use Rattle.image.specs.declared.Page.{Page}
 use Rattle.memory.specs.Map.{lowAt}
 use Rattle.memory.proofs.index.low_at.Statement.{statement}
 use Rattle.memory.proofs.index.low_at.Tie as tie

@@ -1,4 +1,5 @@
--- `memory::registers::ids_ok` meets its contract. The loop's invariant: what is left of the pairs decides. The measure is what is left of the length. Assumes nothing.
+-- `memory::registers::ids_ok` meets its contract. The loop's invariant: what is left of the pairs decides. The measure is
+-- what is left of the length. Assumes nothing.
 use Prim.Native.Nat.{_+_, _-_, _%_, _≤_}
 use mathlib.Core.Path.{_≡_, refl, sym, _∙_}
 use mathlib.Core.Bool.{_&&_}

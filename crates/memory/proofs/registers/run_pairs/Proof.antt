@@ -1,4 +1,6 @@
--- `memory::registers::run_pairs` meets its contract. The loop's invariant: the pairs left, on the registers as they are, give what all of them give at the start, and their IDs are right. The measure is what is left of the length. Assumes nothing.
+-- `memory::registers::run_pairs` meets its contract. The loop's invariant: the pairs left, on the registers as they are,
+-- give what all of them give at the start, and their IDs are right. The measure is what is left of the length. Assumes
+-- nothing.
 use Prim.Native.Nat.{_-_, _≤_}
 use mathlib.Core.Path.{_≡_, refl, sym, _∙_}
 use mathlib.Core.Bool.{true}

@@ -1,4 +1,5 @@
--- `memory::runs::read_pm_run` meets its contract. The loop's invariant: the words of the run that are left, packed and laid into the reply as it is, give what all of them give at the start. The measure is how many are left. Assumes nothing.
+-- `memory::runs::read_pm_run` meets its contract. The loop's invariant: the words of the run that are left, packed and laid
+-- into the reply as it is, give what all of them give at the start. The measure is how many are left. Assumes nothing.
 use Prim.Native.Nat.{ℕ, _+_, _-_, _*_, _/_, _%_, _≤_}
 use mathlib.Core.Path.{_≡_, refl, sym, ap, ap₂, _∙_}
 use native.Mathlib.Omega.{arith}
@@ -10,7 +11,7 @@ use Rattle.image.specs.declared.Memory.{Memory}
 use Rattle.memory.specs.Map.{indexOf}
 use Rattle.memory.specs.Run.{runOf, wordsAt}
 use Rattle.memory.proofs.Packed.{word-read}
-use Rattle.memory.proofs.Run.{length-run-words, fits-tells, fits-at}
+use Rattle.memory.proofs.Run.{length-run-words, run-at}
 use borrow.Author.Needs.{needs}
 use Rattle.memory.proofs.runs.read_pm_run.Statement.{statement}
 use Rattle.memory.proofs.runs.read_pm_run.Tie as tie
@@ -30,79 +31,53 @@ loop-holds c = (omega arith, refl, omega (arith, c .before .before .pre .1), ref
 
 add-loop : tie.Need-add-loop Inv-loop μ-loop
 add-loop c =
-    let a = c .before .before .before .args in
-    let l = c .loop in
-    let ends = fits-tells (length (a .pm .now)) Memory.Pm (a .page) (a .address) (a .n) (c .before .before .before .pre .0) .ends in
-    omega arith
+    let r = run-at (length (c .before .before .before .args .pm .now)) Memory.Pm (c .before .before .before .args .page) (c .before .before .before .args .address) (c .before .before .before .args .n) (c .loop .i) (c .before .before .before .pre .0) in
+    omega (arith, r .ends)
 
 add-index-of : tie.Need-add-index-of Inv-loop μ-loop
 add-index-of c =
-    let a = c .before .before .before .before .args in
-    let l = c .before .loop in
-    let ends = fits-tells (length (a .pm .now)) Memory.Pm (a .page) (a .address) (a .n) (c .before .before .before .before .pre .0) .ends in
-    omega arith
+    let r = run-at (length (c .before .before .before .before .args .pm .now)) Memory.Pm (c .before .before .before .before .args .page) (c .before .before .before .before .args .address) (c .before .before .before .before .args .n) (c .before .loop .i) (c .before .before .before .before .pre .0) in
+    omega (arith, r .ends)
 
 index-of-requires : tie.Need-index-of-requires Inv-loop μ-loop
 index-of-requires c κs =
-    let a = c .before .before .before .before .args in
-    let l = c .before .loop in
-    let ends = fits-tells (length (a .pm .now)) Memory.Pm (a .page) (a .address) (a .n) (c .before .before .before .before .pre .0) .ends in
-    omega arith
+    let r = run-at (length (c .before .before .before .before .args .pm .now)) Memory.Pm (c .before .before .before .before .args .page) (c .before .before .before .before .args .address) (c .before .before .before .before .args .n) (c .before .loop .i) (c .before .before .before .before .pre .0) in
+    omega (arith, r .ends)
 
 mul-a : tie.Need-mul-a Inv-loop μ-loop
 mul-a c =
-    let a = c .before .before .before .before .before .args in
-    let l = c .before .before .loop in
-    let ends = fits-tells (length (a .pm .now)) Memory.Pm (a .page) (a .address) (a .n) (c .before .before .before .before .before .pre .0) .ends in
-    let there = fits-at (length (a .pm .now)) Memory.Pm (a .page) (a .address) (a .n) (l .i) (c .before .before .before .before .before .pre .0) (omega arith) in
-    omega (arith, c .index-of .ensures)
+    let r = run-at (length (c .before .before .before .before .before .args .pm .now)) Memory.Pm (c .before .before .before .before .before .args .page) (c .before .before .before .before .before .args .address) (c .before .before .before .before .before .args .n) (c .before .before .loop .i) (c .before .before .before .before .before .pre .0) in
+    omega (arith, r .here (omega arith), c .index-of .ensures)
 
 shared-slice-read-a : tie.Need-shared-slice-read-a Inv-loop μ-loop
 shared-slice-read-a c =
-    let a = c .before .before .before .before .before .before .args in
-    let l = c .before .before .before .loop in
-    let ends = fits-tells (length (a .pm .now)) Memory.Pm (a .page) (a .address) (a .n) (c .before .before .before .before .before .before .pre .0) .ends in
-    let there = fits-at (length (a .pm .now)) Memory.Pm (a .page) (a .address) (a .n) (l .i) (c .before .before .before .before .before .before .pre .0) (omega arith) in
-    omega (arith, c .before .index-of .ensures)
+    let r = run-at (length (c .before .before .before .before .before .before .args .pm .now)) Memory.Pm (c .before .before .before .before .before .before .args .page) (c .before .before .before .before .before .before .args .address) (c .before .before .before .before .before .before .args .n) (c .before .before .before .loop .i) (c .before .before .before .before .before .before .pre .0) in
+    omega (arith, r .here (omega arith), c .before .index-of .ensures)
 
 add-index-of-2 : tie.Need-add-index-of-2 Inv-loop μ-loop
 add-index-of-2 c =
-    let a = c .before .before .before .before .before .before .args in
-    let l = c .before .before .before .loop in
-    let ends = fits-tells (length (a .pm .now)) Memory.Pm (a .page) (a .address) (a .n) (c .before .before .before .before .before .before .pre .0) .ends in
-    omega arith
+    let r = run-at (length (c .before .before .before .before .before .before .args .pm .now)) Memory.Pm (c .before .before .before .before .before .before .args .page) (c .before .before .before .before .before .before .args .address) (c .before .before .before .before .before .before .args .n) (c .before .before .before .loop .i) (c .before .before .before .before .before .before .pre .0) in
+    omega (arith, r .ends)
 
 add-index-of-3 : tie.Need-add-index-of-3 Inv-loop μ-loop
 add-index-of-3 c =
-    let a = c .before .before .before .before .before .before .args in
-    let l = c .before .before .before .loop in
-    let ends = fits-tells (length (a .pm .now)) Memory.Pm (a .page) (a .address) (a .n) (c .before .before .before .before .before .before .pre .0) .ends in
-    omega arith
+    let r = run-at (length (c .before .before .before .before .before .before .args .pm .now)) Memory.Pm (c .before .before .before .before .before .before .args .page) (c .before .before .before .before .before .before .args .address) (c .before .before .before .before .before .before .args .n) (c .before .before .before .loop .i) (c .before .before .before .before .before .before .pre .0) in
+    omega (arith, r .ends)
 
 index-of-requires-2 : tie.Need-index-of-requires-2 Inv-loop μ-loop
 index-of-requires-2 c κs =
-    let a = c .before .before .before .before .before .before .args in
-    let l = c .before .before .before .loop in
-    let ends = fits-tells (length (a .pm .now)) Memory.Pm (a .page) (a .address) (a .n) (c .before .before .before .before .before .before .pre .0) .ends in
-    omega arith
+    let r = run-at (length (c .before .before .before .before .before .before .args .pm .now)) Memory.Pm (c .before .before .before .before .before .before .args .page) (c .before .before .before .before .before .before .args .address) (c .before .before .before .before .before .before .args .n) (c .before .before .before .loop .i) (c .before .before .before .before .before .before .pre .0) in
+    omega (arith, r .ends)
 
 mul-b : tie.Need-mul-b Inv-loop μ-loop
 mul-b c =
-    let a = c .before .before .before .before .before .before .before .args in
-    let l = c .before .before .before .before .loop in
-    let ends = fits-tells (length (a .pm .now)) Memory.Pm (a .page) (a .address) (a .n) (c .before .before .before .before .before .before .before .pre .0) .ends in
-    let d : a .address + (l .i + 1) ≡ a .address + l .i + 1 = omega arith in
-    let there = rw d at (fits-at (length (a .pm .now)) Memory.Pm (a .page) (a .address) (a .n) (l .i + 1) (c .before .before .before .before .before .before .before .pre .0) (omega arith)) in
-    omega (arith, c .index-of2 .ensures)
+    let r = run-at (length (c .before .before .before .before .before .before .before .args .pm .now)) Memory.Pm (c .before .before .before .before .before .before .before .args .page) (c .before .before .before .before .before .before .before .args .address) (c .before .before .before .before .before .before .before .args .n) (c .before .before .before .before .loop .i) (c .before .before .before .before .before .before .before .pre .0) in
+    omega (arith, r .next (omega arith), c .index-of2 .ensures)
 
 shared-slice-read-b : tie.Need-shared-slice-read-b Inv-loop μ-loop
 shared-slice-read-b c =
-    let a = c .before .before .before .before .before .before .before .before .args in
-    let l = c .before .before .before .before .before .loop in
-    let ends = fits-tells (length (a .pm .now)) Memory.Pm (a .page) (a .address) (a .n) (c .before .before .before .before .before .before .before .before .pre .0) .ends in
-    let d : a .address + (l .i + 1) ≡ a .address + l .i + 1 = omega arith in
-    let there = rw d at (fits-at (length (a .pm .now)) Memory.Pm (a .page) (a .address) (a .n) (l .i + 1) (c .before .before .before .before .before .before .before .before .pre .0) (omega arith)) in
-    omega (arith, c .before .index-of2 .ensures)
+    let r = run-at (length (c .before .before .before .before .before .before .before .before .args .pm .now)) Memory.Pm (c .before .before .before .before .before .before .before .before .args .page) (c .before .before .before .before .before .before .before .before .args .address) (c .before .before .before .before .before .before .before .before .args .n) (c .before .before .before .before .before .loop .i) (c .before .before .before .before .before .before .before .before .pre .0) in
+    omega (arith, r .next (omega arith), c .before .index-of2 .ensures)
 
 first-of-requires : tie.Need-first-of-requires Inv-loop μ-loop
 first-of-requires c κs = search needs
@@ -180,33 +155,23 @@ returns c =
 
 add-index-of-4 : tie.Need-add-index-of-4 Inv-loop μ-loop
 add-index-of-4 c =
-    let a = c .before .before .before .before .before .args in
-    let l = c .before .before .loop in
-    let ends = fits-tells (length (a .pm .now)) Memory.Pm (a .page) (a .address) (a .n) (c .before .before .before .before .before .pre .0) .ends in
-    omega arith
+    let r = run-at (length (c .before .before .before .before .before .args .pm .now)) Memory.Pm (c .before .before .before .before .before .args .page) (c .before .before .before .before .before .args .address) (c .before .before .before .before .before .args .n) (c .before .before .loop .i) (c .before .before .before .before .before .pre .0) in
+    omega (arith, r .ends)
 
 index-of-requires-3 : tie.Need-index-of-requires-3 Inv-loop μ-loop
 index-of-requires-3 c κs =
-    let a = c .before .before .before .before .before .args in
-    let l = c .before .before .loop in
-    let ends = fits-tells (length (a .pm .now)) Memory.Pm (a .page) (a .address) (a .n) (c .before .before .before .before .before .pre .0) .ends in
-    omega arith
+    let r = run-at (length (c .before .before .before .before .before .args .pm .now)) Memory.Pm (c .before .before .before .before .before .args .page) (c .before .before .before .before .before .args .address) (c .before .before .before .before .before .args .n) (c .before .before .loop .i) (c .before .before .before .before .before .pre .0) in
+    omega (arith, r .ends)
 
 mul-a-2 : tie.Need-mul-a-2 Inv-loop μ-loop
 mul-a-2 c =
-    let a = c .before .before .before .before .before .before .args in
-    let l = c .before .before .before .loop in
-    let ends = fits-tells (length (a .pm .now)) Memory.Pm (a .page) (a .address) (a .n) (c .before .before .before .before .before .before .pre .0) .ends in
-    let there = fits-at (length (a .pm .now)) Memory.Pm (a .page) (a .address) (a .n) (l .i) (c .before .before .before .before .before .before .pre .0) (omega arith) in
-    omega (arith, c .index-of3 .ensures)
+    let r = run-at (length (c .before .before .before .before .before .before .args .pm .now)) Memory.Pm (c .before .before .before .before .before .before .args .page) (c .before .before .before .before .before .before .args .address) (c .before .before .before .before .before .before .args .n) (c .before .before .before .loop .i) (c .before .before .before .before .before .before .pre .0) in
+    omega (arith, r .here (omega arith), c .index-of3 .ensures)
 
 shared-slice-read-a-2 : tie.Need-shared-slice-read-a-2 Inv-loop μ-loop
 shared-slice-read-a-2 c =
-    let a = c .before .before .before .before .before .before .before .args in
-    let l = c .before .before .before .before .loop in
-    let ends = fits-tells (length (a .pm .now)) Memory.Pm (a .page) (a .address) (a .n) (c .before .before .before .before .before .before .before .pre .0) .ends in
-    let there = fits-at (length (a .pm .now)) Memory.Pm (a .page) (a .address) (a .n) (l .i) (c .before .before .before .before .before .before .before .pre .0) (omega arith) in
-    omega (arith, c .before .index-of3 .ensures)
+    let r = run-at (length (c .before .before .before .before .before .before .before .args .pm .now)) Memory.Pm (c .before .before .before .before .before .before .before .args .page) (c .before .before .before .before .before .before .before .args .address) (c .before .before .before .before .before .before .before .args .n) (c .before .before .before .before .loop .i) (c .before .before .before .before .before .before .before .pre .0) in
+    omega (arith, r .here (omega arith), c .before .index-of3 .ensures)
 
 first-of-requires-2 : tie.Need-first-of-requires-2 Inv-loop μ-loop
 first-of-requires-2 c κs = search needs

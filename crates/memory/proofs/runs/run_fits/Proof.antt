@@ -1,4 +1,5 @@
--- `memory::runs::run_fits` meets its contract: the tests are the definition's, the last one made of each of the run's two stretches. Assumes nothing.
+-- `memory::runs::run_fits` meets its contract: the tests are the definition's, the last one made of each of the run's two
+-- stretches. Assumes nothing.
 use Prim.Native.Nat.{ℕ, _+_, _-_}
 use mathlib.Core.Path.{_≡_, sym, ap, _∙_}
 use mathlib.Core.Bool.{true, false}

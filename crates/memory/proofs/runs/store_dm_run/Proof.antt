@@ -1,4 +1,5 @@
--- `memory::runs::store_dm_run` meets its contract: the run is two stretches, and a part of the words is copied to each. Assumes nothing.
+-- `memory::runs::store_dm_run` meets its contract: the run is two stretches, and a part of the words is copied to each.
+-- Assumes nothing.
 use Prim.Native.Nat.{ℕ, _+_, _-_}
 use mathlib.Core.Path.{_≡_, refl, sym, ap, ap₂, _∙_}
 use mathlib.Core.List.{List}

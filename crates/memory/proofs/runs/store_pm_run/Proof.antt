@@ -1,4 +1,5 @@
--- `memory::runs::store_pm_run` meets its contract. The loop's invariant: the words left in the body, stored in what is left of the run, give what all of them give at the start. The measure is how many are left. Assumes nothing.
+-- `memory::runs::store_pm_run` meets its contract. The loop's invariant: the words left in the body, stored in what is left
+-- of the run, give what all of them give at the start. The measure is how many are left. Assumes nothing.
 use Prim.Native.Nat.{_+_, _-_, _*_, _/_, _≤_}
 use mathlib.Core.Path.{_≡_, refl, sym, _∙_}
 use native.Mathlib.Omega.{arith}
@@ -7,7 +8,7 @@ use Rattle.image.specs.Packing.{unpacked}
 use Rattle.image.specs.declared.Memory.{Memory}
 use Rattle.memory.specs.Run.{runOf, putAt}
 use Rattle.memory.proofs.Packed.{put-packed-two, put-packed-last, put-packed-none}
-use Rattle.memory.proofs.Run.{fits-tells, fits-at}
+use Rattle.memory.proofs.Run.{run-at}
 use borrow.Author.Needs.{needs}
 use Rattle.memory.proofs.runs.store_pm_run.Statement.{statement}
 use Rattle.memory.proofs.runs.store_pm_run.Tie as tie
@@ -31,10 +32,8 @@ loop-holds c =
 
 add-loop : tie.Need-add-loop Inv-loop μ-loop
 add-loop c =
-    let a = c .before .before .before .args in
-    let l = c .loop in
-    let ends = fits-tells (length (a .pm .now)) Memory.Pm (a .page) (a .address) (a .n) (c .before .before .before .pre .0) .ends in
-    omega arith
+    let r = run-at (length (c .before .before .before .args .pm .now)) Memory.Pm (c .before .before .before .args .page) (c .before .before .before .args .address) (c .before .before .before .args .n) (c .loop .i) (c .before .before .before .pre .0) in
+    omega (arith, r .ends)
 
 add-y : tie.Need-add-y Inv-loop μ-loop
 add-y c = search needs
@@ -56,33 +55,23 @@ high-of-requires c κs = search needs
 
 add-index-of : tie.Need-add-index-of Inv-loop μ-loop
 add-index-of c =
-    let a = c .before .before .before .before .before .before .before .args in
-    let l = c .before .before .before .before .loop in
-    let ends = fits-tells (length (a .pm .now)) Memory.Pm (a .page) (a .address) (a .n) (c .before .before .before .before .before .before .before .pre .0) .ends in
-    omega arith
+    let r = run-at (length (c .before .before .before .before .before .before .before .args .pm .now)) Memory.Pm (c .before .before .before .before .before .before .before .args .page) (c .before .before .before .before .before .before .before .args .address) (c .before .before .before .before .before .before .before .args .n) (c .before .before .before .before .loop .i) (c .before .before .before .before .before .before .before .pre .0) in
+    omega (arith, r .ends)
 
 index-of-requires : tie.Need-index-of-requires Inv-loop μ-loop
 index-of-requires c κs =
-    let a = c .before .before .before .before .before .before .before .args in
-    let l = c .before .before .before .before .loop in
-    let ends = fits-tells (length (a .pm .now)) Memory.Pm (a .page) (a .address) (a .n) (c .before .before .before .before .before .before .before .pre .0) .ends in
-    omega arith
+    let r = run-at (length (c .before .before .before .before .before .before .before .args .pm .now)) Memory.Pm (c .before .before .before .before .before .before .before .args .page) (c .before .before .before .before .before .before .before .args .address) (c .before .before .before .before .before .before .before .args .n) (c .before .before .before .before .loop .i) (c .before .before .before .before .before .before .before .pre .0) in
+    omega (arith, r .ends)
 
 mul-pm : tie.Need-mul-pm Inv-loop μ-loop
 mul-pm c =
-    let a = c .before .before .before .before .before .before .before .before .args in
-    let l = c .before .before .before .before .before .loop in
-    let ends = fits-tells (length (a .pm .now)) Memory.Pm (a .page) (a .address) (a .n) (c .before .before .before .before .before .before .before .before .pre .0) .ends in
-    let there = fits-at (length (a .pm .now)) Memory.Pm (a .page) (a .address) (a .n) (l .i) (c .before .before .before .before .before .before .before .before .pre .0) (omega arith) in
-    omega (arith, c .index-of .ensures)
+    let r = run-at (length (c .before .before .before .before .before .before .before .before .args .pm .now)) Memory.Pm (c .before .before .before .before .before .before .before .before .args .page) (c .before .before .before .before .before .before .before .before .args .address) (c .before .before .before .before .before .before .before .before .args .n) (c .before .before .before .before .before .loop .i) (c .before .before .before .before .before .before .before .before .pre .0) in
+    omega (arith, r .here (omega arith), c .index-of .ensures)
 
 slice-write-pm : tie.Need-slice-write-pm Inv-loop μ-loop
 slice-write-pm c =
-    let a = c .before .before .before .before .before .before .before .before .args in
-    let l = c .before .before .before .before .before .loop in
-    let ends = fits-tells (length (a .pm .now)) Memory.Pm (a .page) (a .address) (a .n) (c .before .before .before .before .before .before .before .before .pre .0) .ends in
-    let there = fits-at (length (a .pm .now)) Memory.Pm (a .page) (a .address) (a .n) (l .i) (c .before .before .before .before .before .before .before .before .pre .0) (omega arith) in
-    omega (arith, c .index-of .ensures)
+    let r = run-at (length (c .before .before .before .before .before .before .before .before .args .pm .now)) Memory.Pm (c .before .before .before .before .before .before .before .before .args .page) (c .before .before .before .before .before .before .before .before .args .address) (c .before .before .before .before .before .before .before .before .args .n) (c .before .before .before .before .before .loop .i) (c .before .before .before .before .before .before .before .before .pre .0) in
+    omega (arith, r .here (omega arith), c .index-of .ensures)
 
 add-low-of : tie.Need-add-low-of Inv-loop μ-loop
 add-low-of c = search needs
@@ -98,42 +87,28 @@ low-of-requires c κs = search needs
 
 add-index-of-2 : tie.Need-add-index-of-2 Inv-loop μ-loop
 add-index-of-2 c =
-    let a = c .before .before .before .before .before .before .before .before .before .before .args in
-    let l = c .before .before .before .before .before .before .before .loop in
-    let ends = fits-tells (length (a .pm .now)) Memory.Pm (a .page) (a .address) (a .n) (c .before .before .before .before .before .before .before .before .before .before .pre .0) .ends in
-    omega arith
+    let r = run-at (length (c .before .before .before .before .before .before .before .before .before .before .args .pm .now)) Memory.Pm (c .before .before .before .before .before .before .before .before .before .before .args .page) (c .before .before .before .before .before .before .before .before .before .before .args .address) (c .before .before .before .before .before .before .before .before .before .before .args .n) (c .before .before .before .before .before .before .before .loop .i) (c .before .before .before .before .before .before .before .before .before .before .pre .0) in
+    omega (arith, r .ends)
 
 add-index-of-3 : tie.Need-add-index-of-3 Inv-loop μ-loop
 add-index-of-3 c =
-    let a = c .before .before .before .before .before .before .before .before .before .before .args in
-    let l = c .before .before .before .before .before .before .before .loop in
-    let ends = fits-tells (length (a .pm .now)) Memory.Pm (a .page) (a .address) (a .n) (c .before .before .before .before .before .before .before .before .before .before .pre .0) .ends in
-    omega arith
+    let r = run-at (length (c .before .before .before .before .before .before .before .before .before .before .args .pm .now)) Memory.Pm (c .before .before .before .before .before .before .before .before .before .before .args .page) (c .before .before .before .before .before .before .before .before .before .before .args .address) (c .before .before .before .before .before .before .before .before .before .before .args .n) (c .before .before .before .before .before .before .before .loop .i) (c .before .before .before .before .before .before .before .before .before .before .pre .0) in
+    omega (arith, r .ends)
 
 index-of-requires-2 : tie.Need-index-of-requires-2 Inv-loop μ-loop
 index-of-requires-2 c κs =
-    let a = c .before .before .before .before .before .before .before .before .before .before .args in
-    let l = c .before .before .before .before .before .before .before .loop in
-    let ends = fits-tells (length (a .pm .now)) Memory.Pm (a .page) (a .address) (a .n) (c .before .before .before .before .before .before .before .before .before .before .pre .0) .ends in
-    omega arith
+    let r = run-at (length (c .before .before .before .before .before .before .before .before .before .before .args .pm .now)) Memory.Pm (c .before .before .before .before .before .before .before .before .before .before .args .page) (c .before .before .before .before .before .before .before .before .before .before .args .address) (c .before .before .before .before .before .before .before .before .before .before .args .n) (c .before .before .before .before .before .before .before .loop .i) (c .before .before .before .before .before .before .before .before .before .before .pre .0) in
+    omega (arith, r .ends)
 
 mul-pm-2 : tie.Need-mul-pm-2 Inv-loop μ-loop
 mul-pm-2 c =
-    let a = c .before .before .before .before .before .before .before .before .before .before .before .args in
-    let l = c .before .before .before .before .before .before .before .before .loop in
-    let ends = fits-tells (length (a .pm .now)) Memory.Pm (a .page) (a .address) (a .n) (c .before .before .before .before .before .before .before .before .before .before .before .pre .0) .ends in
-    let d : a .address + (l .i + 1) ≡ a .address + l .i + 1 = omega arith in
-    let there = rw d at (fits-at (length (a .pm .now)) Memory.Pm (a .page) (a .address) (a .n) (l .i + 1) (c .before .before .before .before .before .before .before .before .before .before .before .pre .0) (omega arith)) in
-    omega (arith, c .index-of2 .ensures)
+    let r = run-at (length (c .before .before .before .before .before .before .before .before .before .before .before .args .pm .now)) Memory.Pm (c .before .before .before .before .before .before .before .before .before .before .before .args .page) (c .before .before .before .before .before .before .before .before .before .before .before .args .address) (c .before .before .before .before .before .before .before .before .before .before .before .args .n) (c .before .before .before .before .before .before .before .before .loop .i) (c .before .before .before .before .before .before .before .before .before .before .before .pre .0) in
+    omega (arith, r .next (omega arith), c .index-of2 .ensures)
 
 slice-write-pm-2 : tie.Need-slice-write-pm-2 Inv-loop μ-loop
 slice-write-pm-2 c =
-    let a = c .before .before .before .before .before .before .before .before .before .before .before .args in
-    let l = c .before .before .before .before .before .before .before .before .loop in
-    let ends = fits-tells (length (a .pm .now)) Memory.Pm (a .page) (a .address) (a .n) (c .before .before .before .before .before .before .before .before .before .before .before .pre .0) .ends in
-    let d : a .address + (l .i + 1) ≡ a .address + l .i + 1 = omega arith in
-    let there = rw d at (fits-at (length (a .pm .now)) Memory.Pm (a .page) (a .address) (a .n) (l .i + 1) (c .before .before .before .before .before .before .before .before .before .before .before .pre .0) (omega arith)) in
-    simp length-set (omega (arith, c .index-of2 .ensures))
+    let r = run-at (length (c .before .before .before .before .before .before .before .before .before .before .before .args .pm .now)) Memory.Pm (c .before .before .before .before .before .before .before .before .before .before .before .args .page) (c .before .before .before .before .before .before .before .before .before .before .before .args .address) (c .before .before .before .before .before .before .before .before .before .before .before .args .n) (c .before .before .before .before .before .before .before .before .loop .i) (c .before .before .before .before .before .before .before .before .before .before .before .pre .0) in
+    simp length-set (omega (arith, r .next (omega arith), c .index-of2 .ensures))
 
 add-i : tie.Need-add-i Inv-loop μ-loop
 add-i c = search needs
@@ -184,33 +159,23 @@ high-of-requires-2 c κs = search needs
 
 add-index-of-4 : tie.Need-add-index-of-4 Inv-loop μ-loop
 add-index-of-4 c =
-    let a = c .before .before .before .before .before .before .before .before .args in
-    let l = c .before .before .before .before .before .loop in
-    let ends = fits-tells (length (a .pm .now)) Memory.Pm (a .page) (a .address) (a .n) (c .before .before .before .before .before .before .before .before .pre .0) .ends in
-    omega arith
+    let r = run-at (length (c .before .before .before .before .before .before .before .before .args .pm .now)) Memory.Pm (c .before .before .before .before .before .before .before .before .args .page) (c .before .before .before .before .before .before .before .before .args .address) (c .before .before .before .before .before .before .before .before .args .n) (c .before .before .before .before .before .loop .i) (c .before .before .before .before .before .before .before .before .pre .0) in
+    omega (arith, r .ends)
 
 index-of-requires-3 : tie.Need-index-of-requires-3 Inv-loop μ-loop
 index-of-requires-3 c κs =
-    let a = c .before .before .before .before .before .before .before .before .args in
-    let l = c .before .before .before .before .before .loop in
-    let ends = fits-tells (length (a .pm .now)) Memory.Pm (a .page) (a .address) (a .n) (c .before .before .before .before .before .before .before .before .pre .0) .ends in
-    omega arith
+    let r = run-at (length (c .before .before .before .before .before .before .before .before .args .pm .now)) Memory.Pm (c .before .before .before .before .before .before .before .before .args .page) (c .before .before .before .before .before .before .before .before .args .address) (c .before .before .before .before .before .before .before .before .args .n) (c .before .before .before .before .before .loop .i) (c .before .before .before .before .before .before .before .before .pre .0) in
+    omega (arith, r .ends)
 
 mul-pm-3 : tie.Need-mul-pm-3 Inv-loop μ-loop
 mul-pm-3 c =
-    let a = c .before .before .before .before .before .before .before .before .before .args in
-    let l = c .before .before .before .before .before .before .loop in
-    let ends = fits-tells (length (a .pm .now)) Memory.Pm (a .page) (a .address) (a .n) (c .before .before .before .before .before .before .before .before .before .pre .0) .ends in
-    let there = fits-at (length (a .pm .now)) Memory.Pm (a .page) (a .address) (a .n) (l .i) (c .before .before .before .before .before .before .before .before .before .pre .0) (omega arith) in
-    omega (arith, c .index-of3 .ensures)
+    let r = run-at (length (c .before .before .before .before .before .before .before .before .before .args .pm .now)) Memory.Pm (c .before .before .before .before .before .before .before .before .before .args .page) (c .before .before .before .before .before .before .before .before .before .args .address) (c .before .before .before .before .before .before .before .before .before .args .n) (c .before .before .before .before .before .before .loop .i) (c .before .before .before .before .before .before .before .before .before .pre .0) in
+    omega (arith, r .here (omega arith), c .index-of3 .ensures)
 
 slice-write-pm-3 : tie.Need-slice-write-pm-3 Inv-loop μ-loop
 slice-write-pm-3 c =
-    let a = c .before .before .before .before .before .before .before .before .before .args in
-    let l = c .before .before .before .before .before .before .loop in
-    let ends = fits-tells (length (a .pm .now)) Memory.Pm (a .page) (a .address) (a .n) (c .before .before .before .before .before .before .before .before .before .pre .0) .ends in
-    let there = fits-at (length (a .pm .now)) Memory.Pm (a .page) (a .address) (a .n) (l .i) (c .before .before .before .before .before .before .before .before .before .pre .0) (omega arith) in
-    omega (arith, c .index-of3 .ensures)
+    let r = run-at (length (c .before .before .before .before .before .before .before .before .before .args .pm .now)) Memory.Pm (c .before .before .before .before .before .before .before .before .before .args .page) (c .before .before .before .before .before .before .before .before .before .args .address) (c .before .before .before .before .before .before .before .before .before .args .n) (c .before .before .before .before .before .before .loop .i) (c .before .before .before .before .before .before .before .before .before .pre .0) in
+    omega (arith, r .here (omega arith), c .index-of3 .ensures)
 
 same-length-2 : tie.Need-same-length-2 Inv-loop μ-loop
 same-length-2 c = simp length-set (c .before .before .before .before .before .before .loop .inv .1)
