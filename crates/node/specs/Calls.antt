@@ -1,7 +1,7 @@
 -- The five calls. Each is refused by the first cause that holds, and then nothing changes; or taken. 01 'Covered', 'Call refusals',
 -- 'Requests' and 'State and status reply'. Assumes nothing.
 use Prim.Native.Nat.{ℕ, _*_, _/_, _%_}
-use mathlib.Core.Bool.{Bool}
+use mathlib.Core.Bool.{Bool, true, false}
 use mathlib.Core.List.{List, []}
 use lib.ListN.{length, replicate}
 use lib.Dec.{eqb}

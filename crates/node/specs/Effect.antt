@@ -1,15 +1,15 @@
 -- What a call does, as values: its answer, what it changes of flash, memories and settings, the errors it counts. A command that does
 -- not name a change does not make it. Assumes nothing.
-use Prim.Native.Nat.{ℕ, _+_, _/_}
+use Prim.Native.Nat.{ℕ, _+_}
 use mathlib.Core.Path.{_≡_}
 use mathlib.Core.Bool.{Bool, true, false}
-use mathlib.Core.List.{List, [], _∷_, _++_}
+use mathlib.Core.List.{List, [], _++_}
 use lib.ListN.{length, set}
-use lib.Dec.{leb, eqb}
+use lib.Dec.{eqb}
 use Rattle.base.specs.Pick.{pick}
 use Rattle.base.specs.Words.{laid}
 use Rattle.flash.specs.Geometry.{unitOf}
-use Rattle.flash.specs.Directory.{entered, refreshed}
+use Rattle.flash.specs.Directory.{refreshed}
 use Rattle.flash.specs.Change.{stored, headed, erased, eraseCount, erasingAfter}
 use Rattle.flash.specs.Status.{progress}
 use Rattle.flash.specs.declared.Erasing.{Erasing}

@@ -8,7 +8,7 @@ use Rattle.base.specs.Pick.{pick}
 use Rattle.image.specs.declared.Memory.{Memory}
 use Rattle.group.specs.declared.ZeroLength.{ZeroLength}
 use Rattle.memory.specs.Command.{readable, readAnswer, writable, performable, performAnswer}
-use Rattle.node.specs.Effect.{Did, did, says, stores, answers, Change, Setup, Store}
+use Rattle.node.specs.Effect.{Did, did, says, stores, answers, Store}
 
 -- The words of a read reply before status and FCS: any reply above 12,288 words is ABORT.
 abbrev pub dataRoom : ℕ

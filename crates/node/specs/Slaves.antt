@@ -14,7 +14,7 @@ use Rattle.group.specs.declared.Built.{Built}
 use Rattle.group.specs.declared.Heard.{Heard}
 use Rattle.group.specs.declared.Next.{Next}
 use Rattle.node.specs.Route.{asking}
-use Rattle.node.specs.Effect.{Effect, effect, only, Change, Store, Setup}
+use Rattle.node.specs.Effect.{Effect, effect, only}
 use Rattle.node.specs.Settings.{statusIn}
 use Rattle.node.specs.declared.Answer.{Answer}
 use Rattle.node.specs.declared.Ask.{Ask}

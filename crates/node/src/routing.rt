@@ -65,7 +65,7 @@ fn mask_at(masks: &[u32], id: u16) -> u32
 }
 
 // A word of a packet; 0 where it has none.
-pub fn word_at(packet: &[u16], at: usize) -> u16
+fn word_at(packet: &[u16], at: usize) -> u16
     ensures { λ r. ⌜ r ≡ getD (now (packet .entry)) at 0 ⌝ }
 {
     if packet.len() <= at {

@@ -1,98 +1,70 @@
-use mathlib.Core.Path.{_≡_, refl, sym, ap, ap₂, _∙_}
-use mathlib.Core.Bool.{Bool, true, false, _&&_, _||_, not}
-use Prim.Native.Nat.{ℕ, _+_, _*_, _/_, _%_, _^_, _≤_}
-use native.Mathlib.Omega.{arith}
-use lib.Dec.{ltb, leb, eqb}
-use lib.ListN.{length, getD, drop, List·getD-eq-default}
-use borrow.Author.Tests.{eq-eqb, ne-eqb, le-leb, lt-leb, lt-ltb, le-ltb, not-true, not-false}
-use Rattle.base.proofs.Pick.{yes, no, via}
-use Rattle.node.specs.Route.{addressed, grouped, secondByte}
+-- `node::routing::address` meets its contract: one step for each test of the first byte. Assumes nothing.
+use mathlib.Core.Path.{refl, sym, ap, _∙_}
+use borrow.Author.Tests.{eq-eqb, ne-eqb, le-leb, lt-leb}
+use Rattle.base.proofs.Pick.{yes, no}
+use Rattle.node.specs.Route.{addressed, grouped}
 use borrow.Author.Needs.{needs}
 use Rattle.node.proofs.routing.address.Statement.{statement}
 use Rattle.node.proofs.routing.address.Tie as tie
-use Rattle.node.proofs.routing.address.Reads as reads
-use Rattle.node.proofs.routing.address.Lts as lts
-use Rattle.node.proofs.routing.forward.Reads as forward-reads
-use Rattle.node.proofs.routing.group_of.Reads as group-of-reads
-use Rattle.node.proofs.routing.mask_at.Reads as mask-at-reads
-use Rattle.node.proofs.routing.port_ok.Reads as port-ok-reads
 
--- src/routing.rt:84:9
 returns : tie.Need-returns
 unfolding addressed
 returns c = yes _ (eq-eqb _ _ (c .if1 .taken)) refl
 
--- src/routing.rt:87:12
 port-ok-requires : tie.Need-port-ok-requires
 port-ok-requires c κs = search needs
 
--- src/routing.rt:89:24
 cast-t12 : tie.Need-cast-t12
 cast-t12 c = search needs
 
--- src/routing.rt:92:13
 forward-requires : tie.Need-forward-requires
 forward-requires c κs = search needs
 
--- src/routing.rt:92:13
 returns-2 : tie.Need-returns-2
 unfolding addressed
 returns-2 c = no _ (ne-eqb _ _ (c .before .before .before .before .if1 .left)) (yes _ (le-leb _ _ (c .before .before .before .if2 .taken)) (yes _ (sym (c .before .before .port-ok .ensures) ∙ c .before .if3 .taken) (c .forward .ensures)))
 
--- src/routing.rt:94:9
 returns-3 : tie.Need-returns-3
 unfolding addressed
 returns-3 c = no _ (ne-eqb _ _ (c .before .before .before .if1 .left)) (yes _ (le-leb _ _ (c .before .before .if2 .taken)) (no _ (sym (c .before .port-ok .ensures) ∙ c .if3 .left) refl))
 
--- src/routing.rt:98:45
 mask-at-requires : tie.Need-mask-at-requires
 mask-at-requires c κs = search needs
 
--- src/routing.rt:98:13
 group-of-requires : tie.Need-group-of-requires
 group-of-requires c κs = search needs
 
--- src/routing.rt:98:13
 returns-4 : tie.Need-returns-4
 unfolding addressed
 returns-4 c = no _ (ne-eqb _ _ (c .before .before .before .before .before .if1 .left)) (no _ (lt-leb _ _ (c .before .before .before .before .if2 .left)) (yes _ (eq-eqb _ _ (c .before .before .before .if4 .taken)) (yes _ (le-leb _ _ (c .before .before .if5 .taken)) (c .group-of .ensures ∙ ap (grouped (c .before .before .before .before .before .before .before .args .kind) (c .before .before .before .before .before .before .before .args .words) 1) (c .before .mask-at .ensures)))))
 
--- src/routing.rt:100:9
 returns-5 : tie.Need-returns-5
 unfolding addressed
 returns-5 c = no _ (ne-eqb _ _ (c .before .before .before .if1 .left)) (no _ (lt-leb _ _ (c .before .before .if2 .left)) (yes _ (eq-eqb _ _ (c .before .if4 .taken)) (no _ (lt-leb _ _ (c .if5 .left)) refl)))
 
--- src/routing.rt:103:41
 cast-group-of : tie.Need-cast-group-of
 cast-group-of c = search needs
 
--- src/routing.rt:103:55
 mul-group-of : tie.Need-mul-group-of
 mul-group-of c = search needs
 
--- src/routing.rt:103:41
 add-group-of : tie.Need-add-group-of
 add-group-of c = search needs
 
--- src/routing.rt:103:9
 group-of-requires-2 : tie.Need-group-of-requires-2
 group-of-requires-2 c κs = search needs
 
--- src/routing.rt:103:9
 returns-6 : tie.Need-returns-6
 unfolding addressed
 returns-6 c = no _ (ne-eqb _ _ (c .before .before .before .before .if1 .left)) (no _ (lt-leb _ _ (c .before .before .before .if2 .left)) (no _ (ne-eqb _ _ (c .before .before .if4 .left)) (yes _ (eq-eqb _ _ (c .before .if6 .taken)) (c .group-of2 .ensures))))
 
--- src/routing.rt:106:9
 group-of-requires-3 : tie.Need-group-of-requires-3
 group-of-requires-3 c κs = search needs
 
--- src/routing.rt:106:9
 returns-7 : tie.Need-returns-7
 unfolding addressed
 returns-7 c = no _ (ne-eqb _ _ (c .before .before .before .before .before .if1 .left)) (no _ (lt-leb _ _ (c .before .before .before .before .if2 .left)) (no _ (ne-eqb _ _ (c .before .before .before .if4 .left)) (no _ (ne-eqb _ _ (c .before .before .if6 .left)) (yes _ (eq-eqb _ _ (c .before .if7 .taken)) (c .group-of3 .ensures)))))
 
--- src/routing.rt:78:1
 returns-8 : tie.Need-returns-8
 unfolding addressed
 returns-8 c = no _ (ne-eqb _ _ (c .before .before .before .before .if1 .left)) (no _ (lt-leb _ _ (c .before .before .before .if2 .left)) (no _ (ne-eqb _ _ (c .before .before .if4 .left)) (no _ (ne-eqb _ _ (c .before .if6 .left)) (no _ (ne-eqb _ _ (c .if7 .left)) refl))))

@@ -1,62 +1,44 @@
-use mathlib.Core.Path.{_≡_, refl, sym, ap, ap₂, _∙_}
-use mathlib.Core.Bool.{Bool, true, false, _&&_, _||_, not}
-use Prim.Native.Nat.{ℕ, _+_, _*_, _/_, _%_, _^_, _≤_}
-use native.Mathlib.Omega.{arith}
-use lib.Dec.{ltb, leb, eqb}
-use lib.ListN.{length, getD, drop, List·getD-eq-default}
-use borrow.Author.Tests.{eq-eqb, ne-eqb, le-leb, lt-leb, lt-ltb, le-ltb, not-true, not-false}
-use Rattle.base.proofs.Pick.{yes, no, via}
+-- `node::routing::route_of` meets its contract: steps 1 to 3, then the first byte. Assumes nothing.
+use mathlib.Core.Path.{refl, sym, ap, _∙_}
+use lib.ListN.{length, getD}
+use borrow.Author.Tests.{eq-eqb, ne-eqb}
+use Rattle.base.proofs.Pick.{yes, no}
 use Rattle.node.specs.Route.{addressed, routeOf}
 use borrow.Author.Needs.{needs}
 use Rattle.node.proofs.routing.route_of.Statement.{statement}
 use Rattle.node.proofs.routing.route_of.Tie as tie
-use Rattle.node.proofs.routing.route_of.Reads as reads
-use Rattle.node.proofs.routing.route_of.Lts as lts
-use Rattle.node.proofs.routing.address.Reads as address-reads
-use Rattle.node.proofs.routing.drops_pending.Reads as drops-pending-reads
-use Rattle.node.proofs.routing.word_at.Reads as word-at-reads
 
--- src/routing.rt:120:9
 returns : tie.Need-returns
 unfolding routeOf
 returns c = yes _ (c .if1 .taken) refl
 
--- src/routing.rt:123:12
 drops-pending-requires : tie.Need-drops-pending-requires
 drops-pending-requires c κs = search needs
 
--- src/routing.rt:124:13
 returns-2 : tie.Need-returns-2
 unfolding routeOf
 returns-2 c = no _ (c .before .before .before .if1 .left) (yes _ (eq-eqb _ _ (c .before .before .if2 .taken)) (yes _ (sym (c .before .drops-pending .ensures) ∙ c .if3 .taken) refl))
 
--- src/routing.rt:126:9
 returns-3 : tie.Need-returns-3
 unfolding routeOf
 returns-3 c = no _ (c .before .before .before .if1 .left) (yes _ (eq-eqb _ _ (c .before .before .if2 .taken)) (no _ (sym (c .before .drops-pending .ensures) ∙ c .if3 .left) refl))
 
--- src/routing.rt:129:9
 returns-4 : tie.Need-returns-4
 unfolding routeOf
 returns-4 c = no _ (c .before .before .if1 .left) (no _ (ne-eqb _ _ (c .before .if2 .left)) (yes _ (c .if4 .taken) refl))
 
--- src/routing.rt:131:25
 slice-aggregate-address : tie.Need-slice-aggregate-address
 slice-aggregate-address c = search needs
 
--- src/routing.rt:131:40
 shared-slice-read-address : tie.Need-shared-slice-read-address
 shared-slice-read-address c = search needs
 
--- src/routing.rt:131:51
 word-at-requires : tie.Need-word-at-requires
 word-at-requires c κs = search needs
 
--- src/routing.rt:131:5
 address-requires : tie.Need-address-requires
 address-requires c κs = search needs
 
--- src/routing.rt:112:1
 returns-5 : tie.Need-returns-5
 unfolding routeOf
 returns-5 c = no _ (c .before .before .before .before .before .before .if1 .left) (no _ (ne-eqb _ _ (c .before .before .before .before .before .if2 .left)) (no _ (c .before .before .before .before .if4 .left) (c .address .ensures ∙ ap (addressed (c .before .before .before .before .before .before .before .before .before .before .args .node .given .kind) (c .before .before .before .before .before .before .before .before .before .before .args .node .masks) (length (c .before .before .before .before .before .before .before .before .before .before .args .packet .now)) (getD (c .before .before .before .before .before .before .before .before .before .before .args .packet .now) 0 0)) (c .before .word-at .ensures))))

@@ -1,11 +1,8 @@
-use mathlib.Core.Path.{_≡_, refl, sym, ap, ap₂, _∙_}
-use mathlib.Core.Bool.{Bool, true, false, _&&_, _||_, not}
-use Prim.Native.Nat.{ℕ, _+_, _*_, _/_, _%_, _^_, _≤_}
-use native.Mathlib.Omega.{arith}
-use lib.Dec.{ltb, leb, eqb}
-use lib.ListN.{length, getD, drop, List·getD-eq-default}
-use borrow.Author.Tests.{eq-eqb, ne-eqb, le-leb, lt-leb, lt-ltb, le-ltb, not-true, not-false}
-use Rattle.base.proofs.Pick.{yes, no, via}
+-- `node::valid::masks_ok` meets its contract. The loop's invariant: whether the masks from here on are of 24 bits says it of all. The
+-- measure is how many are left. Assumes nothing.
+use mathlib.Core.Path.{_≡_, sym, _∙_}
+use Prim.Native.Nat.{_≤_}
+use lib.ListN.{length, drop}
 use Rattle.node.proofs.States.{masks-turn, masks-stop, masks-end}
 use Prim.Native.Nat.{_≤_, _-_}
 use mathlib.Core.Path.{_≡_}
@@ -14,8 +11,6 @@ use borrow.Author.Needs.{needs}
 use Rattle.node.specs.Valid.{masksOk}
 use Rattle.node.proofs.valid.masks_ok.Statement.{statement}
 use Rattle.node.proofs.valid.masks_ok.Tie as tie
-use Rattle.node.proofs.valid.masks_ok.Reads as reads
-use Rattle.node.proofs.valid.masks_ok.Lts as lts
 
 abbrev Inv-loop : tie.InvT-loop
 Inv-loop masks i₀ i = (i ≤ length masks) × (masksOk masks ≡ masksOk (drop i masks))
@@ -23,35 +18,27 @@ Inv-loop masks i₀ i = (i ≤ length masks) × (masksOk masks ≡ masksOk (drop
 abbrev μ-loop : tie.MeasureT-loop
 μ-loop masks i₀ i = length masks - i
 
--- src/valid.rt:43:5
 loop-holds : tie.Need-loop-holds Inv-loop μ-loop
 loop-holds c = search needs
 
--- src/valid.rt:44:24
 mul-if1 : tie.Need-mul-if1 Inv-loop μ-loop
 mul-if1 c = search needs
 
--- src/valid.rt:44:24
 shared-slice-read-if1 : tie.Need-shared-slice-read-if1 Inv-loop μ-loop
 shared-slice-read-if1 c = search needs
 
--- src/valid.rt:45:13
 returns : tie.Need-returns Inv-loop μ-loop
 returns c = sym (c .before .before .before .loop .inv .1 ∙ masks-stop (c .before .before .before .before .args .masks .now) (c .before .before .before .loop .i) (c .before .before .loop-test .taken) (c .if1 .taken))
 
--- src/valid.rt:47:9
 add-i : tie.Need-add-i Inv-loop μ-loop
 add-i c = search needs
 
--- src/valid.rt:43:5
 loop-less : tie.Need-loop-less Inv-loop μ-loop
 loop-less c = search needs
 
--- src/valid.rt:43:5
 loop-again : tie.Need-loop-again Inv-loop μ-loop
 loop-again c = (search needs, c .before .before .before .loop .inv .1 ∙ masks-turn (c .before .before .before .before .args .masks .now) (c .before .before .before .loop .i) (c .before .before .loop-test .taken) (c .if1 .left))
 
--- src/valid.rt:39:1
 returns-2 : tie.Need-returns-2 Inv-loop μ-loop
 returns-2 c = sym (c .before .loop .inv .1 ∙ masks-end (c .before .before .args .masks .now) (c .before .loop .i) (c .loop-test .left))
 
