@@ -43,14 +43,14 @@ end-of-requires : tie.Need-end-of-requires Inv-loop μ-loop
 end-of-requires c κs =
     let file = c .before .before .before .before .before .args .file .now in
     let l = c .before .loop in
-    let h : 0 < l .untested = c .loop-test .taken in
+    let h : 0 < l .untested = omega arith in
     walk-here (l .untested) file (l .at) h (l .inv .0)
 
 mul-segment-fits : tie.Need-mul-segment-fits Inv-loop μ-loop
 mul-segment-fits c =
     let file = c .before .before .before .before .before .before .args .file .now in
     let l = c .before .before .loop in
-    let h : 0 < l .untested = c .before .loop-test .taken in
+    let h : 0 < l .untested = omega arith in
     let s = segment-tells file (l .at) (c .end-of .result) (c .end-of .ensures) in
     omega (arith, s .ends, s .fits, s .least)
 
@@ -58,7 +58,7 @@ sub-segment-fits : tie.Need-sub-segment-fits Inv-loop μ-loop
 sub-segment-fits c =
     let file = c .before .before .before .before .before .before .args .file .now in
     let l = c .before .before .loop in
-    let h : 0 < l .untested = c .before .loop-test .taken in
+    let h : 0 < l .untested = omega arith in
     let s = segment-tells file (l .at) (c .end-of .result) (c .end-of .ensures) in
     omega (arith, s .ends, s .fits, s .least)
 
@@ -66,7 +66,7 @@ part-segment-fits-start : tie.Need-part-segment-fits-start Inv-loop μ-loop
 part-segment-fits-start c =
     let file = c .before .before .before .before .before .before .args .file .now in
     let l = c .before .before .loop in
-    let h : 0 < l .untested = c .before .loop-test .taken in
+    let h : 0 < l .untested = omega arith in
     let s = segment-tells file (l .at) (c .end-of .result) (c .end-of .ensures) in
     omega (arith, s .ends, s .fits, s .least)
 
@@ -74,7 +74,7 @@ part-segment-fits-end : tie.Need-part-segment-fits-end Inv-loop μ-loop
 part-segment-fits-end c =
     let file = c .before .before .before .before .before .before .args .file .now in
     let l = c .before .before .loop in
-    let h : 0 < l .untested = c .before .loop-test .taken in
+    let h : 0 < l .untested = omega arith in
     let s = segment-tells file (l .at) (c .end-of .result) (c .end-of .ensures) in
     omega (arith, s .ends, s .fits, s .least)
 
@@ -82,7 +82,7 @@ segment-fits-requires : tie.Need-segment-fits-requires Inv-loop μ-loop
 segment-fits-requires c κs =
     let file = c .before .before .before .before .before .before .before .args .file .now in
     let l = c .before .before .before .loop in
-    let h : 0 < l .untested = c .before .before .loop-test .taken in
+    let h : 0 < l .untested = omega arith in
     segment-alone file (l .at) (c .before .end-of .result) (c .before .end-of .ensures)
 
 returns : tie.Need-returns Inv-loop μ-loop
@@ -90,7 +90,7 @@ unfolding allFit
 returns c =
     let file = c .before .before .before .before .before .before .before .before .before .args .file .now in
     let l = c .before .before .before .before .before .loop in
-    let h : 0 < l .untested = c .before .before .before .before .loop-test .taken in
+    let h : 0 < l .untested = omega arith in
     let turn = segments-turn (l .untested) file (l .at) (c .before .before .before .end-of .result) h (c .before .before .before .end-of .ensures) in
     and-no _ (sym (c .before .segment-fits .ensures) ∙ not-true _ (c .if1 .taken)) ∙ sym (l .inv .1 ∙ ap (allFit (c .before .before .before .before .before .before .before .before .before .args .pm) (c .before .before .before .before .before .before .before .before .before .args .dm) (c .before .before .before .before .before .before .before .before .before .args .io)) turn)
 
@@ -105,7 +105,7 @@ unfolding allFit
 loop-again c =
     let file = c .before .before .before .before .before .before .before .before .before .args .file .now in
     let l = c .before .before .before .before .before .loop in
-    let h : 0 < l .untested = c .before .before .before .before .loop-test .taken in
+    let h : 0 < l .untested = omega arith in
     let turn = segments-turn (l .untested) file (l .at) (c .before .before .before .end-of .result) h (c .before .before .before .end-of .ensures) in
     let rest = allFit (c .before .before .before .before .before .before .before .before .before .args .pm) (c .before .before .before .before .before .before .before .before .before .args .dm) (c .before .before .before .before .before .before .before .before .before .args .io) (segmentsFrom (l .untested - 1) file (c .before .before .before .end-of .result)) in (
       walk-rest (l .untested) file (l .at) (c .before .before .before .end-of .result) h (l .inv .0) (c .before .before .before .end-of .ensures),
