@@ -149,6 +149,30 @@ laid-snoc ws at new w n e h =
     ∙ sym (ap (λ (l : List ℕ). set ((take at ws ++ new) ++ l) (at + n) w) (drop-cons ws (at + length new) 0 k)
     ∙ set-at (take at ws ++ new) (getD ws (at + length new) 0) (drop (suc (at + length new)) ws) w (at + n) lp)
 
+-- a turn of a copy: of the words from i on, the word at i set, and those behind it laid
+pub laid-drop : (ws : List ℕ) (at i : ℕ) (new : List ℕ) → i < length new → at + length new ≤ length ws → laid ws (at + i) (drop i new) ≡ laid (set ws (at + i) (getD new i 0)) (at + (i + 1)) (drop (i + 1) new)
+laid-drop ws at i new h m =
+    let l : at + i + suc (length (drop (suc i) new)) ≤ length ws = simp length-drop (omega arith) in
+    let e : at + i + 1 ≡ at + (i + 1) = omega arith in
+    ap (laid ws (at + i)) (drop-cons new i 0 h)
+    ∙ laid-cons ws (at + i) (getD new i 0) (drop (suc i) new) l
+    ∙ rw (e, add-one i)
+
+-- words laid right behind others are laid with them
+pub laid-laid : (ws : List ℕ) (at : ℕ) (a b : List ℕ) → at + length a ≤ length ws → laid (laid ws at a) (at + length a) b ≡ laid ws at (a ++ b)
+unfolding laid
+laid-laid ws at a b h =
+    let la : length (take at ws ++ a) ≡ at + length a = simp length-append (omega (arith, length-take-le at ws (omega arith))) in
+    let n = at + length a in
+    let front : take n ((take at ws ++ a) ++ drop n ws) ≡ take at ws ++ a = take-at (take at ws ++ a) (drop n ws) n la in
+    let back : drop (n + length b) ((take at ws ++ a) ++ drop n ws) ≡ drop (n + length b) ws =
+    sym (drop-drop (length b) n ((take at ws ++ a) ++ drop n ws)) ∙ ap (drop (length b)) (drop-at (take at ws ++ a) (drop n ws) n la) ∙ drop-drop (length b) n ws in
+    let m : at + length (a ++ b) ≡ n + length b = simp length-append (omega arith) in
+    ap (λ (x : List ℕ). (x ++ b) ++ drop (n + length b) ((take at ws ++ a) ++ drop n ws)) front
+    ∙ ap (λ (x : List ℕ). ((take at ws ++ a) ++ b) ++ x) back
+    ∙ ap (λ (x : List ℕ). x ++ drop (n + length b) ws) (append-assoc (take at ws) a b)
+    ∙ ap (λ (x : ℕ). (take at ws ++ (a ++ b)) ++ drop x ws) (sym m)
+
 -- words laid over a whole run are the run
 pub laid-whole : (ws new : List ℕ) → length new ≡ length ws → laid ws 0 new ≡ new
 unfolding laid

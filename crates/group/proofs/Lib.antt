@@ -1,0 +1,11 @@
+pub mod Clock
+pub mod Sets
+pub mod Answers
+pub mod Status
+pub mod Behind
+pub mod Rooms
+pub mod Takes
+pub mod Tallies
+pub mod Seals
+pub mod Groups
+pub mod Examples

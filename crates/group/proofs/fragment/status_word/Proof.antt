@@ -1,0 +1,44 @@
+-- `group::fragment::status_word` meets its contract: by definition. Assumes nothing.
+use mathlib.Core.Path.{refl}
+use borrow.Author.Needs.{needs}
+use Rattle.group.specs.Fragment.{statusWord}
+use Rattle.group.proofs.fragment.status_word.Statement.{statement}
+use Rattle.group.proofs.fragment.status_word.Tie as tie
+
+mul-result : tie.Need-mul-result
+mul-result c = search needs
+
+mul-result-2 : tie.Need-mul-result-2
+mul-result-2 c = search needs
+
+add-result : tie.Need-add-result
+add-result c = search needs
+
+mul-result-3 : tie.Need-mul-result-3
+mul-result-3 c = search needs
+
+add-result-2 : tie.Need-add-result-2
+add-result-2 c = search needs
+
+cast-result : tie.Need-cast-result
+cast-result c = search needs
+
+add-result-3 : tie.Need-add-result-3
+add-result-3 c = search needs
+
+returns : tie.Need-returns
+unfolding statusWord
+returns c = refl
+
+pub status-word-spec : {M : Type 1} → statement M
+status-word-spec =
+    tie.close
+    (tie.spec
+    mul-result
+    mul-result-2
+    add-result
+    mul-result-3
+    add-result-2
+    cast-result
+    add-result-3
+    returns)

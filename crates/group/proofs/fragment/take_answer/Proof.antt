@@ -1,0 +1,187 @@
+-- `group::fragment::take_answer` meets its contract: in each arm of the match, the data laid is that of the kind. Assumes nothing.
+use Prim.Native.Nat.{ℕ, _-_}
+use mathlib.Core.Path.{_≡_, refl, sym, ap, _∙_}
+use mathlib.Core.List.{List, _∷_, []}
+use native.Mathlib.Omega.{arith}
+use native.Mathlib.Nat.{sub-zero}
+use borrow.Author.Needs.{needs}
+use lib.ListN.{length, take, getD, length-take}
+use Rattle.group.specs.Kind.{Answer, answer, datOf}
+use Rattle.group.specs.Fragment.{dataOf, framed, assembly, behind, taken}
+use Rattle.group.specs.declared.Kind.{Kind}
+use Rattle.group.proofs.Answers.{data-tells, WholeReply, whole-tells}
+use Rattle.group.proofs.Behind.{taken-by}
+use Rattle.group.proofs.fragment.take_answer.Statement.{statement}
+use Rattle.group.proofs.fragment.take_answer.Tie as tie
+
+kind-of-requires : tie.Need-kind-of-requires
+kind-of-requires c κs = search needs
+
+tallied-requires : tie.Need-tallied-requires
+tallied-requires c κs = search needs
+
+status-of-requires : tie.Need-status-of-requires
+status-of-requires c κs = search needs
+
+-- the answer
+abbrev said : tie.After-status-of → Answer
+said c = let s = c .before .before .before .before .before .args in answer (s .heard) (s .words .now)
+
+-- in an arm of the match: the fragment of what the arm lays is that of the answer
+by : (c : tie.After-status-of) (kind : Kind) (ws : List ℕ) → c .before .before .kind-of .result ≡ kind → ws ≡ dataOf kind (said c)
+    → behind (assembly (c .before .before .before .before .before .args .reply .now) (c .before .before .before .before .before .args .built)) (c .before .tallied .result) (framed ws (c .status-of .result))
+    ≡ taken (assembly (c .before .before .before .before .before .args .reply .now) (c .before .before .before .before .before .args .built)) (c .before .before .before .before .before .args .left) (c .before .before .before .before .before .args .slave) (said c)
+by c kind ws e f =
+    let s = c .before .before .before .before .before .args in
+    taken-by (assembly (s .reply .now) (s .built)) (s .left) (s .slave) (said c) (c .before .before .kind-of .result) (c .before .tallied .result) (c .status-of .result) ws
+    (c .before .before .kind-of .ensures) (c .before .tallied .ensures) (c .status-of .ensures) (f ∙ sym (ap (λ (k : Kind). dataOf k (said c)) e))
+
+whole : (c : tie.After-status-of) → c .before .before .kind-of .result ≡ Kind.Whole → WholeReply (c .before .before .before .before .before .args .words .now) (c .before .before .before .before .before .args .built .words) (c .before .before .before .before .before .args .left)
+whole c e = whole-tells (said c) _ _ (sym (c .before .before .kind-of .ensures) ∙ e)
+
+enum-told : tie.Need-enum-told
+enum-told c = search needs
+
+sub-lay : tie.Need-sub-lay
+sub-lay c = search needs
+
+part-lay-start : tie.Need-part-lay-start
+part-lay-start c = search needs
+
+part-lay-end : tie.Need-part-lay-end
+part-lay-end c = search needs
+
+lay-requires : tie.Need-lay-requires
+lay-requires c κs = search needs
+
+enum-told-2 : tie.Need-enum-told-2
+enum-told-2 c = search needs
+
+slice-aggregate-lay : tie.Need-slice-aggregate-lay
+slice-aggregate-lay c = search needs
+
+lay-requires-2 : tie.Need-lay-requires-2
+lay-requires-2 c κs = search needs
+
+enum-told-3 : tie.Need-enum-told-3
+enum-told-3 c = search needs
+
+sub-lay-2 : tie.Need-sub-lay-2
+sub-lay-2 c = search needs
+
+part-lay-start-2 : tie.Need-part-lay-start-2
+part-lay-start-2 c = search needs
+
+part-lay-end-2 : tie.Need-part-lay-end-2
+part-lay-end-2 c = search needs
+
+lay-requires-3 : tie.Need-lay-requires-3
+lay-requires-3 c κs = search needs
+
+enum-told-4 : tie.Need-enum-told-4
+enum-told-4 c = search needs
+
+counted-requires : tie.Need-counted-requires
+counted-requires c κs = search needs
+
+shared-slice-read-t33 : tie.Need-shared-slice-read-t33
+shared-slice-read-t33 c = data-tells (said (c .before .before .before .before)) _ _ (ap datOf (sym (c .before .before .before .before .before .before .kind-of .ensures) ∙ c .before .before .enum-told4 .given .1)) .0
+
+slice-aggregate-lay-2 : tie.Need-slice-aggregate-lay-2
+slice-aggregate-lay-2 c = search needs
+
+lay-requires-4 : tie.Need-lay-requires-4
+lay-requires-4 c κs = search needs
+
+enum-told-5 : tie.Need-enum-told-5
+enum-told-5 c = search needs
+
+sub-lay-3 : tie.Need-sub-lay-3
+sub-lay-3 c = omega (arith, whole (c .before .before .before) (c .before .enum-told5 .given .1) .two)
+
+sub-lay-4 : tie.Need-sub-lay-4
+sub-lay-4 c = search needs
+
+part-lay-start-3 : tie.Need-part-lay-start-3
+part-lay-start-3 c = search needs
+
+part-lay-end-3 : tie.Need-part-lay-end-3
+part-lay-end-3 c = search needs
+
+lay-requires-5 : tie.Need-lay-requires-5
+lay-requires-5 c κs = simp length-take (omega (arith, whole (c .before .before .before .before) (c .before .before .enum-told5 .given .1) .room))
+
+same-length : tie.Need-same-length
+same-length c = search needs
+
+returns : tie.Need-returns
+returns c = c .before .before .lay .ensures ∙ by (c .before .before .before .before .before .before .before) _ _ (c .before .before .before .before .before .enum-told .given .1) refl
+
+same-length-2 : tie.Need-same-length-2
+same-length-2 c = search needs
+
+returns-2 : tie.Need-returns-2
+returns-2 c = c .before .before .lay2 .ensures ∙ by (c .before .before .before .before .before .before .before) _ _ (c .before .before .before .before .before .enum-told2 .given .1) refl
+
+same-length-3 : tie.Need-same-length-3
+same-length-3 c = search needs
+
+returns-3 : tie.Need-returns-3
+returns-3 c = c .before .before .lay3 .ensures ∙ by (c .before .before .before .before .before .before .before) _ _ (c .before .before .before .before .before .enum-told3 .given .1) refl
+
+same-length-4 : tie.Need-same-length-4
+same-length-4 c = search needs
+
+returns-4 : tie.Need-returns-4
+returns-4 c = let h = c .before .before .before .before .before .before .before .before .before .before .before .before .before .before .args .heard in
+    let ws = c .before .before .before .before .before .before .before .before .before .before .before .before .before .before .args .words .now in
+    c .before .before .lay4 .ensures ∙ by (c .before .before .before .before .before .before .before .before .before) _ _ (c .before .before .before .before .before .before .before .enum-told4 .given .1) (ap (λ (n : ℕ). h .«rx_status» ∷ n ∷ getD ws 0 0 ∷ []) (c .before .before .before .before .before .before .counted .ensures))
+
+same-length-5 : tie.Need-same-length-5
+same-length-5 c = search needs
+
+returns-5 : tie.Need-returns-5
+returns-5 c = let ws = c .before .before .before .before .before .before .before .before .before .before .before .before .args .words .now in
+    c .before .before .lay5 .ensures ∙ by (c .before .before .before .before .before .before .before) _ _ (c .before .before .before .before .before .enum-told5 .given .1) (ap (λ (n : ℕ). take n ws) (sub-zero (length ws - 2)))
+
+pub take-answer-spec : {M : Type 1} → statement M
+take-answer-spec =
+    tie.close
+    (tie.spec
+    kind-of-requires
+    tallied-requires
+    status-of-requires
+    enum-told
+    sub-lay
+    part-lay-start
+    part-lay-end
+    lay-requires
+    enum-told-2
+    slice-aggregate-lay
+    lay-requires-2
+    enum-told-3
+    sub-lay-2
+    part-lay-start-2
+    part-lay-end-2
+    lay-requires-3
+    enum-told-4
+    counted-requires
+    shared-slice-read-t33
+    slice-aggregate-lay-2
+    lay-requires-4
+    enum-told-5
+    sub-lay-3
+    sub-lay-4
+    part-lay-start-3
+    part-lay-end-3
+    lay-requires-5
+    same-length
+    returns
+    same-length-2
+    returns-2
+    same-length-3
+    returns-3
+    same-length-4
+    returns-4
+    same-length-5
+    returns-5)

@@ -1,0 +1,92 @@
+-- The fragment of a slave's answer, and how it is laid behind those built: 01 'Group assembly', sections 6.3 and 6.4 of the
+-- note. Assumes nothing.
+use Prim.Native.Nat.{ℕ, min, _+_, _-_, _*_, _/_, _%_, _≤_, _<_}
+use mathlib.Core.Path.{_≡_}
+use mathlib.Core.List.{List, [], _∷_, _++_}
+use lib.Dec.{ltb, leb}
+use lib.ListN.{length, getD, take}
+use Rattle.base.specs.Pick.{pick}
+use Rattle.base.specs.Words.{laid}
+use Rattle.group.specs.Kind.{Answer, datOf, codeOf, kindOf}
+use Rattle.group.specs.Tally.{tallied}
+use Rattle.group.specs.declared.Built.{Built}
+use Rattle.group.specs.declared.Fault.{Fault}
+use Rattle.group.specs.declared.Kind.{Kind}
+use Rattle.group.specs.declared.Tally.{Tally}
+
+-- The status word of a fragment: DAT 15, code 14-11, the slave's bits 10-5, slave ID 4-0 (table 5).
+unfoldable pub statusWord : ℕ → ℕ → ℕ → ℕ → ℕ
+statusWord dat code bits slave = dat % 2 * 32768 + code % 16 * 2048 + bits % 64 * 32 + slave % 32
+
+-- Bits 10-5 of a reply's own status word, its last but one.
+abbrev pub slaveBits : List ℕ → ℕ
+slaveBits ws = pick (ltb (length ws) 2) 0 (getD ws (length ws - 2) 0 / 32 % 64)
+
+-- The slave's bits are passed on for codes 0 and 2 with DAT, otherwise 0.
+abbrev pub faultBits : Fault → List ℕ → ℕ
+faultBits Fault.NotFirst ws = 0
+faultBits Fault.NotLast ws = 0
+faultBits Fault.OneWord ws = 0
+faultBits Fault.WrongFcs ws = 0
+faultBits Fault.NoRoom ws = slaveBits ws
+
+abbrev pub bitsOf : Kind → List ℕ → ℕ
+bitsOf Kind.Late ws = 0
+bitsOf Kind.Errors ws = 0
+bitsOf (Kind.Zero z) ws = 0
+bitsOf (Kind.Faulty f) ws = faultBits f ws
+bitsOf Kind.Whole ws = slaveBits ws
+
+abbrev pub statusOf : Kind → List ℕ → ℕ → ℕ
+statusOf kind ws slave = statusWord (datOf kind) (codeOf kind) (bitsOf kind ws) slave
+
+-- The data of a fragment: none; RX status and RX address; RX status, reply length (FFFF if more) and first word; or the reply's
+-- data, without its status word and its FCS.
+abbrev pub dataOf : Kind → Answer → List ℕ
+dataOf Kind.Late a = []
+dataOf Kind.Errors a = a .heard .«rx_status» ∷ a .heard .«rx_address» ∷ []
+dataOf (Kind.Zero z) a = []
+dataOf (Kind.Faulty f) a = a .heard .«rx_status» ∷ min (length (a .words)) 65535 ∷ getD (a .words) 0 0 ∷ []
+dataOf Kind.Whole a = take (length (a .words) - 2) (a .words)
+
+-- A fragment's words: how many words follow, the data, the status word.
+abbrev pub framed : List ℕ → ℕ → List ℕ
+framed ws status = (length ws + 1) ∷ (ws ++ (status ∷ []))
+
+-- The fragment of what an answer is.
+abbrev pub fragmentBy : Kind → ℕ → Answer → List ℕ
+fragmentBy kind slave a = framed (dataOf kind a) (statusOf kind (a .words) slave)
+
+-- The fragment of a slave's answer, with w words built and k slaves yet to ask.
+unfoldable pub fragmentOf : ℕ → Answer → ℕ → ℕ → List ℕ
+fragmentOf slave a w k = fragmentBy (kindOf a w k) slave a
+
+-- The reply buffer, and what is built in it.
+pub record Assembly : Type 0 where
+  pub reply : List ℕ
+  pub built : Built
+
+abbrev pub assembly : List ℕ → Built → Assembly
+assembly r b = record { reply = r; built = b }
+
+abbrev pub built : ℕ → Tally → Built
+built w t = record { words = w; tally = t }
+
+-- A fragment laid behind the words built, the tally then being t. In a buffer that cannot hold it nothing is laid.
+unfoldable pub behind : Assembly → Tally → List ℕ → Assembly
+behind m t new =
+    pick (leb (m .built .words + length new) (length (m .reply)))
+    (assembly (laid (m .reply) (m .built .words) new) (built (m .built .words + length new) t))
+    m
+
+-- A slave's answer taken into the assembly, with k slaves yet to ask.
+unfoldable pub taken : Assembly → ℕ → ℕ → Answer → Assembly
+taken m k slave a =
+    behind m (tallied (m .built .tally) (kindOf a (m .built .words) k)) (fragmentOf slave a (m .built .words) k)
+
+-- What stays from one assembly to the next: the buffer's length, the words built so far, and every word past the words built.
+pub record Stays (m m′ : Assembly) : Type 0 where
+  pub size : length (m′ .reply) ≡ length (m .reply)
+  pub grows : m .built .words ≤ m′ .built .words
+  pub before : (i : ℕ) → i < m .built .words → getD (m′ .reply) i 0 ≡ getD (m .reply) i 0
+  pub after : (i : ℕ) → m′ .built .words ≤ i → getD (m′ .reply) i 0 ≡ getD (m .reply) i 0

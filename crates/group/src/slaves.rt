@@ -1,0 +1,76 @@
+// Which slaves are asked, and how long each may take.
+ghost use mathlib.Core.Path.{_≡_};
+ghost use Prim.Native.Nat.{_/_, _%_, _^_, _<_};
+ghost use lib.ListN.{length};
+ghost use Rattle.group.specs.Time.{isLate};
+ghost use Rattle.group.specs.Slaves.{slavesUp, slavesOf, above, nextOf};
+use crate::Next;
+
+// A slave asked at one tick has not answered in time at another.
+pub fn is_late(clock: u32, asked: u32) -> bool
+    ensures { λ r. ⌜ r ≡ isLate clock asked ⌝ }
+{
+    60 <= std::num::wrapping_sub_u32(clock, asked)
+}
+
+// Slave s of a set: 1 where it is in it, else 0.
+fn bit(set: u32, s: u32) -> usize
+    requires { ⌜ s < 24 ⌝ }
+    ensures { λ r. ⌜ (r ≡ set / 2 ^ s % 2) × (r < 2) ⌝ }
+{
+    ((set >> s) % 2) as usize
+}
+
+// The lowest slave of a set from a number on.
+fn next_from(set: u32, from: u32) -> Next
+    ensures { λ r. ⌜ r ≡ nextOf (slavesUp set from) ⌝ }
+{
+    let mut s = from;
+    while s < 24 {
+        if bit(set, s) == 1 {
+            return Next::Slave(s);
+        }
+        s += 1;
+    }
+    Next::Nobody
+}
+
+// How many slaves of a set there are from a number on.
+fn count_from(set: u32, from: u32) -> usize
+    ensures { λ r. ⌜ r ≡ length (slavesUp set from) ⌝ }
+{
+    let mut count = 0;
+    let mut s = from;
+    while s < 24 {
+        count += bit(set, s);
+        s += 1;
+    }
+    count
+}
+
+// The first slave of a set.
+pub fn first_slave(set: u32) -> Next
+    ensures { λ r. ⌜ r ≡ nextOf (slavesOf set) ⌝ }
+{
+    next_from(set, 0)
+}
+
+// The next slave of a set above another.
+pub fn next_slave(set: u32, slave: u32) -> Next
+    ensures { λ r. ⌜ r ≡ nextOf (above set slave) ⌝ }
+{
+    if slave < 23 {
+        return next_from(set, slave + 1);
+    }
+    Next::Nobody
+}
+
+// How many slaves of a set are above another.
+pub fn slaves_above(set: u32, slave: u32) -> usize
+    ensures { λ r. ⌜ r ≡ length (above set slave) ⌝ }
+{
+    if slave < 23 {
+        return count_from(set, slave + 1);
+    }
+    0
+}
