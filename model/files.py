@@ -2,20 +2,12 @@
 three of them in PM and two in DM and IO. The last memory word of a body is its FCS; in PM that word has three bytes, of which the
 first is zero."""
 
-from fcs import fcs
+from runs import check_sequence
 
 PM, DM, IO = "PM", "DM", "IO"
 MEMORIES = {0: PM, 1: DM, 2: IO, 3: IO}  # bits 15-14 of the first header word
 PAGES = {0: 0, 2: 4, 3: 5}  # bits 15-14 of the second; 01 is invalid
 BYTES = {PM: 3, DM: 2, IO: 2}
-
-
-def check_sequence(words):
-    """The FCS of a run, part by part: the division of one long number takes time that grows with its square."""
-    value = 0xFFFF
-    for start in range(0, len(words), 64):
-        value = fcs(words[start:start + 64], value)
-    return value
 
 
 def packed(memory, words):
@@ -41,16 +33,24 @@ def permitted(memory, length):
     return length >= 3 and length % 2 == 1
 
 
-def segment_at(words, at):
-    """The valid segment at a place as (memory, page, address, memory words, the place past it), or None."""
-    if at + 2 > len(words):
-        return None
-    first, second = words[at], words[at + 1]
+def segment_header(first, second):
+    """What two header words say as (memory, length, page, address), or None where length or page isn't permitted."""
     memory, length = MEMORIES[first >> 14], first & 0x3FFF
     if not permitted(memory, length):
         return None
     if memory != IO and second >> 14 not in PAGES:
         return None
+    return memory, length, PAGES.get(second >> 14), second & 0x3FFF
+
+
+def segment_at(words, at):
+    """The valid segment at a place as (memory, page, address, memory words, the place past it), or None."""
+    if at + 2 > len(words):
+        return None
+    header = segment_header(words[at], words[at + 1])
+    if header is None:
+        return None
+    memory, length, page, address = header
     size = length * BYTES[memory] // 2
     body = words[at + 2:at + 2 + size]
     if len(body) < size:
@@ -58,12 +58,21 @@ def segment_at(words, at):
     held = unpacked(memory, body, length)
     if held[-1] != check_sequence(body[:-1]):
         return None
-    return memory, PAGES.get(second >> 14), second & 0x3FFF, held[:-1], at + 2 + size
+    return memory, page, address, held[:-1], at + 2 + size
+
+
+def name_of(header):
+    return header >> 4 & 0xFF
+
+
+def may_start(word):
+    """Whether a word can start a file: type 00 or 01, 1 to 14 segments."""
+    return word >> 14 in (0, 1) and 1 <= word & 15 <= 14
 
 
 def segments_of(words):
     """The segments of the valid file that starts the words, each as `segment_at` says it, or None."""
-    if not words or words[0] >> 14 not in (0, 1) or not 1 <= words[0] & 15 <= 14:
+    if not words or not may_start(words[0]):
         return None
     found, at = [], 1
     for _ in range(words[0] & 15):
@@ -84,18 +93,3 @@ def file_length(words):
 def sealed(body):
     """Packet words with their FCS behind them."""
     return body + [check_sequence(body)]
-
-
-def segment(memory, second, words, bits=None):
-    """The packet words of the valid segment of memory words; `bits` are the memory bits, where IO has two kinds."""
-    kind = {PM: 0, DM: 1, IO: 2}[memory] if bits is None else bits
-    return [kind << 14 | len(words) + 1, second] + sealed(packed(memory, words))
-
-
-def header(kind, attribute, name, count):
-    return kind << 14 | attribute << 12 | name << 4 | count
-
-
-def file_of(segments, kind=0, attribute=3, name=0x21):
-    """The words of a file: a header word and its segments' words."""
-    return [header(kind, attribute, name, len(segments))] + [word for segment in segments for word in segment]

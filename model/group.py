@@ -1,7 +1,7 @@
 """Group assembly by document 01, 'Group assembly', with tables 4 and 6 of the note: a slave's answer to its fragment, the tally,
 the end of a group, and a single slave's reply."""
 
-from fcs import fcs
+from runs import check_sequence
 
 AREA = 12288  # words of the assembly area
 LIMIT = 60  # ticks of 10 ms
@@ -28,26 +28,12 @@ class Answer:
         self.words = words
 
 
-remembered = {}
-
-
-def long_fcs(words):
-    """The FCS of a long run, piece by piece; runs met before are remembered."""
-    key = tuple(words)
-    if key not in remembered:
-        check = 0xFFFF
-        for at in range(0, len(words), 32):
-            check = fcs(words[at : at + 32], check)
-        remembered[key] = check
-    return remembered[key]
-
-
 def status_word(dat, code, slave_bits, slave):
     return dat << 15 | code << 11 | slave_bits | slave
 
 
 def fragment(slave, answer, built, left):
-    """(DAT, code) and the fragment's words, with `built` words before it and `left` slaves yet to ask."""
+    """DAT, code and the fragment's words, with `built` words before it and `left` slaves yet to ask."""
     words = answer.words
     n = len(words)
 
@@ -64,7 +50,7 @@ def fragment(slave, answer, built, left):
             return 1, 9
         if n == 1:
             return 1, 3
-        if long_fcs(words[:-1]) != words[-1]:
+        if check_sequence(words[:-1]) != words[-1]:
             return 1, 5
         if built + n + 5 * left + 2 > AREA:
             return 1, 2
@@ -79,60 +65,39 @@ def fragment(slave, answer, built, left):
         body = [answer.rx_status, min(n, 0xFFFF), words[0]]
     else:
         body = words[:-2]
-    return (dat, code), [len(body) + 1] + body + [status]
+    return dat, code, [len(body) + 1] + body + [status]
 
 
-def tally(codes):
-    """What the answers so far have in common: 0 none yet, 1 to 4 that 0-length reply, 5 all whole, 6 mixed."""
-    if not codes:
-        return 0
-    kinds = set(codes)
-    if kinds == {(1, 0)}:
-        return 5
-    if len(kinds) == 1:
-        dat, code = kinds.pop()
-        if not dat and code <= 4:
-            return code
-    return 6
+def kind_of(dat, code):
+    """An answer's part in the tally: 1 to 4 a 0-length reply, 5 whole, 6 anything else."""
+    if dat:
+        return 5 if code == 0 else 6
+    return code if code <= 4 else 6
 
 
-class Group:
-    """A group in the lent words of a reply buffer."""
-
-    def __init__(self, buffer, lent):
-        self.buffer = buffer
-        self.lent = lent
-        self.built = 0
-        self.codes = []
-
-    def take(self, slave, answer, left):
-        code, words = fragment(slave, answer, self.built, left)
-        if self.built + len(words) <= self.lent:
-            self.buffer[self.built : self.built + len(words)] = words
-            self.built += len(words)
-            self.codes.append(code)
-
-    def finish(self, own):
-        """The BC and the length of the group's reply."""
-        common = tally(self.codes)
-        if 1 <= common <= 4:
-            return {code: bc for bc, code in ZERO_CODES.items()}[common], 0
-        if self.built + 2 > self.lent:
-            return ABORT, 0
-        status = own & ~0x0020 & ~0x0200 | (0 if common == 5 else 0x0200)
-        self.buffer[self.built] = status
-        self.buffer[self.built + 1] = long_fcs(self.buffer[: self.built + 1])
-        return 0b11, self.built + 2
+def tally_with(tally, dat, code):
+    """The tally, 0 before the first answer, with one answer more: it stays while all are of one kind, otherwise it is 6, mixed."""
+    kind = kind_of(dat, code)
+    return kind if tally in (0, kind) else 6
 
 
-def single(answer, buffer, lent):
-    """The BC and the length of a single slave's reply."""
+def zero_length(tally):
+    """The BC of the 0-length reply that all slaves gave, or None."""
+    return {code: bc for bc, code in ZERO_CODES.items()}.get(tally)
+
+
+def ending(fragments, tally, own):
+    """The words behind the fragments of a data reply: node status, bit 5 clear and bit 9 set unless all is code 0 with DAT, and FCS."""
+    status = own & ~0x0020 & ~0x0200 | (0 if tally == 5 else 0x0200)
+    return [status, check_sequence(fragments + [status])]
+
+
+def single(answer):
+    """The BC and the words that a single slave's reply is passed on as."""
     if answer.late:
-        return ABORT, 0
+        return ABORT, []
     if answer.errors:
-        return ERROR, 0
-    n = len(answer.words)
-    if n > AREA or n > lent:
-        return ABORT, 0
-    buffer[:n] = answer.words
-    return answer.bc, n
+        return ERROR, []
+    if len(answer.words) > AREA:
+        return ABORT, []
+    return answer.bc, answer.words

@@ -5,18 +5,16 @@ follow from the seed, but for the last two."""
 
 import random
 
-from group import AREA, Answer, Group, is_late, long_fcs, single, slaves_of, tally
-from words import line_of, words_of
+from group import ABORT, AREA, Answer, ending, fragment, is_late, single, slaves_of, tally_with, zero_length
+from runs import check_sequence
+from words import line_of, run_of, words_of
 
 BUFFER = 12300
 MARK = 0xA5A5
 
 
 def made(n, seed, status, last):
-    words, word = [], seed
-    for _ in range(n):
-        words.append(word)
-        word = (word * 25173 + 13849) % 65536
+    words = run_of(seed, n)
     if n >= 2:
         words[n - 2] = status
     if n >= 1:
@@ -29,6 +27,41 @@ def digest(words):
     for word in words:
         d = (d * 31 + word) % 4294967291
     return d
+
+
+class Group:
+    """A group in the lent words of a reply buffer, which may be too short for it."""
+
+    def __init__(self, buffer, lent):
+        self.buffer = buffer
+        self.lent = lent
+        self.built = 0
+        self.tally = 0
+
+    def take(self, slave, answer, left):
+        dat, code, words = fragment(slave, answer, self.built, left)
+        if self.built + len(words) <= self.lent:
+            self.buffer[self.built : self.built + len(words)] = words
+            self.built += len(words)
+            self.tally = tally_with(self.tally, dat, code)
+
+    def finish(self, own):
+        """The BC and the length of the group's reply."""
+        if zero_length(self.tally) is not None:
+            return zero_length(self.tally), 0
+        if self.built + 2 > self.lent:
+            return ABORT, 0
+        self.buffer[self.built : self.built + 2] = ending(self.buffer[: self.built], self.tally, own)
+        return 0b11, self.built + 2
+
+
+def passed(answer, buffer, lent):
+    """The BC and the length of a single slave's reply in the lent words of a buffer."""
+    bc, words = single(answer)
+    if len(words) > lent:
+        return ABORT, 0
+    buffer[: len(words)] = words
+    return bc, len(words)
 
 
 # What is stored: answers by their kind.
@@ -45,7 +78,7 @@ class Maker:
         now = (asked + elapsed) % 2**32
         seed = pick.randrange(65536) if seed is None else seed
         status = pick.randrange(65536) if status is None else status
-        last = long_fcs(made(n, seed, status, 0)[:-1]) ^ wrong if n else 0
+        last = check_sequence(made(n, seed, status, 0)[:-1]) ^ wrong if n else 0
         return [asked >> 16, asked & 0xFFFF, now >> 16, now & 0xFFFF, errors, pick.randrange(65536), pick.randrange(65536), bc, n, seed, status, last]
 
     def short(self):
@@ -170,9 +203,9 @@ def outputs(stdin):
                 at = 5 + 12 * place
                 group.take(slave, answer_of(words[at : at + 12]), len(slaves) - 1 - place)
                 laid = "%04x" % buffer[group.built - 1] if group.built else ""
-                items.append("%d:%d:%s" % (group.built, tally(group.codes), laid))
+                items.append("%d:%d:%s" % (group.built, group.tally, laid))
             bc, n = group.finish(words[3])
         else:
-            bc, n = single(answer_of(words[5:17]), buffer, lent)
+            bc, n = passed(answer_of(words[5:17]), buffer, lent)
         printed.append(" ".join(items + [str(bc), str(n), "%08x" % digest(buffer)]) + "\n")
     return "".join(printed)

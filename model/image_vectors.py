@@ -2,7 +2,8 @@
 
 import random
 
-from files import DM, IO, PM, file_length, file_of, header, packed, sealed, segment
+from build import file_of, header, segment
+from files import DM, IO, PM, file_length, packed, sealed
 from words import line_of, words_of
 
 LEAST = {PM: 2, DM: 2, IO: 3}  # the shortest and the longest length that each memory has
