@@ -56,9 +56,9 @@ def kept(directory, sector):
     return directory[4 * sector - 12:4 * sector - 8]
 
 
-def laid(directory, sector, first, status):
+def laid(directory, sector, entry):
     """The directory with one entry laid whole."""
-    return directory[:4 * sector - 12] + entry(sector, first, status) + directory[4 * sector - 8:]
+    return directory[:4 * sector - 12] + entry + directory[4 * sector - 8:]
 
 
 def named(directory, name):

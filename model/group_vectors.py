@@ -14,7 +14,7 @@ MARK = 0xA5A5
 
 
 def made(n, seed, status, last):
-    words = run_of(seed, n)
+    words = list(run_of(seed, n))
     if n >= 2:
         words[n - 2] = status
     if n >= 1:

@@ -7,11 +7,10 @@ from dataclasses import dataclass, replace
 from typing import Optional
 
 from files import DM, IO, PM, name_of, sealed, segment_at, segments_of
-from flash import BAD, ERASING, SECTORS, SIZES, attributed, blank, directory_of, extent, file_in, laid, named, place_for
-from flash import sector_to_erase, store
+from flash import BAD, SECTORS, SIZES, attributed, blank, directory_of, entry, entry_of, extent, file_in, laid, named, place_for
+from flash import sector_to_erase, store, words_in
 from group import ABORT, AREA, END, ERROR, Answer, ending, fragment, is_late, single, slaves_of, tally_with, zero_length
 from memory import fits, load, perform, read
-from runs import check_sequence
 
 CDP, CDDC = 1, 2
 SLAVES = 24
@@ -241,8 +240,8 @@ def memory_write(memory):
 # Files. The directory that the state keeps stands for the flash's.
 
 
-def with_entry(node, sector, first, status=0):
-    return replace(node, directory=tuple(laid(list(node.directory), sector, first, status)))
+def with_entry(node, sector, entry):
+    return replace(node, directory=tuple(laid(list(node.directory), sector, entry)))
 
 
 def target(node, lent, header):
@@ -299,7 +298,7 @@ def file_write(node, lent, now, link, parameters):
     if sector is None:
         return node, ABORT
     store(lent.flash, sector, parameters)
-    return with_entry(node, sector, parameters[0]), END
+    return with_entry(node, sector, entry(sector, parameters[0], 0)), END
 
 
 def flash_summary(node, lent, now, link, parameters):
@@ -310,8 +309,8 @@ def erase_start(node, lent, now, link, parameters):
     sector = sector_to_erase(list(node.directory), parameters[0])
     if sector is None:
         return node, ABORT
-    first = lent.flash[extent(len(lent.flash), sector).start]
-    return replace(with_entry(node, sector, first, ERASING), erasing=Erasing(sector, 0)), END
+    node = with_entry(node, sector, entry_of(lent.flash, sector, sector))
+    return replace(node, erasing=Erasing(sector, 0)), END
 
 
 def attribute_set(node, lent, now, link, parameters):
@@ -322,7 +321,7 @@ def attribute_set(node, lent, now, link, parameters):
     if header is None:
         return node, ABORT
     store(lent.flash, sector, [header])
-    return with_entry(node, sector, header), END
+    return with_entry(node, sector, entry(sector, header, 0)), END
 
 
 ANY = range(8192)
@@ -511,7 +510,8 @@ def erase(node, flash, budget):
     count = blank(flash, sector, done, budget)
     if count == 0:
         return node, ("erased", 0)
-    places = extent(len(flash), sector)
-    over = done + count == len(places)
-    node = with_entry(node, sector, flash[places.start], 0 if over else ERASING)
-    return replace(node, erasing=None if over else Erasing(sector, done + count)), ("erased", count)
+    if done + count < len(extent(len(flash), sector)):
+        node = with_entry(node, sector, entry_of(flash, sector, sector))
+        return replace(node, erasing=Erasing(sector, done + count)), ("erased", count)
+    node = with_entry(node, sector, entry(sector, words_in(flash, sector)[0], 0))
+    return replace(node, erasing=None), ("erased", count)

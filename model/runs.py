@@ -22,8 +22,8 @@ def carried_byte(value, length):
 
 def check_sequence(words):
     """The FCS of a run, as `fcs` has it."""
-    value = 0xFFFF
+    words, value = tuple(words), 0xFFFF
     for at in range(0, len(words), PIECE):
-        piece = tuple(words[at:at + PIECE])
+        piece = words[at:at + PIECE]
         value = carried_byte(value & 0xFF00, len(piece)) ^ carried_byte(value & 0x00FF, len(piece)) ^ alone(piece)
     return value
