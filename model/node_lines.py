@@ -120,8 +120,9 @@ class Program:
         self.lent[memory] = self.whole(memory)[:count]
 
     def change(self, memory, at, words):
-        self.whole(memory)[at:at + len(words)] = words
-        self.lend(memory, len(self.lent[memory]))
+        whole = self.whole(memory)
+        whole[at:at + len(words)] = words
+        self.lent[memory] = whole[:len(self.lent[memory])]
 
     def line(self, words):
         items = Items(words)

@@ -181,14 +181,24 @@ class Script:
         pick = self.pick
         count = pick.choice((1, 1, 1, 2, 2, 3, 5)) if count is None else count
         segments = [self.some_segment(pick.choice((PM, DM, IO))) for _ in range(count)]
-        return file_of(segments, pick.randrange(2), pick.choice((3, 3, 3, 2, 1, 0)), self.some_name() if name is None else name)
+        return file_of(segments, pick.randrange(2), pick.choice((3, 3, 3, 2, 1, 0)), self.new_name() if name is None else name)
 
-    def some_name(self):
-        return self.pick.choice((0x00, 0x01, 0x21, 0x42, 0x80, 0xFF))
+    def kept_names(self):
+        """The names that the directory seems to have, good or bad."""
+        return [word >> 4 & 0xFF for word in self.node.directory[0::4] if word != 0xFFFF]
+
+    def new_name(self):
+        """A name that is mostly unused."""
+        names = self.kept_names()
+        if names and not self.pick.randrange(5):
+            return self.pick.choice(names)
+        return self.pick.choice((0x00, 0x01, 0x21, 0x42, 0x80, 0xFF, self.pick.randrange(256), self.pick.randrange(256)))
 
     def some_header(self):
-        """A parameter that names a file, by bits 11-4 alone."""
-        return self.pick.choice((0, 0x3001, 0xF00F, self.pick.randrange(65536) & 0xF00F)) | self.some_name() << 4
+        """A parameter that names a file, mostly one that is there, by bits 11-4 alone."""
+        names = self.kept_names()
+        name = self.pick.choice(names) if names and self.pick.randrange(5) else self.new_name()
+        return self.pick.choice((0, 0x3001, 0xF00F, self.pick.randrange(65536) & 0xF00F)) | name << 4
 
     def long_file(self, length, name=0x21, attribute=3, seed=None):
         """A file of one DM segment, so many words in all."""
@@ -292,7 +302,7 @@ def refusals(s):
     pick = s.pick
     sizes = (BENCH, FULL)
     for turn in range(3):
-        for causes in range(64):
+        for causes in (*range(64), 1, 2, 4, 4, 4, 8, 16, 32):
             size = sizes[turn == 2 and causes % 4 == 0]
             ports = pick.randrange(1, 5)
             s.fresh(pick.choice((CDP, CDDC)), ports, size, pm=pick.choice((0, 8, 32768)), dm=64, io=64)
@@ -509,7 +519,7 @@ def counts(s):
 # The flash.
 
 
-def flash_step(s, names=None):
+def flash_step(s):
     """One more call on files, of any kind."""
     pick = s.pick
     size = s.node.flash_words
@@ -522,7 +532,7 @@ def flash_step(s, names=None):
 
     def write_long():
         length = pick.choice((2048, 2049, 4096, 4097, 8191, 2047, 4000)) if size == BENCH else pick.choice((8191, 8190, 5000))
-        s.request(s.long_file(length, s.some_name(), pick.choice((3, 2, 0))).behind(command(0x45)))
+        s.request(s.long_file(length, s.new_name(), pick.choice((3, 2, 0))).behind(command(0x45)))
 
     def write_wrong():
         s.request(command(0x45, *s.damaged(s.some_file())))
@@ -538,7 +548,7 @@ def flash_step(s, names=None):
             s.start(s.node.kind, s.node.ports)
 
     ways = [write] * 5 + [write_long, write_wrong, write_wrong, erase_start, erase_start, damage, damage]
-    ways += [lambda: s.request(command(number, name)) for number in (0x05, 0x05, 0x06, 0x46)]
+    ways += [lambda: s.request(command(pick.choice((0x05, 0x05, 0x06, 0x46)), name))] * 5
     ways += [lambda: s.request(command(0x48, name, pick.choice((0, 1, 1, 2, 0x101))))] * 3
     ways += [lambda: s.request(command(0x07)), lambda: s.request(command(0x0C))]
     if s.node.erasing:
@@ -732,17 +742,18 @@ def segments(s):
     for turn in range(900):
         if turn % 60 == 0:
             s.fill_memories()
-            s.lend(pm=pick.choice((64, 20)), dm=pick.choice((64, 20)), io=pick.choice((64, 64, 64, 5, 0)))
+        if turn % 20 == 0:
+            s.lend(pm=pick.choice((64, 20)), dm=pick.choice((64, 20)), io=pick.choice((64, 64, 64, 64, 5, 0)))
         memory = pick.choice((PM, DM, IO))
         words = s.some_segment(memory)
         if memory == IO and pick.randrange(2):
-            words = segment(IO, 0, s.some_pairs(pick.randrange(1, 6), 64, 4))
+            words = segment(IO, 0, s.some_pairs(pick.randrange(1, 6), 64, 9))
         way = pick.randrange(8)
         if way < 3:
             words = s.damaged(words)
-        elif way == 3:
+        elif way == 3 and turn % 3 == 0:
             memory = pick.choice((PM, DM, IO))
-        elif way == 4:
+        elif way == 4 and turn % 2:
             words = segment(memory, pick.randrange(65536), [pick.randrange(1 << 16) for _ in range(pick.randrange(1, 6))])
         writes, reads = commands[memory]
         if memory == PM and way == 5:  # the zero byte of the last word isn't zero, the FCS is right
