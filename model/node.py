@@ -376,7 +376,7 @@ def counted(node):
 
 
 def mask_of(node, packet):
-    """The slaves that a group request names, or None where its mask ID is above 15 or its mask isn't whole; and the words to strip."""
+    """The slaves that a group request names, None where its mask ID is above 15 or its mask isn't whole; and the words to strip."""
     first, second = packet[0] & 0xFF, packet[0] >> 8
     if first == 0x2A:
         return ALL, 1

@@ -1,49 +1,50 @@
 """Scripts of calls as lines of words, and what each line prints.
 
 A line is words of four hex digits; word 0 says what the line does. Below, a name stands for one word, name(2) for two words and
-name(4) for four, the highest first. A word past the end of a line is 0; no line has more than 512 words. Every line prints one
-line, in lower case; a line that is no call and prints nothing else prints an empty one.
+name(4) for four, the highest first. A word past the end of a line is 0; no line has more than 200 words. Every line prints one
+line; a line that prints nothing else prints an empty one. Hex digits are lower case in what is printed.
 
 There are five memories, by number: 0 flash (262,160 words), 1 PM (32,784 words of 32 bits), 2 DM (32,784), 3 IO (4,112) and 4 the
 reply buffer (12,304). At first all words are 0, the node is all zeros, and nothing is lent. The first words of each memory are lent
-to a call, as many as the last line 9 said. A call's node is kept for the next line, also that of a refused start.
+to a call, as many as the last line 9 said. The node that a call hands back is kept for the next line, that of a refused start too.
 
-    1 show kind(2) ports(2) subdetector(2) program_version subdetector_version start_tests clock(2)                 start
-    2 show clock(2) link(2) bc receive_error RUN                                                                    request
-    3 show clock(2) slave(2) bc receive_error rx_status rx_address RUN                                              reply
-    4 show clock(2)                                                                                                 poll
-    5 show budget(4)                                                                                                erase progress
-    6 memory at(2) count(2) word multiplier addend       fill: `count` words from `at` on. The first is `word`; each next one is the
-                                                         one before times multiplier plus addend, modulo 65,536. A PM word takes two
-                                                         of them, the high half first.
-    7 memory at(2) RUN                                   the words of a run, from `at` on; never PM
-    8 field index value(2) ..                            one field of the node, by its number below
-    9 flash(2) PM(2) DM(2) IO(2) reply(2)                how many words of each memory are lent from now on
-    A memory at(2) count(2)                              prints the FCS of `count` words from `at` on, for PM of both halves of each,
-                                                         the high half first
-    B                                                    prints the node's words
+    1 show kind(2) ports(2) subdetector(2) program_version subdetector_version start_tests clock(2)      start
+    2 show clock(2) link(2) bc receive_error RUN                                                         request
+    3 show clock(2) slave(2) bc receive_error rx_status rx_address RUN                                   reply
+    4 show clock(2)                                                                                      poll
+    5 show budget(4)                                                                                     erase progress
+    6 memory at(2) count(2) word multiplier addend      fill: `count` words from `at` on. The first is `word`; each next one is the
+                                                        one before times multiplier plus addend, modulo 65,536. A PM word takes
+                                                        two of them, the high half first.
+    7 memory at(2) RUN                                  the words of a run, from `at` on; never PM
+    8 field index value(2) ..                           one field of the node, by its number below
+    9 flash(2) PM(2) DM(2) IO(2) reply(2)               how many words of each memory are lent from now on
+    A memory at(2) count(2)                             prints the FCS of `count` words from `at` on, for PM of both halves of each,
+                                                        the high half first
+    B                                                   prints the node's words
 
-RUN is `front count(2) seed word..`: the first `front` of the words, then `count` words that begin with the seed, each next one the one
-before times 25173 plus 13849, modulo 65,536 (no product reaches 2^32), then the other words. No run is above 65,552 words.
+RUN is `front count(2) seed word..`: the first `front` of the words, then `count` words that begin with the seed, each next one the
+one before times 25173 plus 13849, modulo 65,536 (no product reaches 2^32), then the other words. No run is above 65,552 words.
 
 The fields of line 8: 0 kind, 1 ports, 2 sub-detector, 3 mode, 4 program version, 5 sub-detector version, 6 start tests, 7 start
 clock, 8 flash words, 9 AMSWire errors, 10 FLASH errors, 11 mask `index`, 12 directory word `index`, 13 erasing nothing, 14 erasing
-sector `index` with `value` words done, 15 nothing pending, 16 a slave pending, 17 a group pending. For 16 and 17 `index` is the link
-and `value` the clock when the slave was asked, and behind them stand slave asked(2) first words(2) tally, of which 16 has the slave
-alone. Kind, ports, sub-detector, mode, sector, link, slave and first are at most 255, and the tally at most 6.
+sector `index` with `value` words done, 15 nothing pending, 16 a slave pending, 17 a group pending. For 16 and 17 `index` is the
+link and `value` the clock when the slave was asked, and behind them stand slave asked(2) first words(2) tally, of which 16 has the
+slave alone. Kind, ports, sub-detector, mode, sector, link, slave and first are at most 255, and the tally at most 6.
 
 A call prints the FCS of the node's words, then its answer:
 
-    refused N             started             erased N             waiting
-    ask SLAVE FIRST       reply BC N FCS WORD..      N words in the reply buffer, the FCS of them, and they themselves where N is
-                                                     at most 16
+    refused N             started             erased N             waiting             ask SLAVE FIRST
+    reply BC N FCS WORD..      N words in the reply buffer, the FCS of them (ffff of none), and the words where N is at most 16
 
-with numbers in decimal, words in four hex digits. Then, for each bit of `show` that is set, a letter and the FCS of the lent words
-after the call: bit 0 ` f` flash, bit 1 ` p` PM, bit 2 ` d` DM, bit 3 ` i` IO, bit 4 ` r` reply buffer.
+with numbers in decimal, and an FCS or a word in four hex digits. Then, for each bit of `show` that is set, a letter and the FCS of
+the lent words after the call: bit 0 `f` flash, bit 1 `p` PM, bit 2 `d` DM, bit 3 `i` IO, bit 4 `r` reply buffer. One space stands
+between any two of these.
 
-The node's words: kind, ports, sub-detector, mode, program version, sub-detector version, start tests, start clock(2), flash words(2),
-AMSWire errors, FLASH errors, 16 masks(2), 32 directory words; 1 or 0 as something is erasing, sector, done(2); 0 nothing, 1 a slave, 2 a
-group pending, link, slave, at(2), asked(2), first, words(2), tally. What a case doesn't have is 0."""
+The node's words: kind, ports, sub-detector, mode, program version, sub-detector version, start tests, start clock(2), flash
+words(2), AMSWire errors, FLASH errors, 16 masks(2), 32 directory words; 1 or 0 as something is erasing or not, sector, done(2); 0
+nothing, 1 a slave, 2 a group pending, link, slave, at(2), asked(2), first, words(2), tally. What a case doesn't have is 0: 92 words
+in all."""
 
 from dataclasses import replace
 

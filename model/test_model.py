@@ -11,6 +11,9 @@ from flash import SECTORS, address_of, attributed, directory_of, extent
 from group import ABORT, AREA, END, ERROR, Answer, fragment, is_late
 from memory import index, read
 from node import CDDC, CDP, ZEROS, Lent, Pending, erase, poll, reply, request, start
+from node_lines import FLASH, POKE
+from script import Script
+from scripts_flash import flash_step
 from runs import check_sequence
 from words import words_of
 
@@ -156,6 +159,17 @@ class Calls(unittest.TestCase):
         node, answer = poll(node, memories.reply, 62)
         words = [0x0001, 0x1005, 0x0003, 0xAAAA, 0x0001, 0x81A7, 0x0001, 0x2817, 0x0200]
         self.assertEqual((answer, memories.reply[:10], node.pending), (("reply", 3, 10), words + [fcs(words)], None))
+
+    def test_the_directory_is_never_stale(self):
+        script = Script(1)
+        for turn in range(12):
+            script.fresh(CDP, 2)
+            for _ in range(40):
+                flash_step(script)
+                if words_of(script.lines[-1])[0] == POKE:
+                    script.start()  # a directory knows nothing of what no call did
+                erasing = script.node.erasing and script.node.erasing.sector
+                self.assertEqual(list(script.node.directory), directory_of(script.program.lent[FLASH], erasing))
 
     def test_all_slaves_the_same_zero_length_reply(self):
         node, memories = started()
