@@ -29,7 +29,7 @@ static size_t plain_segment_end(const uint16_t *words, size_t n, size_t at) {
     return at + 2 + body;
 }
 
-static size_t plain_file_end(const uint16_t *words, size_t n) {
+size_t plain_file_end(const uint16_t *words, size_t n) {
     if (n == 0)
         return 0;
     unsigned left = words[0] & 15;

@@ -39,5 +39,7 @@ int main(void) {
     int over = 0;
     over += perf_fcs_runs();
     over += perf_image_runs();
+    over += perf_flash_runs();
+    over += perf_group_runs();
     return over ? 1 : 0;
 }

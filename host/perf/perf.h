@@ -18,8 +18,13 @@ int perf_differ(const char *what);
 /* The table algorithm of section 16.2 of the note in C, which other comparisons use too. */
 uint16_t plain_fcs(const uint16_t *words, size_t n);
 
+/* The length of the valid file that a run starts with, or 0, in C. */
+size_t plain_file_end(const uint16_t *words, size_t n);
+
 /* The comparisons, a file each. Each answers how many ratios were above their limits. */
 int perf_fcs_runs(void);
 int perf_image_runs(void);
+int perf_flash_runs(void);
+int perf_group_runs(void);
 
 #endif

@@ -6,7 +6,7 @@ use native.Mathlib.Numerals.{add-one}
 use native.Mathlib.Nat.{add-assoc}
 use native.Mathlib.Omega.{arith}
 use lib.ListN.{length, getD, take, drop, set, length-append, length-take, length-drop, length-set, List·getD-append, drop-of-length-le}
-use lib.Seq.{length-take-le, take-append-add, drop-append-add, take-append-le, drop-append-le, drop-at, drop-drop, drop-cons, set-at, sets-eq, paste-zero, getD-take, getD-drop, getD-append-add}
+use lib.Seq.{length-take-le, take-at, take-append-add, drop-append-add, take-append-le, drop-append-le, drop-at, drop-drop, drop-cons, set-at, sets-eq, paste-zero, getD-take, getD-drop, getD-append-add}
 use Rattle.base.specs.Words.{part, laid, Same}
 use Rattle.base.proofs.Part.{length-part, part-split, part-append, same-part}
 
@@ -64,6 +64,12 @@ unfolding laid
 part-laid ws at new n e h =
     ap (λ (l : List ℕ). part l at n) (append-assoc (take at ws) new (drop (at + length new) ws))
     ∙ part-append (take at ws) new (drop (at + length new) ws) at n (length-take-le at ws h) e
+
+-- the run up to the last word laid
+pub take-laid : (ws : List ℕ) (at : ℕ) (new : List ℕ) (n : ℕ) → at + length new ≡ n → at ≤ length ws → take n (laid ws at new) ≡ take at ws ++ new
+unfolding laid
+take-laid ws at new n e h =
+    take-at (take at ws ++ new) (drop (at + length new) ws) n (simp length-append (omega (arith, length-take-le at ws h)))
 
 -- the two frame laws: what stands before, and what stands after
 pub laid-append-right : (a b : List ℕ) (k : ℕ) (new : List ℕ) → laid (a ++ b) (length a + k) new ≡ a ++ laid b k new

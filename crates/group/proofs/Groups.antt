@@ -1,6 +1,6 @@
 -- A whole group: laying fragment after fragment gives the fragments one behind the other, and the end closes them. By induction
 -- over the slaves, with the room kept from one to the next. Assumes nothing.
-use Prim.Native.Nat.{ℕ, _+_, _*_, _≤_}
+use Prim.Native.Nat.{ℕ, suc, _+_, _*_, _≤_}
 use mathlib.Core.Path.{_≡_, refl, sym, ap, _∙_}
 use mathlib.Core.List.{List, [], _∷_, _++_}
 use native.Mathlib.Nat.{add-zero, zero-add}
@@ -18,6 +18,13 @@ use Rattle.group.specs.Whole.{fragmentsOf, kindsOf, joined, assembled, t
 use Rattle.group.specs.declared.Tally.{Tally}
 use Rattle.group.proofs.Rooms.{room-kept}
 use Rattle.group.proofs.Takes.{taken-fits}
+
+-- there is one fragment for each slave that has answered
+pub length-fragments : (ss : List ℕ) (said : List Answer) (w : ℕ) → length said ≡ length ss → length (fragmentsOf ss said w) ≡ length ss
+unfolding fragmentsOf
+length-fragments [] said w h = refl
+length-fragments (s ∷ ss) [] w h = h
+length-fragments (s ∷ ss) (a ∷ said) w h = ap suc (length-fragments ss said (w + length (fragmentOf s a w (length ss))) (omega arith))
 
 -- with the room kept, the fragments of all slaves have their place
 pub assembled-room : (ss : List ℕ) (said : List Answer) (w : ℕ) → w + 5 * length ss + 2 ≤ 12288 → w + length (assembled ss said w) + 2 ≤ 12288

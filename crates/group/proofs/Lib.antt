@@ -4,6 +4,7 @@ pub mod Answers
 pub mod Status
 pub mod Behind
 pub mod Rooms
+pub mod Changes
 pub mod Takes
 pub mod Tallies
 pub mod Seals

@@ -22,7 +22,7 @@ statusWord dat code bits slave = dat % 2 * 32768 + code % 16 * 2048 + bits % 64 
 abbrev pub slaveBits : List ℕ → ℕ
 slaveBits ws = pick (ltb (length ws) 2) 0 (getD ws (length ws - 2) 0 / 32 % 64)
 
--- The slave's bits are passed on for codes 0 and 2 with DAT, otherwise 0.
+-- The slave's bits that a faulty reply's fragment passes on: for code 2.
 abbrev pub faultBits : Fault → List ℕ → ℕ
 faultBits Fault.NotFirst ws = 0
 faultBits Fault.NotLast ws = 0
@@ -30,6 +30,7 @@ faultBits Fault.OneWord ws = 0
 faultBits Fault.WrongFcs ws = 0
 faultBits Fault.NoRoom ws = slaveBits ws
 
+-- The slave's bits are passed on for codes 0 and 2 with DAT, otherwise 0.
 abbrev pub bitsOf : Kind → List ℕ → ℕ
 bitsOf Kind.Late ws = 0
 bitsOf Kind.Errors ws = 0
@@ -37,6 +38,7 @@ bitsOf (Kind.Zero z) ws = 0
 bitsOf (Kind.Faulty f) ws = faultBits f ws
 bitsOf Kind.Whole ws = slaveBits ws
 
+-- The status word of what an answer is.
 abbrev pub statusOf : Kind → List ℕ → ℕ → ℕ
 statusOf kind ws slave = statusWord (datOf kind) (codeOf kind) (bitsOf kind ws) slave
 
@@ -84,9 +86,8 @@ unfoldable pub taken : Assembly → ℕ → ℕ → Answer → Assembly
 taken m k slave a =
     behind m (tallied (m .built .tally) (kindOf a (m .built .words) k)) (fragmentOf slave a (m .built .words) k)
 
--- What stays from one assembly to the next: the buffer's length, the words built so far, and every word past the words built.
-pub record Stays (m m′ : Assembly) : Type 0 where
-  pub size : length (m′ .reply) ≡ length (m .reply)
-  pub grows : m .built .words ≤ m′ .built .words
-  pub before : (i : ℕ) → i < m .built .words → getD (m′ .reply) i 0 ≡ getD (m .reply) i 0
-  pub after : (i : ℕ) → m′ .built .words ≤ i → getD (m′ .reply) i 0 ≡ getD (m .reply) i 0
+-- A buffer changed at most from one place up to another: its length, the words before and the words behind are as they were.
+pub record Changed (buffer buffer′ : List ℕ) (from to : ℕ) : Type 0 where
+  pub size : length buffer′ ≡ length buffer
+  pub before : (i : ℕ) → i < from → getD buffer′ i 0 ≡ getD buffer i 0
+  pub after : (i : ℕ) → to ≤ i → getD buffer′ i 0 ≡ getD buffer i 0

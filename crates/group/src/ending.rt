@@ -10,7 +10,6 @@ use crate::Heard;
 use crate::Reply;
 use crate::Tally;
 use crate::ZeroLength;
-use crate::fragment::copy;
 use crate::fragment::fits;
 use crate::judge::zero_bc;
 
@@ -89,7 +88,7 @@ pub fn pass_on(reply: &mut [u16], heard: Heard, words: &[u16]) -> Reply
     if reply.len() < n {
         return zero_reply(ZeroLength::Abort);
     }
-    copy(reply, 0, words);
+    base::copy(reply, 0, words);
     Reply {
         bc: heard.bc % 4,
         words: n,

@@ -3,7 +3,6 @@ ghost use mathlib.Core.Path.{_≡_};
 ghost use Prim.Native.Nat.{min, _+_, _≤_, _<_};
 ghost use lib.Dec.{leb};
 ghost use lib.ListN.{length};
-ghost use Rattle.base.specs.Words.{laid};
 ghost use Rattle.group.specs.Kind.{answer, datOf, codeOf};
 ghost use Rattle.group.specs.Fragment.{statusWord, slaveBits, faultBits, bitsOf, statusOf, framed, assembly, behind, taken};
 use crate::Built;
@@ -17,7 +16,7 @@ use crate::judge::tallied;
 use crate::judge::zero_code;
 
 // DAT of what an answer is.
-pub fn dat_of(kind: Kind) -> u16
+fn dat_of(kind: Kind) -> u16
     ensures { λ r. ⌜ r ≡ datOf kind ⌝ }
 {
     match kind {
@@ -30,7 +29,7 @@ pub fn dat_of(kind: Kind) -> u16
 }
 
 // The reply code of what an answer is.
-pub fn code_of(kind: Kind) -> u16
+fn code_of(kind: Kind) -> u16
     ensures { λ r. ⌜ r ≡ codeOf kind ⌝ }
 {
     match kind {
@@ -101,25 +100,13 @@ fn counted(n: usize) -> u16
 }
 
 // n words have a place from one on in a run.
-pub fn fits(at: usize, n: usize, run: usize) -> bool
+pub(crate) fn fits(at: usize, n: usize, run: usize) -> bool
     ensures { λ r. ⌜ r ≡ leb (at + n) run ⌝ }
 {
     if run < n {
         return false;
     }
     at <= run - n
-}
-
-// Words copied into a run.
-pub(crate) fn copy(to: &mut [u16], at: usize, from: &[u16])
-    requires { ⌜ at + length (now from) ≤ length (now to) ⌝ }
-    ensures { λ _. ⌜ now (to .exit) ≡ laid (now (to .entry)) at (now (from .entry)) ⌝ }
-{
-    let mut i = 0;
-    while i < from.len() {
-        to[at + i] = from[i];
-        i += 1;
-    }
 }
 
 // A fragment laid behind the words built, the tally then being `tally`; nothing where the buffer cannot hold it.
@@ -133,7 +120,7 @@ fn lay(reply: &mut [u16], built: Built, tally: Tally, words: &[u16], status: u16
         return built;
     }
     reply[w] = (n + 1) as u16;
-    copy(reply, w + 1, words);
+    base::copy(reply, w + 1, words);
     reply[w + 1 + n] = status;
     Built {
         words: w + n + 2,

@@ -11,7 +11,7 @@ use crate::Tally;
 use crate::ZeroLength;
 
 // The 0-length reply with a BC.
-pub fn zero_of(bc: u32) -> ZeroLength
+fn zero_of(bc: u32) -> ZeroLength
     ensures { λ r. ⌜ r ≡ zeroOf bc ⌝ }
 {
     if bc % 4 == 0 {
@@ -39,7 +39,7 @@ pub fn zero_bc(zero: ZeroLength) -> u32
 }
 
 // The reply code of a 0-length reply.
-pub fn zero_code(zero: ZeroLength) -> u16
+pub(crate) fn zero_code(zero: ZeroLength) -> u16
     ensures { λ r. ⌜ r ≡ zeroCode zero ⌝ }
 {
     match zero {
@@ -51,7 +51,7 @@ pub fn zero_code(zero: ZeroLength) -> u16
 }
 
 // The reply code of a fault.
-pub fn fault_code(fault: Fault) -> u16
+pub(crate) fn fault_code(fault: Fault) -> u16
     ensures { λ r. ⌜ r ≡ faultCode fault ⌝ }
 {
     match fault {
@@ -161,7 +161,7 @@ fn whole_tallied(tally: Tally) -> Tally
 }
 
 // The tally with one answer more.
-pub fn tallied(tally: Tally, kind: Kind) -> Tally
+pub(crate) fn tallied(tally: Tally, kind: Kind) -> Tally
     ensures { λ r. ⌜ r ≡ tallied tally kind ⌝ }
 {
     match kind {

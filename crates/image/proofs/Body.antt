@@ -49,10 +49,16 @@ body-tells memory body h =
     let f = eqb (getD body (n - 1) 0) (fcsOf (take (n - 1) body)) in
     let z = zeroByteOk memory body in
     let r = and-right l (f && z) h in
-    record { least = leb-true 2 n (and-left l (f && z) h); fcs = eqb-true (getD body (n - 1) 0) (fcsOf (take (n - 1) body)) (and-left f z r); zero-byte = and-right f z r }
+    record {
+      least = leb-true 2 n (and-left l (f && z) h);
+      fcs = eqb-true (getD body (n - 1) 0) (fcsOf (take (n - 1) body)) (and-left f z r);
+      zero-byte = and-right f z r;
+    }
 
 -- the words before the FCS are what the memory words pack to, if their number is right and a byte that fills up is zero
-front-packed : (k n : ℕ) (body : List ℕ) → 1 ≤ length body → length body - 1 ≡ (n * k + 1) / 2 → (n * k % 2 ≡ 1 → getD body (length body - 2) 0 % 256 ≡ 0) → Below 65536 body → take (length body - 1) body ≡ packed k (unpacked k n body)
+front-packed : (k n : ℕ) (body : List ℕ) → 1 ≤ length body → length body - 1 ≡ (n * k + 1) / 2
+    → (n * k % 2 ≡ 1 → getD body (length body - 2) 0 % 256 ≡ 0) → Below 65536 body
+    → take (length body - 1) body ≡ packed k (unpacked k n body)
 front-packed k n body some e z below =
     let front = take (length body - 1) body in
     let l : length front ≡ length body - 1 = length-take-le (length body - 1) body (omega arith) in
@@ -66,7 +72,8 @@ front-packed k n body some e z below =
     sym (ap (packed k) u ∙ packed-unpacked k n front (l ∙ e) last (below-take (length body - 1) body below))
 
 -- a body whose words before the FCS are packed memory words is those, sealed
-sealed-front : (body front : List ℕ) → 1 ≤ length body → getD body (length body - 1) 0 ≡ fcsOf (take (length body - 1) body) → take (length body - 1) body ≡ front → body ≡ sealed front
+sealed-front : (body front : List ℕ) → 1 ≤ length body → getD body (length body - 1) 0 ≡ fcsOf (take (length body - 1) body)
+    → take (length body - 1) body ≡ front → body ≡ sealed front
 unfolding sealed
 sealed-front body front some f e =
     let n = length body - 1 in
@@ -76,32 +83,41 @@ sealed-front body front some f e =
     ∙ ap (λ (w : ℕ). take n body ++ (w ∷ [])) f
     ∙ ap (λ (l : List ℕ). l ++ (fcsOf l ∷ [])) e
 
+-- words of two bytes fill up nothing
+two-bytes-packed : (n : ℕ) (body : List ℕ) → 2 ≤ length body → length body ≡ n * 2 / 2
+    → getD body (length body - 1) 0 ≡ fcsOf (take (length body - 1) body) → Below 65536 body
+    → body ≡ sealed (packed 2 (unpacked 2 (n - 1) body))
+two-bytes-packed n body some l f below =
+    sealed-front body (packed 2 (unpacked 2 (n - 1) body)) (omega arith) f
+    (front-packed 2 (n - 1) body (omega arith) (omega arith) (λ o. absurd (omega arith)) below)
+
 -- a body of a permitted length is its memory words, packed and sealed
-body-packed : (memory : Memory) (n : ℕ) (body : List ℕ) → lengthOk memory n ≡ true → length body ≡ bodyWords memory n → BodyOk memory body → Below 65536 body → body ≡ bodyOf memory (unpacked (wordBytes memory) (n - 1) body)
+body-packed : (memory : Memory) (n : ℕ) (body : List ℕ) → lengthOk memory n ≡ true → length body ≡ bodyWords memory n → BodyOk memory body
+    → Below 65536 body → body ≡ bodyOf memory (unpacked (wordBytes memory) (n - 1) body)
 unfolding lengthOk
 body-packed Memory.Pm n body ok l b below =
     let even = eqb-true (n % 2) 0 (and-left (eqb (n % 2) 0) (leb 2 n) ok) in
     let z = eqb-true (getD body (length body - 2) 0 % 256) 0 (b .zero-byte) in
     let some = b .least in
-    sealed-front body (packed 3 (unpacked 3 (n - 1) body)) (omega arith) (b .fcs) (front-packed 3 (n - 1) body (omega arith) (omega arith) (λ o. z) below)
-body-packed Memory.Dm n body ok l b below =
-    let some = b .least in
-    sealed-front body (packed 2 (unpacked 2 (n - 1) body)) (omega arith) (b .fcs) (front-packed 2 (n - 1) body (omega arith) (omega arith) (λ o. absurd (omega arith)) below)
-body-packed Memory.Io n body ok l b below =
-    let some = b .least in
-    sealed-front body (packed 2 (unpacked 2 (n - 1) body)) (omega arith) (b .fcs) (front-packed 2 (n - 1) body (omega arith) (omega arith) (λ o. absurd (omega arith)) below)
+    sealed-front body (packed 3 (unpacked 3 (n - 1) body)) (omega arith) (b .fcs)
+    (front-packed 3 (n - 1) body (omega arith) (omega arith) (λ o. z) below)
+body-packed Memory.Dm n body ok l b below = two-bytes-packed n body (b .least) l (b .fcs) below
+body-packed Memory.Io n body ok l b below = two-bytes-packed n body (b .least) l (b .fcs) below
 
 -- the words of a valid segment: what follows its two header words is its memory words, packed and sealed
-pub segment-body : (segment : List ℕ) → spanOf (getD segment 0 0) ≡ Span.Words (length segment) → segmentOk segment ≡ true → Below 65536 segment → drop 2 segment ≡ bodyOf (memoryOf (getD segment 0 0)) (memoryWords (getD segment 0 0) (drop 2 segment))
+pub segment-body : (segment : List ℕ) → spanOf (getD segment 0 0) ≡ Span.Words (length segment) → segmentOk segment ≡ true
+    → Below 65536 segment → drop 2 segment ≡ bodyOf (memoryOf (getD segment 0 0)) (memoryWords (getD segment 0 0) (drop 2 segment))
 segment-body segment span ok below =
     let first = getD segment 0 0 in
     let s = segment-ok-tells segment ok in
     let l : length (drop 2 segment) ≡ bodyWords (memoryOf first) (lengthOf first) =
     length-drop 2 segment ∙ (let e = span-body first (length segment) span in omega arith) in
-    body-packed (memoryOf first) (lengthOf first) (drop 2 segment) (s .length-ok) l (body-tells (memoryOf first) (drop 2 segment) (s .body-ok)) (below-drop 2 segment below)
+    body-packed (memoryOf first) (lengthOf first) (drop 2 segment) (s .length-ok) l
+    (body-tells (memoryOf first) (drop 2 segment) (s .body-ok)) (below-drop 2 segment below)
 
 -- the same of a segment that stands in a run of words
-pub segment-body-at : (words : List ℕ) (at end : ℕ) → segmentEnd words at ≡ End.At end → Below 65536 words → part words (at + 2) (end - (at + 2)) ≡ bodyOf (memoryOf (getD words at 0)) (memoryWords (getD words at 0) (part words (at + 2) (end - (at + 2))))
+pub segment-body-at : (words : List ℕ) (at end : ℕ) → segmentEnd words at ≡ End.At end → Below 65536 words
+    → part words (at + 2) (end - (at + 2)) ≡ bodyOf (memoryOf (getD words at 0)) (memoryWords (getD words at 0) (part words (at + 2) (end - (at + 2))))
 segment-body-at words at end h below =
     let s = segment-tells words at end h in
     let n = s .size in

@@ -10,4 +10,16 @@ use Rattle.image.specs.Examples.{Examples}
 pub examples : Examples
 unfolding fcsBit fcsBits fcsWord fcsFrom headerOk memoryOf pageOf lengthOk pageOk spanOf bodyOk segmentOk segmentEnd bytesOf numberOf spread gather paired packed unpacked walk fileEnd
 examples =
-    record { packs = refl; unpacks = refl; memory = refl; span = refl; page = refl; address = refl; shortest = refl; words-after = refl; wrong-fcs = refl; pm = refl; io = refl }
+    record {
+      packs = refl;
+      unpacks = refl;
+      memory = refl;
+      span = refl;
+      page = refl;
+      address = refl;
+      shortest = refl;
+      words-after = refl;
+      wrong-fcs = refl;
+      pm = refl;
+      io = refl;
+    }

@@ -22,7 +22,8 @@ use Rattle.image.specs.declared.End.{End}
 use Rattle.image.proofs.Segment.{not-at, at-injective, segment-tells, segment-local}
 
 -- a turn of the walk, by where its first segment ends
-pub walk-turn : (n : ℕ) (words : List ℕ) (at : ℕ) (end : End) → 0 < n → end ≡ segmentEnd words at → walk n words at ≡ after end (λ e. walk (n - 1) words e)
+pub walk-turn : (n : ℕ) (words : List ℕ) (at : ℕ) (end : End) → 0 < n → end ≡ segmentEnd words at
+    → walk n words at ≡ after end (λ e. walk (n - 1) words e)
 unfolding walk
 walk-turn zero words at end h e = absurd (not-suc-le-zero h)
 walk-turn (suc n) words at end h e = ap (λ (s : End). after s (λ k. walk n words k)) (sym e) ∙ simp sub-one
@@ -78,7 +79,11 @@ walk-local (suc n) a b at end h same =
     let e = s .ends in
     let p = walk-tells n a (t .next) end (t .rest) .past in
     walk-told n b at end
-    (record { next = t .next; first = segment-local a b at (t .next) (t .first) (same-within at (t .next) same (omega arith) (omega arith)); rest = walk-local n a b (t .next) end (t .rest) (same-within (t .next) end same (omega arith) (omega arith)) })
+    (record {
+      next = t .next;
+      first = segment-local a b at (t .next) (t .first) (same-within at (t .next) same (omega arith) (omega arith));
+      rest = walk-local n a b (t .next) end (t .rest) (same-within (t .next) end same (omega arith) (omega arith));
+    })
 
 -- type and segments are all of a header word that its validity rests on
 pub header-same : (a b : ℕ) → typeOf a ≡ typeOf b → segmentsOf a ≡ segmentsOf b → headerOk a ≡ headerOk b
@@ -116,12 +121,14 @@ file-tells words end h =
     record { header = p .0; walked = p .1; least = omega arith; fits = w .fits (some-words words (p .0)) }
 
 -- .. and what tells its end
-pub file-told : (words : List ℕ) (end : ℕ) → headerOk (getD words 0 0) ≡ true → walk (segmentsOf (getD words 0 0)) words 1 ≡ End.At end → fileEnd words ≡ End.At end
+pub file-told : (words : List ℕ) (end : ℕ) → headerOk (getD words 0 0) ≡ true → walk (segmentsOf (getD words 0 0)) words 1 ≡ End.At end
+    → fileEnd words ≡ End.At end
 unfolding fileEnd
 file-told words end p q = sym (yes _ p (sym q))
 
 -- the words past its end don't count, and of its header those bits alone that its validity rests on
-pub file-local-but-header : (a b : List ℕ) (end : ℕ) → fileEnd a ≡ End.At end → headerOk (getD b 0 0) ≡ true → segmentsOf (getD a 0 0) ≡ segmentsOf (getD b 0 0) → Same a b 1 end → fileEnd b ≡ End.At end
+pub file-local-but-header : (a b : List ℕ) (end : ℕ) → fileEnd a ≡ End.At end → headerOk (getD b 0 0) ≡ true
+    → segmentsOf (getD a 0 0) ≡ segmentsOf (getD b 0 0) → Same a b 1 end → fileEnd b ≡ End.At end
 file-local-but-header a b end h ok e same =
     let f = file-tells a end h in
     file-told b end ok (ap (λ (n : ℕ). walk n b 1) (sym e) ∙ walk-local (segmentsOf (getD a 0 0)) a b 1 end (f .walked) same)
@@ -148,8 +155,10 @@ file-front words end fits h =
     file-local (take end words) words end h
     (record { left = omega arith; right = fits; words = λ i p q. getD-take end words i 0 q })
 
--- a header that differs in bits 13-12 alone leaves the file valid, with the same length
-pub file-attribute : (words : List ℕ) (end header : ℕ) → fileEnd words ≡ End.At end → typeOf header ≡ typeOf (getD words 0 0) → segmentsOf header ≡ segmentsOf (getD words 0 0) → fileEnd (laid words 0 (header ∷ [])) ≡ End.At end
+-- so another header of the same type and count of segments, as one that differs in bits 13-12 alone, leaves the file valid, with
+-- the same length
+pub file-attribute : (words : List ℕ) (end header : ℕ) → fileEnd words ≡ End.At end → typeOf header ≡ typeOf (getD words 0 0)
+    → segmentsOf header ≡ segmentsOf (getD words 0 0) → fileEnd (laid words 0 (header ∷ [])) ≡ End.At end
 file-attribute words end header h t s =
     let f = file-tells words end h in
     let m = f .least in

@@ -155,7 +155,8 @@ last-cons p q ps =
     rw (e, d)
 
 -- words of which the first m bytes count; where m is odd, the last byte is zero
-paired-spread : (ps : List ℕ) (m : ℕ) → length ps ≡ (m + 1) / 2 → (m % 2 ≡ 1 → getD ps (length ps - 1) 0 % 256 ≡ 0) → Below 65536 ps → paired (take m (spread 2 ps)) ≡ ps
+paired-spread : (ps : List ℕ) (m : ℕ) → length ps ≡ (m + 1) / 2 → (m % 2 ≡ 1 → getD ps (length ps - 1) 0 % 256 ≡ 0) → Below 65536 ps
+    → paired (take m (spread 2 ps)) ≡ ps
 unfolding paired spread bytesOf
 paired-spread [] zero e z h = refl
 paired-spread [] (suc m) e z h = absurd (omega arith)
@@ -169,7 +170,8 @@ paired-spread (p ∷ q ∷ ps) (suc zero) e z h = absurd (omega arith)
 paired-spread (p ∷ []) (suc (suc zero)) e z h = rw (two-number p (h zero))
 paired-spread (p ∷ []) (suc (suc (suc m))) e z h = absurd (omega arith)
 paired-spread (p ∷ q ∷ ps) (suc (suc m)) e z h =
-    rw (two-number p (h zero)) (ap (λ (l : List ℕ). p ∷ l) (paired-spread (q ∷ ps) m (omega arith) (λ o. ap (λ (x : ℕ). x % 256) (sym (last-cons p q ps)) ∙ z (omega arith)) (λ i. h (suc i))))
+    rw (two-number p (h zero))
+    (ap (λ (l : List ℕ). p ∷ l) (paired-spread (q ∷ ps) m (omega arith) (λ o. ap (λ (x : ℕ). x % 256) (sym (last-cons p q ps)) ∙ z (omega arith)) (λ i. h (suc i))))
 
 -- the fact over word size: memory words packed and unpacked again are the memory words, whatever stands behind them
 pub unpacked-packed : (k : ℕ) (ws rest : List ℕ) → Below (256 ^ k) ws → unpacked k (length ws) (packed k ws ++ rest) ≡ ws
@@ -177,7 +179,8 @@ unfolding packed unpacked
 unpacked-packed k ws rest h = rw (spread-paired (spread k ws) rest (spread-below k ws)) (gather-spread k ws (padOf (spread k ws) ++ spread 2 rest) h)
 
 -- and back: packet words unpacked and packed again are the packet words, if a byte that fills up the last one is zero
-pub packed-unpacked : (k n : ℕ) (ps : List ℕ) → length ps ≡ (n * k + 1) / 2 → (n * k % 2 ≡ 1 → getD ps (length ps - 1) 0 % 256 ≡ 0) → Below 65536 ps → packed k (unpacked k n ps) ≡ ps
+pub packed-unpacked : (k n : ℕ) (ps : List ℕ) → length ps ≡ (n * k + 1) / 2 → (n * k % 2 ≡ 1 → getD ps (length ps - 1) 0 % 256 ≡ 0)
+    → Below 65536 ps → packed k (unpacked k n ps) ≡ ps
 unfolding packed unpacked
 packed-unpacked k n ps e z h =
     rw (spread-gather k n (spread 2 ps) (omega (arith, length-spread 2 ps)) (spread-below 2 ps)) (paired-spread ps (n * k) e z h)
@@ -195,7 +198,8 @@ unpacked-two zero ps e h = refl
 unpacked-two (suc n) [] e h = absurd (omega arith)
 unpacked-two (suc n) (p ∷ ps) e h =
     let d : p % 65536 ≡ p = mod-eq-of-lt (h zero) in
-    ap (λ (x : ℕ). x ∷ gather 2 n (spread 2 ps)) (number-bytes 2 p ∙ d) ∙ ap (λ (l : List ℕ). p ∷ l) (unpacked-two n ps (omega arith) (λ i. h (suc i)))
+    ap (λ (x : ℕ). x ∷ gather 2 n (spread 2 ps)) (number-bytes 2 p ∙ d)
+    ∙ ap (λ (l : List ℕ). p ∷ l) (unpacked-two n ps (omega arith) (λ i. h (suc i)))
 
 -- three bytes a word: two memory words are three packet words, and a last one alone is two
 
@@ -214,7 +218,8 @@ packed-three-last a =
     let y : a / 256 ^ 0 % 256 * 256 ≡ a % 256 * 256 = omega arith in
     rw (x, y)
 
-pub unpacked-three : (n x y z : ℕ) (ps : List ℕ) → unpacked 3 (suc (suc n)) (x ∷ y ∷ z ∷ ps) ≡ (x % 65536 * 256 + y / 256 % 256) ∷ (y % 256 * 65536 + z % 65536) ∷ unpacked 3 n ps
+pub unpacked-three : (n x y z : ℕ) (ps : List ℕ)
+    → unpacked 3 (suc (suc n)) (x ∷ y ∷ z ∷ ps) ≡ (x % 65536 * 256 + y / 256 % 256) ∷ (y % 256 * 65536 + z % 65536) ∷ unpacked 3 n ps
 unfolding unpacked gather spread bytesOf numberOf
 unpacked-three n x y z ps =
     let a : x / 256 ^ 1 % 256 * 256 ^ 2 + (x / 256 ^ 0 % 256 * 256 ^ 1 + (y / 256 ^ 1 % 256 * 256 ^ 0 + 0)) ≡ x % 65536 * 256 + y / 256 % 256 = omega arith in
@@ -258,3 +263,17 @@ gather-below k (suc n) bs h (suc i) = gather-below k n (drop k bs) (below-drop k
 pub unpacked-below : (k n : ℕ) (ps : List ℕ) → Below (256 ^ k) (unpacked k n ps)
 unfolding unpacked
 unpacked-below k n ps i = gather-below k n (spread 2 ps) (spread-below 2 ps) i
+
+-- an odd number of bytes leaves a zero byte behind the last
+paired-last : (bs : List ℕ) → length bs % 2 ≡ 1 → getD (paired bs) (length (paired bs) - 1) 0 % 256 ≡ 0
+unfolding paired
+paired-last [] h = absurd (omega arith)
+paired-last (a ∷ []) h = omega arith
+paired-last (a ∷ b ∷ bs) h =
+    let l = length-paired bs in
+    let e : suc (length (paired bs)) - 1 ≡ suc (length (paired bs) - 1) = omega arith in
+    ap (λ (i : ℕ). getD ((a * 256 + b) ∷ paired bs) i 0 % 256) e ∙ paired-last bs (omega arith)
+
+pub packed-last : (k : ℕ) (ws : List ℕ) → length ws * k % 2 ≡ 1 → getD (packed k ws) (length (packed k ws) - 1) 0 % 256 ≡ 0
+unfolding packed
+packed-last k ws h = paired-last (spread k ws) (ap (λ (n : ℕ). n % 2) (length-spread k ws) ∙ h)

@@ -50,7 +50,8 @@ unpack-start packet words =
 pub unpack-turn : (packet words : List ℕ) (n i j : ℕ) {u v : ℕ} → i + 1 < n → n ≤ length words → j + 3 ≤ length packet
     → u ≡ getD packet j 0 % 65536 * 256 + getD packet (j + 1) 0 / 256 % 256
     → v ≡ getD packet (j + 1) 0 % 256 * 65536 + getD packet (j + 2) 0 % 65536
-    → laid words i (unpacked 3 (n - i) (drop j packet)) ≡ laid (set (set words i u) (i + 1) v) (i + 2) (unpacked 3 (n - (i + 2)) (drop (j + 3) packet))
+    → laid words i (unpacked 3 (n - i) (drop j packet)) ≡ laid (set (set words i u) (i + 1) v) (i + 2)
+    (unpacked 3 (n - (i + 2)) (drop (j + 3) packet))
 unpack-turn packet words n i j {u} {v} h fits there eu ev =
     let e : n - i ≡ suc (suc (n - (i + 2))) = omega arith in
     let rest = unpacked 3 (n - (i + 2)) (drop (j + 3) packet) in

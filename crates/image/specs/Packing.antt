@@ -1,6 +1,7 @@
 -- Memory words in packet words, the one fact over word size: PM has words of three bytes, DM and IO of two, and a packet word
 -- has two, so that AABBCC DDEEFF pack as AABB CCDD EEFF. 01 'Files and memories'. Assumes nothing.
 use Prim.Native.Nat.{ℕ, zero, suc, _+_, _-_, _*_, _/_, _%_, _^_}
+use mathlib.Core.Bool.{Bool}
 use mathlib.Core.List.{List, [], _∷_, _++_}
 use lib.ListN.{length, take, drop}
 use lib.Dec.{leb}
@@ -44,13 +45,17 @@ packed k words = paired (spread k words)
 unfoldable pub unpacked : ℕ → ℕ → List ℕ → List ℕ
 unpacked k n packet = gather k n (spread 2 packet)
 
+-- n PM words take (3n + 1)/2 packet words; whether those stand inside a run of packet words from a place on.
+abbrev pub pmFits : ℕ → ℕ → ℕ → Bool
+pmFits n at len = leb (at + (n * 3 + 1) / 2) len
+
 -- Packet words with PM words packed into them from a place on; as they were where those don't fit.
 unfoldable pub packedInto : List ℕ → ℕ → List ℕ → List ℕ
-packedInto packet at words = pick (leb (at + length (packed 3 words)) (length packet)) (laid packet at (packed 3 words)) packet
+packedInto packet at words = pick (pmFits (length words) at (length packet)) (laid packet at (packed 3 words)) packet
 
 -- PM words that are all unpacked out of the packet words from a place on; as they were where those aren't all there.
 unfoldable pub unpackedFrom : List ℕ → ℕ → List ℕ → List ℕ
-unpackedFrom packet at words = pick (leb (at + length (packed 3 words)) (length packet)) (unpacked 3 (length words) (drop at packet)) words
+unpackedFrom packet at words = pick (pmFits (length words) at (length packet)) (unpacked 3 (length words) (drop at packet)) words
 
 -- The packet words of a body of L memory words: 3L/2 in PM, L in DM and IO.
 abbrev pub bodyWords : Memory → ℕ → ℕ

@@ -1,10 +1,11 @@
 // PM words in packet words: AABBCC DDEEFF pack as AABB CCDD EEFF, and a last word alone has a zero byte behind it. Two PM words
 // are three packet words, so the loops go by two and three.
-ghost use Prim.Native.Nat.{_+_, _*_, _/_, _%_, _≤_};
+ghost use Prim.Native.Nat.{_+_, _*_, _/_, _%_};
+ghost use mathlib.Core.Bool.{true};
 ghost use mathlib.Core.Path.{_≡_};
 ghost use lib.ListN.{length, drop};
 ghost use Rattle.base.specs.Words.{laid};
-ghost use Rattle.image.specs.Packing.{packed, unpacked, packedInto, unpackedFrom};
+ghost use Rattle.image.specs.Packing.{packed, unpacked, pmFits, packedInto, unpackedFrom};
 
 // The first packet word of two PM words: AABB of AABBCC ..
 pub fn first_of(a: u32) -> u16
@@ -41,16 +42,21 @@ pub fn low_of(y: u16, z: u16) -> u32
     (y as u32) % 256 * 65536 + z as u32
 }
 
-// How many PM words a number of packet words has room for.
-fn room_for(room: usize) -> usize
-    ensures { λ r. ⌜ r ≡ room / 3 * 2 + room % 3 / 2 ⌝ }
+// Whether n PM words, packed, stand inside `len` packet words from `at` on: two of them take three, so the room is asked how many
+// it has, in numbers that don't wrap.
+fn has_room(n: usize, at: usize, len: usize) -> bool
+    ensures { λ r. ⌜ r ≡ pmFits n at len ⌝ }
 {
-    room / 3 * 2 + room % 3 / 2
+    if len < at {
+        return false;
+    }
+    let room = len - at;
+    n <= room / 3 * 2 + room % 3 / 2
 }
 
 // Packs words that fit.
 fn pack_all(words: &[u32], packet: &mut [u16], at: usize)
-    requires { ⌜ at + (length (now words) * 3 + 1) / 2 ≤ length (now packet) ⌝ }
+    requires { ⌜ pmFits (length (now words)) at (length (now packet)) ≡ true ⌝ }
     ensures { λ _. ⌜ now (packet .exit) ≡ laid (now (packet .entry)) at (packed 3 (now (words .entry))) ⌝ }
 {
     let mut i = 0;
@@ -76,19 +82,14 @@ fn pack_all(words: &[u32], packet: &mut [u16], at: usize)
 pub fn pack(words: &[u32], packet: &mut [u16], at: usize)
     ensures { λ _. ⌜ now (packet .exit) ≡ packedInto (now (packet .entry)) at (now (words .entry)) ⌝ }
 {
-    let len = packet.len();
-    if len < at {
-        return;
+    if has_room(words.len(), at, packet.len()) {
+        pack_all(words, packet, at);
     }
-    if room_for(len - at) < words.len() {
-        return;
-    }
-    pack_all(words, packet, at);
 }
 
 // Unpacks words that are there.
 fn unpack_all(packet: &[u16], at: usize, words: &mut [u32])
-    requires { ⌜ at + (length (now words) * 3 + 1) / 2 ≤ length (now packet) ⌝ }
+    requires { ⌜ pmFits (length (now words)) at (length (now packet)) ≡ true ⌝ }
     ensures { λ _. ⌜ now (words .exit) ≡ unpacked 3 (length (now (words .entry))) (drop at (now (packet .entry))) ⌝ }
 {
     let n = words.len();
@@ -111,12 +112,7 @@ fn unpack_all(packet: &[u16], at: usize, words: &mut [u32])
 pub fn unpack(packet: &[u16], at: usize, words: &mut [u32])
     ensures { λ _. ⌜ now (words .exit) ≡ unpackedFrom (now (packet .entry)) at (now (words .entry)) ⌝ }
 {
-    let len = packet.len();
-    if len < at {
-        return;
+    if has_room(words.len(), at, packet.len()) {
+        unpack_all(packet, at, words);
     }
-    if room_for(len - at) < words.len() {
-        return;
-    }
-    unpack_all(packet, at, words);
 }

@@ -1,8 +1,17 @@
 // Entries by which a C program times the functions of the crates below: each hands what it is lent to one of them.
-use image::End;
+use flash::Erasing;
 ghost use mathlib.Core.Path.{_≡_};
+ghost use Prim.Native.Nat.{_%_};
+ghost use lib.ListN.{getD};
 ghost use Rattle.fcs.specs.Fcs.{fcsOf};
 ghost use Rattle.image.specs.File.{fileEnd, lengthOr0};
+ghost use Rattle.flash.specs.Directory.{directoryOf};
+ghost use Rattle.flash.specs.declared.Erasing;
+ghost use Rattle.perf.specs.Group.{takenBehind, endedBehind};
+use group::Built;
+use group::Heard;
+use group::Tally;
+use image::End;
 
 #[no_mangle]
 pub extern "C" fn perf_fcs(words: &[u16]) -> u16
@@ -21,4 +30,54 @@ pub extern "C" fn perf_file_end(words: &[u16]) -> usize
         End::At(length) => length,
         End::Invalid => 0,
     }
+}
+
+// A word of the directory of a flash, worked out afresh.
+#[no_mangle]
+pub extern "C" fn perf_scan(words: &[u16], at: usize) -> u16
+    ensures { λ r. ⌜ r ≡ getD (directoryOf (now (words .entry)) Erasing.Nothing) (at % 32) 0 ⌝ }
+{
+    let directory = flash::directory::scan(words, Erasing::Nothing);
+    directory[at % 32]
+}
+
+// A slave's reply taken into a group behind the words built; the words then built.
+#[no_mangle]
+pub extern "C" fn perf_take(
+    reply: &mut [u16],
+    built: usize,
+    left: usize,
+    slave: u32,
+    words: &[u16],
+) -> usize
+    ensures { λ r. ⌜ now (reply .exit) ≡ takenBehind (now (reply .entry)) built left slave (now (words .entry)) .reply ⌝ }
+    ensures { λ r. ⌜ r ≡ takenBehind (now (reply .entry)) built left slave (now (words .entry)) .built .words ⌝ }
+{
+    let before = Built {
+        words: built,
+        tally: Tally::Whole,
+    };
+    let heard = Heard {
+        late: false,
+        errors: false,
+        rx_status: 0,
+        rx_address: 0,
+        bc: 3,
+    };
+    let after = group::fragment::take_answer(reply, before, left, slave, heard, words);
+    after.words
+}
+
+// The end of that group; the words of its reply.
+#[no_mangle]
+pub extern "C" fn perf_finish(reply: &mut [u16], built: usize, own: u16) -> usize
+    ensures { λ r. ⌜ now (reply .exit) ≡ endedBehind (now (reply .entry)) built own .buffer ⌝ }
+    ensures { λ r. ⌜ r ≡ endedBehind (now (reply .entry)) built own .reply .words ⌝ }
+{
+    let all = Built {
+        words: built,
+        tally: Tally::Whole,
+    };
+    let sent = group::ending::finish(reply, all, own);
+    sent.words
 }

@@ -21,7 +21,8 @@ before-last body f =
     f ∙ ap (λ (n : ℕ). fcsOf (take n body)) z
 
 -- where the length is enough and the last word is the FCS of the words that were lent, the zero byte decides
-judged : (memory : Memory) (body : List ℕ) {f : ℕ} {r : Bool} → 2 ≤ length body → f ≡ fcsOf (take (length body - 1 - 0) body) → getD body (length body - 1) 0 ≡ f → r ≡ zeroByteOk memory body → r ≡ bodyOk memory body
+judged : (memory : Memory) (body : List ℕ) {f : ℕ} {r : Bool} → 2 ≤ length body → f ≡ fcsOf (take (length body - 1 - 0) body)
+    → getD body (length body - 1) 0 ≡ f → r ≡ zeroByteOk memory body → r ≡ bodyOk memory body
 unfolding bodyOk
 judged memory body h f last zero-byte = and-yes (le-leb 2 (length body) h) (and-yes (eq-eqb _ _ (last ∙ before-last body f)) zero-byte)
 
@@ -74,17 +75,20 @@ enum-told-3 c = search needs
 returns-3 : tie.Need-returns-3
 returns-3 c =
     let b = c .before .before .before .before .before .before .before .before .before .args .body .now in
-    judged _ b (omega arith) (c .before .before .before .before .fcs .ensures) (c .before .before .before .if2 .left) (via (λ (m : Memory). zeroByteOk m b) (c .before .enum-told .given .1) refl)
+    judged _ b (omega arith) (c .before .before .before .before .fcs .ensures) (c .before .before .before .if2 .left)
+    (via (λ (m : Memory). zeroByteOk m b) (c .before .enum-told .given .1) refl)
 
 returns-4 : tie.Need-returns-4
 returns-4 c =
     let b = c .before .before .before .before .before .before .before .before .args .body .now in
-    judged _ b (omega arith) (c .before .before .before .fcs .ensures) (c .before .before .if2 .left) (via (λ (m : Memory). zeroByteOk m b) (c .enum-told2 .given .1) refl)
+    judged _ b (omega arith) (c .before .before .before .fcs .ensures) (c .before .before .if2 .left)
+    (via (λ (m : Memory). zeroByteOk m b) (c .enum-told2 .given .1) refl)
 
 returns-5 : tie.Need-returns-5
 returns-5 c =
     let b = c .before .before .before .before .before .before .before .before .args .body .now in
-    judged _ b (omega arith) (c .before .before .before .fcs .ensures) (c .before .before .if2 .left) (via (λ (m : Memory). zeroByteOk m b) (c .enum-told3 .given .1) refl)
+    judged _ b (omega arith) (c .before .before .before .fcs .ensures) (c .before .before .if2 .left)
+    (via (λ (m : Memory). zeroByteOk m b) (c .enum-told3 .given .1) refl)
 
 pub body-ok-spec : {M : Type 1} → statement M
 body-ok-spec =

@@ -23,7 +23,8 @@ abbrev μ-loop : tie.MeasureT-loop
 μ-loop words header left₀ at₀ left at = left
 
 -- a turn, by what was found of the segment
-turn : (words : List ℕ) (left at : ℕ) {segment found : End} → fileEnd words ≡ walk left words at → 0 < left → segment ≡ segmentEnd words at → segment ≡ found → fileEnd words ≡ after found (λ end. walk (left - 1) words end)
+turn : (words : List ℕ) (left at : ℕ) {segment found : End} → fileEnd words ≡ walk left words at → 0 < left → segment ≡ segmentEnd words at
+    → segment ≡ found → fileEnd words ≡ after found (λ end. walk (left - 1) words end)
 turn words left at {segment} inv some ensured told =
     inv ∙ walk-turn left words at segment some ensured ∙ ap (λ (e : End). after e (λ end. walk (left - 1) words end)) told
 
@@ -76,7 +77,8 @@ loop-again : tie.Need-loop-again Inv-loop μ-loop
 loop-again c =
     let ws = c .before .before .before .before .before .before .before .before .before .before .before .before .args .words .now in
     let l = c .before .before .before .before .before .loop in
-    turn ws (l .left) (l .at) (l .inv) (c .before .before .before .before .loop-test .taken) (c .before .before .before .segment-end .ensures) (c .before .segment .given .1)
+    turn ws (l .left) (l .at) (l .inv) (c .before .before .before .before .loop-test .taken)
+    (c .before .before .before .segment-end .ensures) (c .before .segment .given .1)
 
 returns-4 : tie.Need-returns-4 Inv-loop μ-loop
 returns-4 c = sym (c .before .loop .inv ∙ walk-end _ _ _ (c .loop-test .left))

@@ -27,7 +27,8 @@ module _ (words : List ℕ) (at : ℕ) (reaches : at + 2 ≤ length words) where
   past-the-end : {n : ℕ} → spanOf (getD words at 0) ≡ Span.Words n → length words < at + n → End.Invalid ≡ segmentEnd words at
   past-the-end {n} e h = by-span e (no _ (lt-leb (at + n) (length words) h) refl)
 
-  judged : {n : ℕ} {ok : Bool} {r : End} → spanOf (getD words at 0) ≡ Span.Words n → at + n ≤ length words → ok ≡ segmentOk (part words at (at + n - at)) → r ≡ pick ok (End.At (at + n)) End.Invalid → r ≡ segmentEnd words at
+  judged : {n : ℕ} {ok : Bool} {r : End} → spanOf (getD words at 0) ≡ Span.Words n → at + n ≤ length words
+      → ok ≡ segmentOk (part words at (at + n - at)) → r ≡ pick ok (End.At (at + n)) End.Invalid → r ≡ segmentEnd words at
   judged {n} {ok} e h o r =
       let d : at + n - at ≡ n = omega arith in
       let p : ok ≡ segmentOk (part words at n) = o ∙ ap (λ (k : ℕ). segmentOk (part words at k)) d in

@@ -17,10 +17,12 @@ use Rattle.image.proofs.segment_ok.Tie as tie
 
 -- what each test was of, once the memory is known to be that of the first header word
 module _ (segment : List ℕ) {memory : Memory} (known : memory ≡ memoryOf (getD segment 0 0)) where
-  length-told : {n : ℕ} {r : Bool} → n ≡ lengthOf (getD segment 0 0) → r ≡ lengthOk memory n → lengthOk (memoryOf (getD segment 0 0)) (lengthOf (getD segment 0 0)) ≡ r
+  length-told : {n : ℕ} {r : Bool} → n ≡ lengthOf (getD segment 0 0) → r ≡ lengthOk memory n
+      → lengthOk (memoryOf (getD segment 0 0)) (lengthOf (getD segment 0 0)) ≡ r
   length-told e h = sym (h ∙ ap₂ lengthOk known e)
 
-  page-told : {page : Page} {r : Bool} → page ≡ pageOf (getD segment 1 0) → r ≡ pageOk memory page → pageOk (memoryOf (getD segment 0 0)) (pageOf (getD segment 1 0)) ≡ r
+  page-told : {page : Page} {r : Bool} → page ≡ pageOf (getD segment 1 0) → r ≡ pageOk memory page
+      → pageOk (memoryOf (getD segment 0 0)) (pageOf (getD segment 1 0)) ≡ r
   page-told e h = sym (h ∙ ap₂ pageOk known e)
 
   body-told : {r : Bool} → r ≡ bodyOk memory (take (length segment - 2) (drop 2 segment)) → r ≡ bodyOk (memoryOf (getD segment 0 0)) (drop 2 segment)
@@ -85,7 +87,8 @@ returns-3 c =
     let m = c .before .before .before .before .before .before .before .before .before .before .memory-of .ensures in
     let l = length-told s m (c .before .before .before .before .before .before .before .before .length-of .ensures) (c .before .before .before .before .before .before .before .length-ok .ensures) in
     let p = page-told s m (c .before .before .before .before .page-of .ensures) (c .before .before .before .page-ok .ensures) in
-    and-yes (l ∙ not-false _ (c .before .before .before .before .before .before .if1 .left)) (and-yes (p ∙ not-false _ (c .before .before .if2 .left)) (body-told s m (c .body-ok .ensures)))
+    and-yes (l ∙ not-false _ (c .before .before .before .before .before .before .if1 .left))
+    (and-yes (p ∙ not-false _ (c .before .before .if2 .left)) (body-told s m (c .body-ok .ensures)))
 
 pub segment-ok-spec : {M : Type 1} → statement M
 segment-ok-spec =

@@ -33,7 +33,8 @@ add-t9 c = search needs
 
 returns : tie.Need-returns
 returns c =
-    by-memory (c .before .before .before .before .before .args .first) (c .before .before .before .memory-of .ensures) (c .before .enum-told .given .1) (c .before .before .before .before .length-of .ensures) (yes _ (eq-eqb _ _ (c .if1 .taken)) refl)
+    by-memory (c .before .before .before .before .before .args .first) (c .before .before .before .memory-of .ensures)
+    (c .before .enum-told .given .1) (c .before .before .before .before .length-of .ensures) (yes _ (eq-eqb _ _ (c .if1 .taken)) refl)
 
 enum-told-2 : tie.Need-enum-told-2
 enum-told-2 c = search needs
@@ -49,15 +50,18 @@ add-t11 c = search needs
 
 returns-2 : tie.Need-returns-2
 returns-2 c =
-    by-memory (c .before .before .before .before .before .args .first) (c .before .before .before .memory-of .ensures) (c .before .enum-told .given .1) (c .before .before .before .before .length-of .ensures) (no _ (ne-eqb _ _ (c .if1 .left)) refl)
+    by-memory (c .before .before .before .before .before .args .first) (c .before .before .before .memory-of .ensures)
+    (c .before .enum-told .given .1) (c .before .before .before .before .length-of .ensures) (no _ (ne-eqb _ _ (c .if1 .left)) refl)
 
 returns-3 : tie.Need-returns-3
 returns-3 c =
-    by-memory (c .before .before .before .before .args .first) (c .before .before .memory-of .ensures) (c .enum-told2 .given .1) (c .before .before .before .length-of .ensures) refl
+    by-memory (c .before .before .before .before .args .first) (c .before .before .memory-of .ensures) (c .enum-told2 .given .1)
+    (c .before .before .before .length-of .ensures) refl
 
 returns-4 : tie.Need-returns-4
 returns-4 c =
-    by-memory (c .before .before .before .before .args .first) (c .before .before .memory-of .ensures) (c .enum-told3 .given .1) (c .before .before .before .length-of .ensures) refl
+    by-memory (c .before .before .before .before .args .first) (c .before .before .memory-of .ensures) (c .enum-told3 .given .1)
+    (c .before .before .before .length-of .ensures) refl
 
 pub span-of-spec : {M : Type 1} → statement M
 span-of-spec =

@@ -15,14 +15,17 @@ add-fits c = search needs
 fits-requires : tie.Need-fits-requires
 fits-requires c κs = search needs
 
+abbrev start : tie.Else1 → tie.Start
+start c = c .before .before .before .before
+
 -- the fragment has its place
-room : (c : tie.Else1) → c .before .before .before .before .args .built .words + (length (c .before .before .before .before .args .words .now) + 2) ≤ length (c .before .before .before .before .args .reply .now)
+room : (c : tie.Else1) → start c .args .built .words + (length (start c .args .words .now) + 2) ≤ length (start c .args .reply .now)
 room c =
-    let s = c .before .before .before .before .args in
+    let s = start c .args in
     leb-true (s .built .words + (length (s .words .now) + 2)) (length (s .reply .now)) (sym (c .before .fits2 .ensures) ∙ not-false _ (c .if1 .left))
 
 -- the buffer keeps its length
-stays : (c : tie.After-slice-known2) → length (c .before .before .copy .last .0) ≡ length (c .before .before .before .before .before .before .before .before .args .reply .now)
+stays : (c : tie.After-slice-known2) → length (c .before .before .copy .last .0) ≡ length (start (c .before .before .before .before) .args .reply .now)
 stays c = c .before .before .copy .kept .0 ∙ simp length-set
 
 returns : tie.Need-returns

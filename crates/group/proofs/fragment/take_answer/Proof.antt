@@ -1,5 +1,5 @@
 -- `group::fragment::take_answer` meets its contract: in each arm of the match, the data laid is that of the kind. Assumes nothing.
-use Prim.Native.Nat.{ℕ, _-_}
+use Prim.Native.Nat.{ℕ, min, _-_}
 use mathlib.Core.Path.{_≡_, refl, sym, ap, _∙_}
 use mathlib.Core.List.{List, _∷_, []}
 use native.Mathlib.Omega.{arith}
@@ -7,7 +7,7 @@ use native.Mathlib.Nat.{sub-zero}
 use borrow.Author.Needs.{needs}
 use lib.ListN.{length, take, getD, length-take}
 use Rattle.group.specs.Kind.{Answer, answer, datOf}
-use Rattle.group.specs.Fragment.{dataOf, framed, assembly, behind, taken}
+use Rattle.group.specs.Fragment.{dataOf, framed, Assembly, assembly, behind, taken}
 use Rattle.group.specs.declared.Kind.{Kind}
 use Rattle.group.proofs.Answers.{data-tells, WholeReply, whole-tells}
 use Rattle.group.proofs.Behind.{taken-by}
@@ -23,21 +23,34 @@ tallied-requires c κs = search needs
 status-of-requires : tie.Need-status-of-requires
 status-of-requires c κs = search needs
 
--- the answer
+-- where the match begins: the start, the answer, and the assembly that takes it
+
+abbrev start : tie.After-status-of → tie.Start
+start c = c .before .before .before .before .before
+
 abbrev said : tie.After-status-of → Answer
-said c = let s = c .before .before .before .before .before .args in answer (s .heard) (s .words .now)
+said c = answer (start c .args .heard) (start c .args .words .now)
+
+abbrev held : tie.After-status-of → Assembly
+held c = assembly (start c .args .reply .now) (start c .args .built)
 
 -- in an arm of the match: the fragment of what the arm lays is that of the answer
 by : (c : tie.After-status-of) (kind : Kind) (ws : List ℕ) → c .before .before .kind-of .result ≡ kind → ws ≡ dataOf kind (said c)
-    → behind (assembly (c .before .before .before .before .before .args .reply .now) (c .before .before .before .before .before .args .built)) (c .before .tallied .result) (framed ws (c .status-of .result))
-    ≡ taken (assembly (c .before .before .before .before .before .args .reply .now) (c .before .before .before .before .before .args .built)) (c .before .before .before .before .before .args .left) (c .before .before .before .before .before .args .slave) (said c)
+    → behind (held c) (c .before .tallied .result) (framed ws (c .status-of .result)) ≡ taken (held c) (start c .args .left) (start c .args .slave) (said c)
 by c kind ws e f =
-    let s = c .before .before .before .before .before .args in
-    taken-by (assembly (s .reply .now) (s .built)) (s .left) (s .slave) (said c) (c .before .before .kind-of .result) (c .before .tallied .result) (c .status-of .result) ws
+    taken-by (held c) (start c .args .left) (start c .args .slave) (said c) (c .before .before .kind-of .result) (c .before .tallied .result) (c .status-of .result) ws
     (c .before .before .kind-of .ensures) (c .before .tallied .ensures) (c .status-of .ensures) (f ∙ sym (ap (λ (k : Kind). dataOf k (said c)) e))
 
-whole : (c : tie.After-status-of) → c .before .before .kind-of .result ≡ Kind.Whole → WholeReply (c .before .before .before .before .before .args .words .now) (c .before .before .before .before .before .args .built .words) (c .before .before .before .before .before .args .left)
+whole : (c : tie.After-status-of) → c .before .before .kind-of .result ≡ Kind.Whole → WholeReply (said c .words) (start c .args .built .words) (start c .args .left)
 whole c e = whole-tells (said c) _ _ (sym (c .before .before .kind-of .ensures) ∙ e)
+
+-- the data of a fault, with the length as a word, and that of a whole reply, from its first word on
+few : (c : tie.After-status-of) (n : ℕ) → n ≡ min (length (said c .words)) 65535
+    → said c .heard .«rx_status» ∷ n ∷ getD (said c .words) 0 0 ∷ [] ≡ said c .heard .«rx_status» ∷ min (length (said c .words)) 65535 ∷ getD (said c .words) 0 0 ∷ []
+few c n e = ap (λ (x : ℕ). said c .heard .«rx_status» ∷ x ∷ getD (said c .words) 0 0 ∷ []) e
+
+cut : (c : tie.After-status-of) → take (length (said c .words) - 2 - 0) (said c .words) ≡ dataOf Kind.Whole (said c)
+cut c = ap (λ (n : ℕ). take n (said c .words)) (sub-zero (length (said c .words) - 2))
 
 enum-told : tie.Need-enum-told
 enum-told c = search needs
@@ -133,16 +146,19 @@ same-length-4 : tie.Need-same-length-4
 same-length-4 c = search needs
 
 returns-4 : tie.Need-returns-4
-returns-4 c = let h = c .before .before .before .before .before .before .before .before .before .before .before .before .before .before .args .heard in
-    let ws = c .before .before .before .before .before .before .before .before .before .before .before .before .before .before .args .words .now in
-    c .before .before .lay4 .ensures ∙ by (c .before .before .before .before .before .before .before .before .before) _ _ (c .before .before .before .before .before .before .before .enum-told4 .given .1) (ap (λ (n : ℕ). h .«rx_status» ∷ n ∷ getD ws 0 0 ∷ []) (c .before .before .before .before .before .before .counted .ensures))
+returns-4 c =
+    c .before .before .lay4 .ensures
+    ∙ by (c .before .before .before .before .before .before .before .before .before) _ _ (c .before .before .before .before .before .before .before .enum-told4 .given .1)
+    (few (c .before .before .before .before .before .before .before .before .before) _ (c .before .before .before .before .before .before .counted .ensures))
 
 same-length-5 : tie.Need-same-length-5
 same-length-5 c = search needs
 
 returns-5 : tie.Need-returns-5
-returns-5 c = let ws = c .before .before .before .before .before .before .before .before .before .before .before .before .args .words .now in
-    c .before .before .lay5 .ensures ∙ by (c .before .before .before .before .before .before .before) _ _ (c .before .before .before .before .before .enum-told5 .given .1) (ap (λ (n : ℕ). take n ws) (sub-zero (length ws - 2)))
+returns-5 c =
+    c .before .before .lay5 .ensures
+    ∙ by (c .before .before .before .before .before .before .before) _ _ (c .before .before .before .before .before .enum-told5 .given .1)
+    (cut (c .before .before .before .before .before .before .before))
 
 pub take-answer-spec : {M : Type 1} → statement M
 take-answer-spec =

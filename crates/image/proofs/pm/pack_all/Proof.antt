@@ -1,9 +1,10 @@
 -- `image::pm::pack_all` meets its contract: what is laid from here on stays the same, turn by turn. Assumes nothing.
 use Prim.Native.Nat.{_+_, _-_, _*_, _/_, _≤_}
-use mathlib.Core.Path.{_≡_, sym, _∙_}
+use mathlib.Core.Path.{_≡_, refl, sym, _∙_}
 use native.Mathlib.Omega.{arith}
 use lib.ListN.{length, drop, length-set}
 use borrow.Author.Needs.{needs}
+use borrow.Author.Tests.{leb-true}
 use Rattle.base.specs.Words.{laid}
 use Rattle.image.specs.Packing.{packed}
 use Rattle.image.proofs.Turns.{pack-turn, pack-last, pack-none}
@@ -11,13 +12,20 @@ use Rattle.image.proofs.pm.pack_all.Statement.{statement}
 use Rattle.image.proofs.pm.pack_all.Tie as tie
 
 abbrev Inv-loop : tie.InvT-loop
-Inv-loop words packet₀ at i₀ j₀ packet i j = (i ≤ length words) × (length packet ≡ length packet₀) × (j + ((length words - i) * 3 + 1) / 2 ≤ length packet₀) × (laid packet₀ at (packed 3 words) ≡ laid packet j (packed 3 (drop i words)))
+Inv-loop words packet₀ at i₀ j₀ packet i j =
+    (i ≤ length words)
+    × (length packet ≡ length packet₀)
+    × (j + ((length words - i) * 3 + 1) / 2 ≤ length packet₀)
+    × (laid packet₀ at (packed 3 words) ≡ laid packet j (packed 3 (drop i words)))
 
 abbrev μ-loop : tie.MeasureT-loop
 μ-loop words packet₀ at i₀ j₀ packet i j = length words - i
 
 loop-holds : tie.Need-loop-holds Inv-loop μ-loop
-loop-holds c = search needs
+loop-holds c =
+    let a = c .before .before .args in
+    let room = leb-true (a .at + (length (a .words .now) * 3 + 1) / 2) (length (a .packet .now)) (c .before .before .pre) in
+    (omega arith, refl, omega arith, refl)
 
 add-loop : tie.Need-add-loop Inv-loop μ-loop
 add-loop c = search needs

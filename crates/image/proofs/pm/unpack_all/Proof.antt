@@ -5,6 +5,7 @@ use mathlib.Core.Path.{_≡_, refl, sym, _∙_}
 use native.Mathlib.Omega.{arith}
 use lib.ListN.{length, drop, length-set}
 use borrow.Author.Needs.{needs}
+use borrow.Author.Tests.{leb-true}
 use Rattle.base.specs.Words.{laid}
 use Rattle.image.specs.Packing.{unpacked}
 use Rattle.image.proofs.Turns.{unpack-turn, unpack-last, unpack-none}
@@ -12,7 +13,11 @@ use Rattle.image.proofs.pm.unpack_all.Statement.{statement}
 use Rattle.image.proofs.pm.unpack_all.Tie as tie
 
 abbrev Inv-loop : tie.InvT-loop
-Inv-loop packet at words₀ n i₀ j₀ words i j = (i ≤ n) × (length words ≡ n) × (j + ((n - i) * 3 + 1) / 2 ≤ length packet) × (unpacked 3 n (drop at packet) ≡ laid words i (unpacked 3 (n - i) (drop j packet)))
+Inv-loop packet at words₀ n i₀ j₀ words i j =
+    (i ≤ n)
+    × (length words ≡ n)
+    × (j + ((n - i) * 3 + 1) / 2 ≤ length packet)
+    × (unpacked 3 n (drop at packet) ≡ laid words i (unpacked 3 (n - i) (drop j packet)))
 
 abbrev μ-loop : tie.MeasureT-loop
 μ-loop packet at words₀ n i₀ j₀ words i j = n - i
@@ -21,6 +26,7 @@ loop-holds : tie.Need-loop-holds Inv-loop μ-loop
 loop-holds c =
     let a = c .before .before .args in
     let ws = a .words .now in
+    let room = leb-true (a .at + (length ws * 3 + 1) / 2) (length (a .packet .now)) (c .before .before .pre) in
     (omega arith, refl, omega arith, unpack-start (drop (a .at) (a .packet .now)) ws)
 
 add-loop : tie.Need-add-loop Inv-loop μ-loop

@@ -1,4 +1,4 @@
--- `group::fragment::copy` meets its contract. The loop's invariant: what is left of the words, laid from here on, gives what all of them give from the start. The measure is
+-- `base::copy` meets its contract. The loop's invariant: what is left of the words, laid from here on, gives what all of them give from the start. The measure is
 -- what is left of them. Assumes nothing.
 use Prim.Native.Nat.{_≤_, _-_, _+_}
 use mathlib.Core.Path.{_≡_, refl, sym, ap, _∙_}
@@ -6,10 +6,10 @@ use native.Mathlib.Nat.{add-zero}
 use native.Mathlib.Omega.{arith}
 use borrow.Author.Needs.{needs}
 use lib.ListN.{length, drop, length-set, drop-of-length-le}
 use Rattle.base.specs.Words.{laid}
 use Rattle.base.proofs.Laid.{laid-none, laid-drop}
-use Rattle.group.proofs.fragment.copy.Statement.{statement}
-use Rattle.group.proofs.fragment.copy.Tie as tie
+use Rattle.base.proofs.copy.Statement.{statement}
+use Rattle.base.proofs.copy.Tie as tie
 
 abbrev Inv-loop : tie.InvT-loop
 Inv-loop to₀ at from i₀ to i = (i ≤ length from) × (length to ≡ length to₀) × (laid to₀ at from ≡ laid to (at + i) (drop i from))

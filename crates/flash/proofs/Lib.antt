@@ -1,0 +1,9 @@
+pub mod Geometry
+pub mod Statuses
+pub mod Entries
+pub mod Searches
+pub mod Kept
+pub mod Changes
+pub mod Storing
+pub mod Attribute
+pub mod Erasure
