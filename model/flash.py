@@ -1,12 +1,15 @@
 """The flash, from 01 'Flash': its sectors, the directory that the state keeps of them, and what changes either. A directory is 32
 words, four for each of the sectors 3 to 10; `erasing` is the sector being erased, or None."""
 
+from functools import lru_cache
+
 from files import file_length, may_start, name_of
 
 SIZES = (32768, 262144)  # bench and full
 SECTORS = range(3, 11)  # the file sectors
 BLANK = 0xFFFF
-BAD, ERASING = 0x8000, 0x4000  # sector status
+EMPTY, GOOD, BAD, ERASING = "empty", "good", "bad", "erasing"
+STATUS = {EMPTY: 0, GOOD: 0, BAD: 0x8000, ERASING: 0x4000}  # the status word
 
 
 def extent(size, sector):
@@ -26,8 +29,18 @@ def address_of(sector):
     return 0x0200 if sector == 3 else 0x0400 * (sector - 3)
 
 
-def is_empty(words):
-    return words.count(BLANK) == len(words)
+def addressed(address):
+    """The sector that has an address, or None."""
+    return {address_of(sector): sector for sector in SECTORS}.get(address)
+
+
+@lru_cache(maxsize=64)
+def judged(words):
+    """What a sector of these words is, with the length of its file."""
+    if words.count(BLANK) == len(words):
+        return EMPTY, 0
+    length = file_length(list(words))
+    return (BAD, 0) if length is None else (GOOD, length)
 
 
 # The directory.
@@ -35,16 +48,16 @@ def is_empty(words):
 
 def entry(sector, first, status):
     """The four summary words of a sector."""
-    return [first, address_of(sector), status, 0]
+    return [first, address_of(sector), STATUS[status], 0]
+
+
+def afresh(flash, sector, erasing=None):
+    """What a sector is now, with the length of its file."""
+    return (ERASING, 0) if sector == erasing else judged(tuple(words_in(flash, sector)))
 
 
 def entry_of(flash, sector, erasing=None):
-    """A sector's entry, worked out afresh."""
-    words = words_in(flash, sector)
-    if sector == erasing:
-        return entry(sector, words[0], ERASING)
-    bad = not is_empty(words) and file_length(words) is None
-    return entry(sector, words[0], BAD if bad else 0)
+    return entry(sector, words_in(flash, sector)[0], afresh(flash, sector, erasing)[0])
 
 
 def directory_of(flash, erasing=None):
@@ -61,32 +74,31 @@ def laid(directory, sector, entry):
     return directory[:4 * sector - 12] + entry + directory[4 * sector - 8:]
 
 
+def all_named(directory, name):
+    """The sectors whose first word can start a file and has that name, lowest first."""
+    firsts = {sector: kept(directory, sector)[0] for sector in SECTORS}
+    return [sector for sector, first in firsts.items() if may_start(first) and name_of(first) == name]
+
+
 def named(directory, name):
-    """The lowest sector whose first word can start a file of that name, or None."""
-    for sector in SECTORS:
-        first = kept(directory, sector)[0]
-        if may_start(first) and name_of(first) == name:
-            return sector
-    return None
+    """The lowest of them, or None."""
+    return next(iter(all_named(directory, name)), None)
 
 
-# One sector for a command, with no erasure in progress. A sector whose kept entry differs from the flash is bad.
+# What a command does with a sector.
 
 
-def file_in(flash, directory, sector):
-    """The words of a sector's file, or None where the sector is bad."""
-    words = words_in(flash, sector)
-    length = file_length(words)
-    if length is None or kept(directory, sector) != entry_of(flash, sector):
-        return None
-    return words[:length]
+def status_in(flash, directory, sector, erasing=None):
+    """What a sector is to a command, with the length of its file: bad where its entry differs from the one worked out afresh."""
+    if kept(directory, sector) != entry_of(flash, sector, erasing):
+        return BAD, 0
+    return afresh(flash, sector, erasing)
 
 
-def place_for(flash, directory, length):
+def place_for(flash, directory, length, erasing=None):
     """The lowest-numbered empty sector with at least as many words, or None."""
     for sector in SECTORS:
-        words = words_in(flash, sector)
-        if length <= len(words) and is_empty(words) and kept(directory, sector) == entry_of(flash, sector):
+        if length <= len(extent(len(flash), sector)) and status_in(flash, directory, sector, erasing)[0] == EMPTY:
             return sector
     return None
 
@@ -98,21 +110,18 @@ def store(flash, sector, words):
 
 
 def attributed(header, value):
-    """The header with its attribute set default (1) or plain (0), or None where no bit can be cleared for that."""
+    """The header with its attribute set default (1) or plain (0); None where the value is another, or 0X is to be default."""
     attribute = header >> 12 & 3
     if value == 1:
         return {3: header & ~0x1000, 2: header}.get(attribute)
-    return header & ~0x2000 if attribute == 2 else header
-
-
-# Erasure.
+    if value == 0:
+        return header & ~0x2000 if attribute == 2 else header
+    return None
 
 
 def sector_to_erase(directory, word):
     """The sector that Erase's parameter means: low four bits zero a sector address, else a name; None where it is unknown."""
-    if word & 15 == 0:
-        return {address_of(sector): sector for sector in SECTORS}.get(word)
-    return named(directory, name_of(word))
+    return addressed(word) if word & 15 == 0 else named(directory, name_of(word))
 
 
 def blank(flash, sector, done, budget):

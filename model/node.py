@@ -7,8 +7,8 @@ from dataclasses import dataclass, replace
 from typing import Optional
 
 from files import DM, IO, PM, name_of, sealed, segment_at, segments_of
-from flash import BAD, SECTORS, SIZES, attributed, blank, directory_of, entry, entry_of, extent, file_in, laid, named, place_for
-from flash import sector_to_erase, store, words_in
+from flash import BAD, EMPTY, GOOD, SECTORS, SIZES, STATUS, attributed, blank, directory_of, entry, entry_of, extent, laid, named
+from flash import place_for, sector_to_erase, status_in, store, words_in
 from group import ABORT, AREA, END, ERROR, Answer, ending, fragment, is_late, single, slaves_of, tally_with, zero_length
 from memory import fits, load, perform, read
 
@@ -245,9 +245,13 @@ def with_entry(node, sector, entry):
 
 
 def target(node, lent, header):
-    """The sector that has the name in a header, None where there is none, and the words of its file, None where it is bad."""
-    sector = named(list(node.directory), name_of(header))
-    return sector, None if sector is None else file_in(lent.flash, list(node.directory), sector)
+    """The sector that has the name in a header, None where there is none; and the words of its file, None where it isn't good."""
+    directory = list(node.directory)
+    sector = named(directory, name_of(header))
+    if sector is None:
+        return None, None
+    status, length = status_in(lent.flash, directory, sector)
+    return sector, words_in(lent.flash, sector)[:length] if status == GOOD else None
 
 
 def of_bad_file(node):
@@ -269,8 +273,8 @@ def file_test(node, lent, now, link, parameters):
     if sector is None:
         return node, ABORT
     if words is None:
-        return of_bad_file(node), [BAD]
-    return node, [0]
+        return of_bad_file(node), [STATUS[BAD]]
+    return node, [STATUS[GOOD]]
 
 
 def file_load(node, lent, now, link, parameters):
@@ -298,7 +302,7 @@ def file_write(node, lent, now, link, parameters):
     if sector is None:
         return node, ABORT
     store(lent.flash, sector, parameters)
-    return with_entry(node, sector, entry(sector, parameters[0], 0)), END
+    return with_entry(node, sector, entry(sector, parameters[0], GOOD)), END
 
 
 def flash_summary(node, lent, now, link, parameters):
@@ -315,13 +319,11 @@ def erase_start(node, lent, now, link, parameters):
 
 def attribute_set(node, lent, now, link, parameters):
     sector, words = target(node, lent, parameters[0])
-    if words is None or parameters[1] > 1:
-        return node, ABORT
-    header = attributed(words[0], parameters[1])
+    header = None if words is None else attributed(words[0], parameters[1])
     if header is None:
         return node, ABORT
     store(lent.flash, sector, [header])
-    return with_entry(node, sector, entry(sector, header, 0)), END
+    return with_entry(node, sector, entry(sector, header, GOOD)), END
 
 
 ANY = range(8192)
@@ -513,5 +515,5 @@ def erase(node, flash, budget):
     if done + count < len(extent(len(flash), sector)):
         node = with_entry(node, sector, entry_of(flash, sector, sector))
         return replace(node, erasing=Erasing(sector, done + count)), ("erased", count)
-    node = with_entry(node, sector, entry(sector, words_in(flash, sector)[0], 0))
+    node = with_entry(node, sector, entry(sector, words_in(flash, sector)[0], EMPTY))
     return replace(node, erasing=None), ("erased", count)
