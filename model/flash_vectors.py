@@ -83,7 +83,7 @@ def store_in(flash, sector, words):
 
 
 def erase_step(flash, sector, done, budget):
-    """How many words an erase-progress call sets, and the erasure after it; a sector that isn't one, or is done, has no words left."""
+    """How many words an erase-progress call sets, and the erasure after it; what isn't a file sector has no words left."""
     left = len(extent(len(flash), sector)) - done if sector in SECTORS else 0
     if left <= 0:
         return 0, None

@@ -6,7 +6,7 @@ only if the call is accepted. An answer is a tuple: ("refused", number), ("start
 from dataclasses import dataclass, replace
 from typing import Optional
 
-from files import DM, IO, PM, name_of, sealed, segment_at, segments_of
+from files import DM, IO, PM, file_length, name_of, sealed, segment_at, segments_of
 from flash import BAD, EMPTY, GOOD, SECTORS, SIZES, STATUS, attributed, blank, directory_of, entry, entry_of, extent, laid, named
 from flash import place_for, sector_to_erase, status_in, store, words_in
 from group import ABORT, AREA, END, ERROR, Answer, ending, fragment, is_late, single, slaves_of, tally_with, zero_length
@@ -292,8 +292,7 @@ def file_load(node, lent, now, link, parameters):
 
 
 def file_write(node, lent, now, link, parameters):
-    segments = segments_of(parameters)
-    if segments is None or segments[-1][-1] != len(parameters):
+    if file_length(parameters) != len(parameters):
         return node, ABORT
     directory = list(node.directory)
     if named(directory, name_of(parameters[0])) is not None:

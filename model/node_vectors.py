@@ -10,8 +10,12 @@ from scripts_states import refusals, soup, start_refusals, states
 from words import words_of
 
 SCRIPTS = (
-    start_refusals, refusals, states, first_bytes, lengths, command_numbers, small_commands, counts, files, every_sector,
-    long_files, bad_sectors, directories, runs_of_memory, segments, long_segments, loads, groups, room, times, tallies, singles, soup,
+    start_refusals, refusals, states,
+    first_bytes, lengths, command_numbers, small_commands, counts,
+    files, every_sector, long_files, bad_sectors, directories,
+    runs_of_memory, segments, long_segments, loads,
+    groups, room, times, tallies, singles,
+    soup,
 )
 
 
