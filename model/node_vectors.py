@@ -3,7 +3,7 @@
 from node_lines import Program
 from script import Script
 from scripts_flash import bad_sectors, directories, every_sector, files, long_files
-from scripts_memory import loads, long_segments, runs_of_memory, segments
+from scripts_memory import headers, loads, long_segments, runs_of_memory, segments
 from scripts_requests import command_numbers, counts, first_bytes, lengths, small_commands
 from scripts_slaves import groups, room, singles, tallies, times
 from scripts_states import refusals, soup, start_refusals, states
@@ -13,7 +13,7 @@ SCRIPTS = (
     start_refusals, refusals, states,
     first_bytes, lengths, command_numbers, small_commands, counts,
     files, every_sector, long_files, bad_sectors, directories,
-    runs_of_memory, segments, long_segments, loads,
+    runs_of_memory, segments, headers, long_segments, loads,
     groups, room, times, tallies, singles,
     soup,
 )

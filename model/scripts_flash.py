@@ -53,7 +53,7 @@ def flash_step(s):
 
 def files(s):
     """Files written, read, tested, loaded, erased in steps, damaged, and started over."""
-    for turn in range(280):
+    for turn in range(265):
         size = FULL if turn % 14 == 3 else BENCH
         pm, dm = s.pick.choice((64, 64, 10)), s.pick.choice((64, 70, 3))
         s.fresh(s.pick.choice((CDP, CDDC)), s.pick.randrange(1, 5), size, pm=pm, dm=dm)

@@ -61,6 +61,32 @@ def segments(s):
     s.ends()
 
 
+def headers(s):
+    """Every memory code and page with the first lengths, the body sealed: read, written, and as a file's segment."""
+    pick = s.pick
+    s.fresh(CDDC, 4)
+    s.fill_memories()
+    for code in range(4):
+        memory = {0: PM, 1: DM}.get(code, IO)
+        for length in range(8):
+            for page in range(4):
+                first, second = code << 14 | length, page << 14 | (0x2000 if memory == DM else 0)
+                count = {PM: (3 * length - pick.randrange(2) * (length % 2)) // 2}.get(memory, length)
+                body = [word for pair in zip([pick.randrange(0x2000) & ~0xFC0] * 8, s.anything(8)) for word in pair][:max(count - 1, 0)]
+                if memory == PM and body:
+                    body[-1] &= 0xFF00
+                words = [first, second, *body, *([check_sequence(body)] if count else [])]
+                for number in (0x10, 0x11, pick.choice((0x0F, 0x50, 0x51))):
+                    s.request(command(number, first, second))
+                s.request(command({PM: 0x50, DM: 0x51, IO: 0x0F}[memory], *words))
+                s.request(command(0x45, 0x3000 | page << 4 | 1, *words))
+                if s.node.directory[0] != 0xFFFF:
+                    s.request(command(0x46, page << 4))
+                    s.request(command(0x47, 0x0200))
+                    s.erase(2048)
+    s.ends()
+
+
 def long_segments(s):
     """Segments as long as a packet can be, and reads as long as a reply can be."""
     pick = s.pick

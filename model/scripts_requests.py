@@ -103,6 +103,13 @@ def small_commands(s):
         for _ in range(3):
             s.request(command(0x0D, *s.anything(3)), 0, pick.randrange(3))
         s.state()
+    s.fresh(CDDC, 4)
+    for bit in range(16):  # each bit of each parameter alone
+        s.request(command(0x57, 1 << bit, 0x0001))
+        s.request(command(0x57, 0x0300, 1 << bit))
+        s.request(command(0x17))
+        s.request(command(0x52, 1 << bit))
+        s.request(command(0x12))
     for count in (7998, 7999, 8000, 8001, 8191):
         s.request(Run(command(0x0D), count, pick.randrange(65536)), show=16)
 
