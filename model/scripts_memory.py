@@ -72,7 +72,7 @@ def headers(s):
             for page in range(4):
                 first, second = code << 14 | length, page << 14 | (0x2000 if memory == DM else 0)
                 count = {PM: (3 * length - pick.randrange(2) * (length % 2)) // 2}.get(memory, length)
-                body = [word for pair in zip([pick.randrange(0x2000) & ~0xFC0] * 8, s.anything(8)) for word in pair][:max(count - 1, 0)]
+                body = s.some_pairs(8)[:max(count - 1, 0)]
                 if memory == PM and body:
                     body[-1] &= 0xFF00
                 words = [first, second, *body, *([check_sequence(body)] if count else [])]
