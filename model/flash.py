@@ -1,126 +1,133 @@
-"""The flash, from 01 'Flash': a list of words, its file sectors 3 to 10 and their directory. Worked out plainly, sector by sector; a
-file's validity is that of files.py."""
+"""The flash, from 01 'Flash': its sectors, the directory that the state keeps of them, and what changes either. A directory is 32
+words, four for each of the sectors 3 to 10; `erasing` is the sector being erased, or None."""
 
 from functools import lru_cache
 
-from files import file_length
+from files import file_length, may_start, name_of
 
-EMPTY, GOOD, BAD, ERASING = "empty", "good", "bad", "erasing"
+SIZES = (32768, 262144)  # bench and full
+SECTORS = range(3, 11)  # the file sectors
 BLANK = 0xFFFF
+EMPTY, GOOD, BAD, ERASING = "empty", "good", "bad", "erasing"
+STATUS = {EMPTY: 0, GOOD: 0, BAD: 0x8000, ERASING: 0x4000}  # the status word
 
 
-def sectors(size):
-    """The file sectors of a flash of so many words: number to (first word, words, address). Sector 3 has a sixteenth of the flash,
-    the others two sixteenths each, one behind the other."""
+def extent(size, sector):
+    """The places of a sector's words in a flash of a size: with U a sixteenth, sector 3 has U words, sectors 4-10 have 2U each."""
     unit = size // 16
-    table, start = {}, unit
-    for number in range(3, 11):
-        words = unit if number == 3 else 2 * unit
-        address = 0x0200 if number == 3 else 0x0400 * (number - 3)
-        table[number] = (start, words, address)
-        start += words
-    return table
+    if sector == 3:
+        return range(unit, 2 * unit)
+    return range(2 * unit * (sector - 3), 2 * unit * (sector - 2))
 
 
-def words_of_sector(flash, number):
-    table = sectors(len(flash))
-    if number not in table:
-        return []
-    start, words, _ = table[number]
-    return flash[start:start + words]
+def words_in(flash, sector):
+    places = extent(len(flash), sector)
+    return flash[places.start:places.stop]
+
+
+def address_of(sector):
+    return 0x0200 if sector == 3 else 0x0400 * (sector - 3)
+
+
+def addressed(address):
+    """The sector that has an address, or None."""
+    return {address_of(sector): sector for sector in SECTORS}.get(address)
 
 
 @lru_cache(maxsize=64)
-def known_status(words):
+def judged(words):
+    """What a sector of these words is, with the length of its file."""
     if words.count(BLANK) == len(words):
         return EMPTY, 0
     length = file_length(list(words))
     return (BAD, 0) if length is None else (GOOD, length)
 
 
-def status(words):
-    """What a sector of these words is, with the length of its file."""
-    return known_status(tuple(words))
+# The directory.
 
 
-def status_word(kind):
-    return {EMPTY: 0, GOOD: 0, BAD: 0x8000, ERASING: 0x4000}[kind]
+def entry(sector, first, status):
+    """The four summary words of a sector."""
+    return [first, address_of(sector), STATUS[status], 0]
 
 
-def shown(flash, number, erasing):
-    """What the summary shows of a sector; `erasing` is (sector, words done) or None."""
-    if erasing is not None and erasing[0] == number:
-        return ERASING, 0
-    return status(words_of_sector(flash, number))
+def afresh(flash, sector, erasing=None):
+    """What a sector is now, with the length of its file."""
+    return (ERASING, 0) if sector == erasing else judged(tuple(words_in(flash, sector)))
 
 
-def entry(flash, number, kind):
-    """First word, address, status, 0."""
-    return [words_of_sector(flash, number)[0], sectors(len(flash))[number][2], status_word(kind), 0]
+def entry_of(flash, sector, erasing=None):
+    return entry(sector, words_in(flash, sector)[0], afresh(flash, sector, erasing)[0])
 
 
-def directory(flash, erasing):
-    summary = []
-    for number in range(3, 11):
-        summary += entry(flash, number, shown(flash, number, erasing)[0])
-    return summary
+def directory_of(flash, erasing=None):
+    return [word for sector in SECTORS for word in entry_of(flash, sector, erasing)]
 
 
-def is_named(name, word):
-    return word >> 14 in (0, 1) and 1 <= word & 15 <= 14 and word >> 4 & 0xFF == name
+def kept(directory, sector):
+    """A sector's entry in a directory."""
+    return directory[4 * sector - 12:4 * sector - 8]
 
 
-def named(summary, name):
-    """The sectors of a kept directory that have a name, lowest first."""
-    return [number for number in range(3, 11) if is_named(name, summary[4 * (number - 3)])]
+def laid(directory, sector, entry):
+    """The directory with one entry laid whole."""
+    return directory[:4 * sector - 12] + entry + directory[4 * sector - 8:]
 
 
-def addressed(size, address):
-    return [number for number, (_, _, at) in sectors(size).items() if at == address]
+def all_named(directory, name):
+    """The sectors whose first word can start a file and has that name, lowest first."""
+    firsts = {sector: kept(directory, sector)[0] for sector in SECTORS}
+    return [sector for sector, first in firsts.items() if may_start(first) and name_of(first) == name]
 
 
-def kept_status(summary, flash, erasing, number):
-    """What a sector is to the commands: bad where its kept entry is not the one worked out afresh."""
-    if number not in sectors(len(flash)):
+def named(directory, name):
+    """The lowest of them, or None."""
+    return next(iter(all_named(directory, name)), None)
+
+
+# What a command does with a sector.
+
+
+def status_in(flash, directory, sector, erasing=None):
+    """What a sector is to a command, with the length of its file: bad where its entry differs from the one worked out afresh."""
+    if kept(directory, sector) != entry_of(flash, sector, erasing):
         return BAD, 0
-    kind, length = shown(flash, number, erasing)
-    kept = summary[4 * (number - 3):4 * (number - 3) + 4]
-    return (kind, length) if kept == entry(flash, number, kind) else (BAD, 0)
+    return afresh(flash, sector, erasing)
 
 
-def place(summary, flash, erasing, length):
+def place_for(flash, directory, length, erasing=None):
     """The lowest-numbered empty sector with at least as many words, or None."""
-    for number, (_, words, _) in sectors(len(flash)).items():
-        if words >= length and kept_status(summary, flash, erasing, number)[0] == EMPTY:
-            return number
+    for sector in SECTORS:
+        if length <= len(extent(len(flash), sector)) and status_in(flash, directory, sector, erasing)[0] == EMPTY:
+            return sector
     return None
 
 
-def store(flash, number, file):
-    """The file from the start of a sector on, if there is such a sector and it has so many words."""
-    if len(file) <= len(words_of_sector(flash, number)):
-        start = sectors(len(flash))[number][0] if file else 0
-        flash[start:start + len(file)] = file
+def store(flash, sector, words):
+    """Puts words at the start of a sector."""
+    start = extent(len(flash), sector).start
+    flash[start:start + len(words)] = words
 
 
-def attribute(header, value):
-    """Attribute Set of a header word: None where it is refused, else the header word after it."""
-    if value not in (0, 1):
-        return None
-    plain, default = header >> 12 & 3 == 3, header >> 12 & 3 == 2
+def attributed(header, value):
+    """The header with its attribute set default (1) or plain (0); None where the value is another, or 0X is to be default."""
+    attribute = header >> 12 & 3
     if value == 1:
-        return header & ~0x1000 if plain else header if default else None
-    return header & ~0x2000 if default else header
+        return {3: header & ~0x1000, 2: header}.get(attribute)
+    if value == 0:
+        return header & ~0x2000 if attribute == 2 else header
+    return None
 
 
-def erase(flash, erasing, budget):
-    """An erase-progress call: how many words it set, and the erasure after it."""
-    if erasing is None:
-        return 0, None
-    number, done = erasing
-    words = len(words_of_sector(flash, number))
-    count = min(budget, max(words - done, 0))
-    if count:
-        start = sectors(len(flash))[number][0] + done
-        flash[start:start + count] = [BLANK] * count
-    return count, None if done + count >= words else (number, done + count)
+def sector_to_erase(directory, word):
+    """The sector that Erase's parameter means: low four bits zero a sector address, else a name; None where it is unknown."""
+    return addressed(word) if word & 15 == 0 else named(directory, name_of(word))
+
+
+def blank(flash, sector, done, budget):
+    """Sets words of a sector from its word `done` on, as many as the budget or the rest; how many they are."""
+    places = extent(len(flash), sector)
+    count = min(budget, len(places) - done)
+    start = places.start + done
+    flash[start:start + count] = [BLANK] * count
+    return count

@@ -4,12 +4,13 @@ over that. The answers are those of `answers`, in its order."""
 
 import random
 
-import flash as model
-from files import DM, IO, PM, file_of, header, sealed
+from build import file_of, header
+from files import DM, IO, PM, sealed
+from flash import BAD, BLANK, SECTORS, SIZES, STATUS, address_of, addressed, all_named, attributed, blank, directory_of, extent
+from flash import place_for, status_in, store, words_in
 from image_vectors import any_file, short
 from words import line_of, words_of
 
-SIZES = (32768, 262144)
 FIELDS = (
     "full", "erasing", "done", "name", "address", "length", "place", "word", "attributed", "value", "stored", "file_words", "budgets",
     "seed",
@@ -19,7 +20,7 @@ NAMES = (0x21, 0x22, 0x7F, 0x00, 0xFF)
 
 def ruled(seed, count):
     if seed == 0:
-        return [model.BLANK] * count
+        return [BLANK] * count
     return [(seed + place * 0x9E37) % 65536 for place in range(count)]
 
 
@@ -43,8 +44,8 @@ def read_line(line):
     budgets, rest = rest[:asked["budgets"]], rest[asked["budgets"]:]
     size = SIZES[asked["full"]]
     flash = ruled(asked["seed"], size // 16)
-    for _, words, _ in model.sectors(size).values():
-        run = ruled(rest[0], words)
+    for sector in SECTORS:
+        run = ruled(rest[0], len(extent(size, sector)))
         patches, rest = rest[1], rest[2:]
         for _ in range(patches):
             place, count = rest[0], rest[1]
@@ -54,48 +55,65 @@ def read_line(line):
     return asked, file, budgets, flash
 
 
-def first(found):
-    return found[0] if found else 0
-
-
 def statuses(kept, flash, erasing):
+    """What each sector is to the commands; one that isn't a file sector is bad."""
     answers = []
-    for number in range(2, 12):
-        kind, length = model.kept_status(kept, flash, erasing, number)
-        answers += [model.status_word(kind), length]
+    for sector in range(2, 12):
+        status, length = status_in(flash, kept, sector, erasing) if sector in SECTORS else (BAD, 0)
+        answers += [STATUS[status], length]
     return answers
 
 
-def set_attribute(flash, number, value):
+def set_attribute(flash, sector, value):
     """1 where it changed nothing but might, 2 with the new header where it changed the flash, else 0."""
-    old = (model.words_of_sector(flash, number) + [model.BLANK])[0]
-    new = model.attribute(old, value)
+    old = words_in(flash, sector)[0] if sector in SECTORS else BLANK
+    new = attributed(old, value)
     if new is None:
         return [0, old]
     if new == old:
         return [1, old]
-    model.store(flash, number, [new])
+    store_in(flash, sector, [new])
     return [2, new]
+
+
+def store_in(flash, sector, words):
+    """Stores words in a file sector that has so many."""
+    if sector in SECTORS and len(words) <= len(extent(len(flash), sector)):
+        store(flash, sector, words)
+
+
+def erase_step(flash, sector, done, budget):
+    """How many words an erase-progress call sets, and the erasure after it; what isn't a file sector has no words left."""
+    left = len(extent(len(flash), sector)) - done if sector in SECTORS else 0
+    if left <= 0:
+        return 0, None
+    count = blank(flash, sector, done, budget)
+    return count, None if count == left else (sector, done + count)
 
 
 def answers(asked, file, budgets, flash):
     erasing = (asked["erasing"], asked["done"]) if asked["erasing"] else None
-    kept = model.directory(flash, erasing)
+
+    def sector():
+        return erasing[0] if erasing else None
+
+    kept = directory_of(flash, sector())
     said = list(kept)
     if asked["place"] < 32:
         kept[asked["place"]] = asked["word"]
-    found = model.named(kept, asked["name"])
-    said += [len(found), first(found), first(found), first(model.addressed(len(flash), asked["address"]))]
-    said += statuses(kept, flash, erasing)
-    said += [model.place(kept, flash, erasing, asked["length"]) or 0]
+    found = all_named(kept, asked["name"])
+    lowest = found[0] if found else 0
+    said += [len(found), lowest, lowest, addressed(asked["address"]) or 0]
+    said += statuses(kept, flash, sector())
+    said += [place_for(flash, kept, asked["length"], sector()) or 0]
     said += set_attribute(flash, asked["attributed"], asked["value"])
-    model.store(flash, asked["stored"], file)
-    said += model.directory(flash, erasing)
+    store_in(flash, asked["stored"], file)
+    said += directory_of(flash, sector())
     for budget in budgets:
-        count, erasing = model.erase(flash, erasing, budget)
-        said += [count, *(erasing or (0, 0)), mixed(model.directory(flash, erasing))]
+        count, erasing = erase_step(flash, *erasing, budget) if erasing else (0, None)
+        said += [count, *(erasing or (0, 0)), mixed(directory_of(flash, sector()))]
     said += [mixed(flash[:len(flash) // 16])]
-    return said + [mixed(model.words_of_sector(flash, number)) for number in range(3, 11)]
+    return said + [mixed(words_in(flash, number)) for number in SECTORS]
 
 
 def outputs(stdin):
@@ -176,20 +194,20 @@ def any_sector(pick, size):
 
 def line(pick, full, kinds, file, stored, length):
     size = SIZES[full]
-    table = model.sectors(size)
+    table = {sector: len(extent(size, sector)) for sector in SECTORS}
     erasing = pick.choice((0, 0, 0, pick.randrange(3, 11), pick.randrange(3, 11), pick.choice((1, 2, 11, 65535))))
-    words = table[erasing][1] if erasing in table else 9
+    words = table.get(erasing, 9)
     done = pick.choice((0, 0, 1, pick.randrange(words), words - 1, words, words + 1))
     budgets = [pick.choice((0, 1, pick.randrange(words), words - 1, words, 65535)) for _ in range(pick.randrange(6))]
     asked = {
         "full": full, "erasing": erasing, "done": done, "name": pick.choice(NAMES), "length": length,
-        "address": pick.choice([*(at for _, _, at in table.values()), 0x0000, 0x0600, 0x2000, pick.randrange(65536)]),
+        "address": pick.choice([*(address_of(sector) for sector in SECTORS), 0x0000, 0x0600, 0x2000, pick.randrange(65536)]),
         "place": pick.choice((65535, 65535, pick.randrange(32))), "word": pick.choice((0, 0x8000, 0x4000, 0xFFFF, pick.randrange(65536))),
         "attributed": pick.randrange(2, 12), "value": pick.choice((0, 1, 0, 1, 2, 65535)), "stored": stored,
         "file_words": len(file), "budgets": len(budgets), "seed": pick.choice((0, pick.randrange(65536))),
     }
     words = [asked[field] for field in FIELDS] + file + budgets
-    for (_, count, _), kind in zip(table.values(), kinds):
+    for count, kind in zip(table.values(), kinds):
         seed, patches = kind(pick, count)
         words += [seed, len(patches)]
         for place, patch in patches:

@@ -87,7 +87,7 @@ def zero_length(tally):
 
 
 def ending(fragments, tally, own):
-    """The words behind the fragments of a data reply: node status, bit 5 clear and bit 9 set unless all is code 0 with DAT, and FCS."""
+    """The words behind the fragments: node status, bit 5 clear and bit 9 set unless every code is 0 with DAT, and FCS."""
     status = own & ~0x0020 & ~0x0200 | (0 if tally == 5 else 0x0200)
     return [status, check_sequence(fragments + [status])]
 

@@ -1,4 +1,5 @@
-"""The form of a stored line: words of four hex digits, one space between them; and the rule by which a line stands for a long run."""
+"""The form of a stored line: words of four hex digits, one space between them; and the rule by which a line can stand for a long
+run."""
 
 from functools import lru_cache
 

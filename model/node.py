@@ -1,0 +1,518 @@
+"""The whole node, from document 01: its state, the refusals, requests, own commands, and the five calls start, request, reply, poll
+and erase. A call takes a node and what it is lent, and hands back the next node with the answer; lent lists change in place, and
+only if the call is accepted. An answer is a tuple: ("refused", number), ("started",), ("reply", BC, words in the reply buffer),
+("ask", slave, word from which the request is sent on), ("waiting",), or ("erased", words set)."""
+
+from dataclasses import dataclass, replace
+from typing import Optional
+
+from files import DM, IO, PM, file_length, name_of, sealed, segment_at, segments_of
+from flash import BAD, EMPTY, GOOD, SECTORS, SIZES, STATUS, attributed, blank, directory_of, entry, entry_of, extent, laid, named
+from flash import place_for, sector_to_erase, status_in, store, words_in
+from group import ABORT, AREA, END, ERROR, Answer, ending, fragment, is_late, single, slaves_of, tally_with, zero_length
+from memory import fits, load, perform, read
+
+CDP, CDDC = 1, 2
+SLAVES = 24
+ALL = (1 << SLAVES) - 1  # the mask of all slaves
+
+
+# The state.
+
+
+@dataclass(frozen=True)
+class Erasing:
+    sector: int
+    done: int  # words set so far
+
+
+@dataclass(frozen=True)
+class Built:
+    """What a group adds to a pending request."""
+
+    asked: int  # the asked set, bit s for slave s
+    first: int  # the word from which the request is sent on
+    words: int  # of fragments, in the reply buffer
+    tally: int  # 0 none yet, 1 all NEXT, 2 all ABORT, 3 all ERROR, 4 all END, 5 all code 0 with DAT, 6 mixed
+
+
+@dataclass(frozen=True)
+class Pending:
+    link: int
+    slave: int  # the one now being asked
+    at: int  # the clock then
+    group: Optional[Built] = None  # None: a single slave
+
+
+@dataclass(frozen=True)
+class Node:
+    kind: int = 0
+    ports: int = 0
+    subdetector: int = 0
+    mode: int = 0
+    program_version: int = 0
+    subdetector_version: int = 0
+    start_tests: int = 0
+    start_clock: int = 0
+    flash_words: int = 0
+    amswire: int = 0  # errors counted
+    flash_errors: int = 0
+    masks: tuple = (0,) * 16
+    directory: tuple = (0,) * 32
+    erasing: Optional[Erasing] = None
+    pending: Optional[Pending] = None
+
+
+ZEROS = Node()  # what a refused start hands back
+
+
+@dataclass
+class Lent:
+    """The lent words, each a list; PM words have 32 bits."""
+
+    flash: list
+    memories: dict  # by the names PM, DM and IO
+    reply: list
+
+
+def more(count):
+    """A count goes up by one and stops at FFFF."""
+    return min(count + 1, 0xFFFF)
+
+
+# Call refusals: the first cause that holds, of those that the call has, in the order of the table.
+
+
+def flash_refused(flash, node):
+    return len(flash) not in SIZES or len(flash) != node.flash_words
+
+
+def buffer_refused(reply):
+    return len(reply) < AREA
+
+
+def memories_refused(memories):
+    return len(memories[PM]) > 32768 or len(memories[DM]) > 32768 or len(memories[IO]) > 4096
+
+
+def start_refused(kind, ports, subdetector):
+    return kind not in (CDP, CDDC) or ports not in range(1, 5) or subdetector not in range(8)
+
+
+def group_refused(slave, group):
+    if group.asked > ALL or not group.asked >> slave & 1:
+        return True
+    left = len(slaves_of(group.asked >> slave + 1))
+    return group.words + 5 * (left + 1) + 2 > AREA or group.first not in (1, 2) or group.tally not in range(7)
+
+
+def pending_refused(node):
+    pending = node.pending
+    if pending.link >= node.ports or pending.slave >= SLAVES:
+        return True
+    return pending.group is not None and group_refused(pending.slave, pending.group)
+
+
+def erasing_refused(node):
+    sector, done = node.erasing.sector, node.erasing.done
+    return sector not in SECTORS or done >= len(extent(node.flash_words, sector))
+
+
+def state_refused(node):
+    if start_refused(node.kind, node.ports, node.subdetector) or node.mode not in range(4):
+        return True
+    if node.flash_words not in SIZES or any(mask > ALL for mask in node.masks):
+        return True
+    if node.erasing is not None and erasing_refused(node):
+        return True
+    return node.pending is not None and pending_refused(node)
+
+
+def first_of(*causes):
+    """The number of the first cause that holds, or None."""
+    for number, holds in causes:
+        if holds:
+            return number
+    return None
+
+
+# Replies.
+
+
+def own_status(node):
+    """Own status word: bit 8 the OR of node-status bits 11-8, bit 7 compressed mode, bit 6 raw mode, bit 5 set."""
+    return (0x0100 if node.start_tests & 0x0F00 else 0) | (node.mode & 3) << 6 | 0x0020
+
+
+def zero_reply(bc):
+    return "reply", bc, 0
+
+
+def sent(reply, bc, words):
+    """A reply whose words are put into the reply buffer."""
+    reply[:len(words)] = words
+    return "reply", bc, len(words)
+
+
+# Own commands. Each takes the node, what is lent, when and on which link it was asked, and its parameters; it hands back the node
+# and either the data words of a read reply or the BC of a 0-length one.
+
+
+def read_status(node, lent, now, link, parameters):
+    elapsed = (now - node.start_clock) % 2**32
+    counts = (0x2000 if node.amswire else 0) | (0x1000 if node.flash_errors else 0)
+    return node, [
+        node.program_version,
+        1 << 12 | node.kind << 8 | node.subdetector << 4 | node.ports,
+        node.subdetector_version,
+        elapsed & 0xFFFF,
+        elapsed >> 16,
+        counts | node.start_tests & 0x0F00 | link,
+        0,  # the last event number
+        0,  # build errors
+        node.amswire,
+        node.flash_errors,
+    ]
+
+
+def ping(node, lent, now, link, parameters):
+    return node, parameters
+
+
+def mode_read(node, lent, now, link, parameters):
+    return node, [node.mode]
+
+
+def mode_write(node, lent, now, link, parameters):
+    if parameters[0] > 3:
+        return node, ABORT
+    return replace(node, mode=parameters[0]), END
+
+
+def mask_read(node, lent, now, link, parameters):
+    return node, [sum((mask >> slave & 1) << place for place, mask in enumerate(node.masks)) for slave in range(SLAVES)]
+
+
+def mask_write(node, lent, now, link, parameters):
+    first, second = parameters
+    if first >> 12:
+        return node, ABORT
+    masks = list(node.masks)
+    masks[first >> 8] = (first & 0xFF) << 16 | second
+    return replace(node, masks=tuple(masks)), END
+
+
+# Memories: a command's segment or header must be of its own memory and exact.
+
+
+def exact(memory, words):
+    """The valid segment that the words are, or None."""
+    segment = segment_at(words, 0)
+    return segment if segment and segment[0] == memory and segment[-1] == len(words) else None
+
+
+def perform_io(node, lent, now, link, parameters):
+    segment = exact(IO, parameters)
+    if segment is None or not fits(segment, lent.memories):
+        return node, ABORT
+    return node, parameters[:2] + sealed(perform(lent.memories[IO], segment[3]))
+
+
+def memory_read(memory):
+    def command(node, lent, now, link, parameters):
+        words = read(memory, parameters, lent.memories)
+        return node, ABORT if words is None else words
+
+    return command
+
+
+def memory_write(memory):
+    def command(node, lent, now, link, parameters):
+        segment = exact(memory, parameters)
+        if segment is None or not fits(segment, lent.memories):
+            return node, ABORT
+        load(segment, lent.memories)
+        return node, END
+
+    return command
+
+
+# Files. The directory that the state keeps stands for the flash's.
+
+
+def with_entry(node, sector, entry):
+    return replace(node, directory=tuple(laid(list(node.directory), sector, entry)))
+
+
+def target(node, lent, header):
+    """The sector that has the name in a header, None where there is none; and the words of its file, None where it isn't good."""
+    directory = list(node.directory)
+    sector = named(directory, name_of(header))
+    if sector is None:
+        return None, None
+    status, length = status_in(lent.flash, directory, sector)
+    return sector, words_in(lent.flash, sector)[:length] if status == GOOD else None
+
+
+def of_bad_file(node):
+    """Read, Test and Load of a bad file add one FLASH error."""
+    return replace(node, flash_errors=more(node.flash_errors))
+
+
+def file_read(node, lent, now, link, parameters):
+    sector, words = target(node, lent, parameters[0])
+    if sector is None:
+        return node, END
+    if words is None:
+        return of_bad_file(node), ABORT
+    return node, words
+
+
+def file_test(node, lent, now, link, parameters):
+    sector, words = target(node, lent, parameters[0])
+    if sector is None:
+        return node, ABORT
+    if words is None:
+        return of_bad_file(node), [STATUS[BAD]]
+    return node, [STATUS[GOOD]]
+
+
+def file_load(node, lent, now, link, parameters):
+    sector, words = target(node, lent, parameters[0])
+    if sector is None:
+        return node, ABORT
+    if words is None:
+        return of_bad_file(node), ABORT
+    segments = segments_of(words)
+    if not all(fits(segment, lent.memories) for segment in segments):
+        return node, ABORT
+    for segment in segments:
+        load(segment, lent.memories)
+    return node, END
+
+
+def file_write(node, lent, now, link, parameters):
+    if file_length(parameters) != len(parameters):
+        return node, ABORT
+    directory = list(node.directory)
+    if named(directory, name_of(parameters[0])) is not None:
+        return node, ABORT
+    sector = place_for(lent.flash, directory, len(parameters))
+    if sector is None:
+        return node, ABORT
+    store(lent.flash, sector, parameters)
+    return with_entry(node, sector, entry(sector, parameters[0], GOOD)), END
+
+
+def flash_summary(node, lent, now, link, parameters):
+    return node, list(node.directory)
+
+
+def erase_start(node, lent, now, link, parameters):
+    sector = sector_to_erase(list(node.directory), parameters[0])
+    if sector is None:
+        return node, ABORT
+    node = with_entry(node, sector, entry_of(lent.flash, sector, sector))
+    return replace(node, erasing=Erasing(sector, 0)), END
+
+
+def attribute_set(node, lent, now, link, parameters):
+    sector, words = target(node, lent, parameters[0])
+    header = None if words is None else attributed(words[0], parameters[1])
+    if header is None:
+        return node, ABORT
+    store(lent.flash, sector, [header])
+    return with_entry(node, sector, entry(sector, header, GOOD)), END
+
+
+ANY = range(8192)
+COMMANDS = {  # by request ID: the command and its parameter counts
+    0x0C: (read_status, (0,)),
+    0x0D: (ping, range(8001)),
+    0x05: (file_read, (1,)),
+    0x45: (file_write, ANY),
+    0x06: (file_test, (1,)),
+    0x46: (file_load, (1,)),
+    0x07: (flash_summary, (0,)),
+    0x47: (erase_start, (1,)),
+    0x48: (attribute_set, (2,)),
+    0x0F: (perform_io, ANY),
+    0x10: (memory_read(PM), (2,)),
+    0x50: (memory_write(PM), ANY),
+    0x11: (memory_read(DM), (2,)),
+    0x51: (memory_write(DM), ANY),
+    0x12: (mode_read, (0,)),
+    0x52: (mode_write, (1,)),
+    0x17: (mask_read, (0,)),
+    0x57: (mask_write, (2,)),
+}
+OF_MASKS = (0x17, 0x57)
+NOT_WHILE_ERASING = (0x05, 0x45, 0x06, 0x46, 0x47, 0x48)
+
+
+def own_command(node, lent, now, link, packet):
+    """Step 6, and the reply."""
+    number, parameters = packet[0] >> 8, packet[1:]
+    if number not in COMMANDS or number in OF_MASKS and node.kind == CDP:
+        return node, zero_reply(ABORT)
+    if node.erasing is not None and number in NOT_WHILE_ERASING:
+        return node, zero_reply(ABORT)
+    command, counts = COMMANDS[number]
+    if len(parameters) not in counts:
+        return node, zero_reply(ABORT)
+    node, outcome = command(node, lent, now, link, parameters)
+    if outcome in (ABORT, END):
+        return node, zero_reply(outcome)
+    if len(outcome) + 2 > AREA:
+        return node, zero_reply(ABORT)
+    return node, sent(lent.reply, 0b11, sealed(outcome + [own_status(node)]))
+
+
+# Requests.
+
+
+def counted(node):
+    """A request answered ERROR at steps 1 to 4."""
+    return replace(node, amswire=more(node.amswire)), zero_reply(ERROR)
+
+
+def mask_of(node, packet):
+    """The slaves that a group request names, None where its mask ID is above 15 or its mask isn't whole; and the words to strip."""
+    first, second = packet[0] & 0xFF, packet[0] >> 8
+    if first == 0x2A:
+        return ALL, 1
+    if first == 0x40:
+        return (node.masks[second] if second <= 15 else None), 1
+    return (second | packet[1] << 8 if len(packet) > 1 else None), 2
+
+
+def forwarded(node, now, link, packet):
+    """Steps 4 and 5 for a request to slaves."""
+    first, second = packet[0] & 0xFF, packet[0] >> 8
+    if first < SLAVES:
+        mask, stripped = (1 << first if second in (0x04, 0x05, 0x3F) else None), 1
+    else:
+        mask, stripped = mask_of(node, packet)
+    if not mask or node.kind == CDP or len(packet) <= stripped:
+        return node, zero_reply(ABORT)
+    slave = slaves_of(mask)[0]
+    group = None if first < SLAVES else Built(mask, stripped, 0, 0)
+    return replace(node, pending=Pending(link, slave, now, group)), ("ask", slave, stripped)
+
+
+def answered(node, lent, now, link, bc, receive_error, packet):
+    """Steps 1 to 6."""
+    if receive_error:
+        return counted(node)
+    if not packet:
+        if bc & 3 == 0b10 and node.pending is not None and node.pending.link == link:
+            return replace(node, pending=None), zero_reply(END)
+        return node, zero_reply(ABORT)
+    if len(packet) > 8192 or bc & 3 != 0b11:
+        return counted(node)
+    first = packet[0] & 0xFF
+    if first == 0x2E:
+        return own_command(node, lent, now, link, packet)
+    if first < SLAVES or first in (0x40, 0x23, 0x2A):
+        return forwarded(node, now, link, packet)
+    return counted(node)
+
+
+# Group assembly: an answer of the slave now being asked, and what comes next.
+
+
+def taken(node, reply, now, answer):
+    pending, group = node.pending, node.pending.group
+    if answer.errors and not answer.late:
+        node = replace(node, amswire=more(node.amswire))
+    if group is None:
+        return replace(node, pending=None), sent(reply, *single(answer))
+    later = [slave for slave in slaves_of(group.asked) if slave > pending.slave]
+    dat, code, words = fragment(pending.slave, answer, group.words, len(later))
+    built, tally = group.words + len(words), tally_with(group.tally, dat, code)
+    reply[group.words:built] = words
+    if later:
+        group = replace(group, words=built, tally=tally)
+        return replace(node, pending=Pending(pending.link, later[0], now, group)), ("ask", later[0], group.first)
+    return replace(node, pending=None), ended(reply, built, tally, own_status(node))
+
+
+def ended(reply, built, tally, own):
+    if zero_length(tally) is not None:
+        return zero_reply(zero_length(tally))
+    reply[built:built + 2] = ending(reply[:built], tally, own)
+    return "reply", 0b11, built + 2
+
+
+# The five calls.
+
+
+def start(kind, ports, subdetector, program_version, subdetector_version, start_tests, clock, flash):
+    refusal = first_of((1, len(flash) not in SIZES), (4, start_refused(kind, ports, subdetector)))
+    if refusal:
+        return ZEROS, ("refused", refusal)
+    return Node(
+        kind=kind,
+        ports=ports,
+        subdetector=subdetector,
+        mode=2 if kind == CDP else 0,
+        program_version=program_version,
+        subdetector_version=subdetector_version,
+        start_tests=start_tests & 0x0F00,
+        start_clock=clock,
+        flash_words=len(flash),
+        directory=tuple(directory_of(flash)),
+    ), ("started",)
+
+
+def request(node, lent, now, link, bc, receive_error, packet):
+    refusal = first_of(
+        (1, flash_refused(lent.flash, node)),
+        (2, buffer_refused(lent.reply)),
+        (3, memories_refused(lent.memories)),
+        (4, link >= node.ports),
+        (5, state_refused(node)),
+        (6, len(packet) > 0 and node.pending is not None),
+    )
+    if refusal:
+        return node, ("refused", refusal)
+    return answered(node, lent, now, link, bc, receive_error, packet)
+
+
+def reply(node, buffer, now, slave, bc, receive_error, rx_status, rx_address, words):
+    refusal = first_of(
+        (2, buffer_refused(buffer)),
+        (4, slave >= SLAVES),
+        (5, state_refused(node)),
+        (7, node.pending is None or node.pending.slave != slave),
+    )
+    if refusal:
+        return node, ("refused", refusal)
+    late = is_late(now, node.pending.at)
+    return taken(node, buffer, now, Answer(late, receive_error != 0, rx_status, rx_address, bc, words))
+
+
+def poll(node, buffer, now):
+    refusal = first_of((2, buffer_refused(buffer)), (5, state_refused(node)), (7, node.pending is None))
+    if refusal:
+        return node, ("refused", refusal)
+    if not is_late(now, node.pending.at):
+        return node, ("waiting",)
+    return taken(node, buffer, now, Answer(True, False, 0, 0, 0, []))
+
+
+def erase(node, flash, budget):
+    refusal = first_of((1, flash_refused(flash, node)), (5, state_refused(node)))
+    if refusal:
+        return node, ("refused", refusal)
+    if node.erasing is None:
+        return node, ("erased", 0)
+    sector, done = node.erasing.sector, node.erasing.done
+    count = blank(flash, sector, done, budget)
+    if count == 0:
+        return node, ("erased", 0)
+    if done + count < len(extent(len(flash), sector)):
+        node = with_entry(node, sector, entry_of(flash, sector, sector))
+        return replace(node, erasing=Erasing(sector, done + count)), ("erased", count)
+    node = with_entry(node, sector, entry(sector, words_in(flash, sector)[0], EMPTY))
+    return replace(node, erasing=None), ("erased", count)

@@ -1,0 +1,227 @@
+"""Scripts of calls as lines of words, and what each line prints.
+
+A line is words of four hex digits; word 0 says what the line does. Below, a name stands for one word, name(2) for two words and
+name(4) for four, the highest first. A word past the end of a line is 0; no line has more than 200 words. Every line prints one
+line; a line that prints nothing else prints an empty one. Hex digits are lower case in what is printed.
+
+There are five memories, by number: 0 flash (262,160 words), 1 PM (32,784 words of 32 bits), 2 DM (32,784), 3 IO (4,112) and 4 the
+reply buffer (12,304). At first all words are 0, the node is all zeros, and nothing is lent. The first words of each memory are lent
+to a call, as many as the last line 9 said. The node that a call hands back is kept for the next line, that of a refused start too.
+
+    1 show kind(2) ports(2) subdetector(2) program_version subdetector_version start_tests clock(2)      start
+    2 show clock(2) link(2) bc receive_error RUN                                                         request
+    3 show clock(2) slave(2) bc receive_error rx_status rx_address RUN                                   reply
+    4 show clock(2)                                                                                      poll
+    5 show budget(4)                                                                                     erase progress
+    6 memory at(2) count(2) word multiplier addend      fill: `count` words from `at` on. The first is `word`; each next one is the
+                                                        one before times multiplier plus addend, modulo 65,536. A PM word takes
+                                                        two of them, the high half first.
+    7 memory at(2) RUN                                  the words of a run, from `at` on; never PM
+    8 field index value(2) ..                           one field of the node, by its number below
+    9 flash(2) PM(2) DM(2) IO(2) reply(2)               how many words of each memory are lent from now on
+    A memory at(2) count(2)                             prints the FCS of `count` words from `at` on, for PM of both halves of each,
+                                                        the high half first
+    B                                                   prints the node's words
+
+RUN is `front count(2) seed word..`: the first `front` of the words, then `count` words that begin with the seed, each next one the
+one before times 25173 plus 13849, modulo 65,536 (no product reaches 2^32), then the other words. No run is above 65,552 words.
+
+The fields of line 8: 0 kind, 1 ports, 2 sub-detector, 3 mode, 4 program version, 5 sub-detector version, 6 start tests, 7 start
+clock, 8 flash words, 9 AMSWire errors, 10 FLASH errors, 11 mask `index`, 12 directory word `index`, 13 erasing nothing, 14 erasing
+sector `index` with `value` words done, 15 nothing pending, 16 a slave pending, 17 a group pending. For 16 and 17 `index` is the
+link and `value` the clock when the slave was asked, and behind them stand slave asked(2) first words(2) tally, of which 16 has the
+slave alone. Kind, ports, sub-detector, mode, sector, link, slave and first are at most 255, and the tally at most 6.
+
+A call prints the FCS of the node's words, then its answer:
+
+    refused N             started             erased N             waiting             ask SLAVE FIRST
+    reply BC N FCS WORD..      N words in the reply buffer, the FCS of them (ffff of none), and the words where N is at most 16
+
+with numbers in decimal, and an FCS or a word in four hex digits. Then, for each bit of `show` that is set, a letter and the FCS of
+the lent words after the call: bit 0 `f` flash, bit 1 `p` PM, bit 2 `d` DM, bit 3 `i` IO, bit 4 `r` reply buffer. One space stands
+between any two of these.
+
+The node's words: kind, ports, sub-detector, mode, program version, sub-detector version, start tests, start clock(2), flash
+words(2), AMSWire errors, FLASH errors, 16 masks(2), 32 directory words; 1 or 0 as something is erasing or not, sector, done(2); 0
+nothing, 1 a slave, 2 a group pending, link, slave, at(2), asked(2), first, words(2), tally. What a case doesn't have is 0: 92 words
+in all."""
+
+from dataclasses import replace
+
+import node as model
+from files import DM, IO, PM
+from runs import check_sequence
+from words import run_of
+
+START, REQUEST, REPLY, POLL, ERASE, FILL, POKE, SET, LEND, DIGEST, STATE = range(1, 12)
+MEMORY_ROOM = (262160, 32784, 32784, 4112, 12304)
+FLASH, PROGRAM, DATA, REGISTERS, BUFFER = range(5)
+LETTERS = "fpdir"
+SCALARS = (
+    "kind", "ports", "subdetector", "mode", "program_version", "subdetector_version", "start_tests", "start_clock", "flash_words",
+    "amswire", "flash_errors",
+)
+MASK, DIRECTORY, ERASING_NOTHING, ERASING, PENDING_NOTHING, PENDING_SLAVE, PENDING_GROUP = range(11, 18)
+
+
+def halves(number):
+    return [number >> 16, number & 0xFFFF]
+
+
+def words_of_node(node):
+    words = [node.kind, node.ports, node.subdetector, node.mode, node.program_version, node.subdetector_version, node.start_tests]
+    words += halves(node.start_clock) + halves(node.flash_words) + [node.amswire, node.flash_errors]
+    words += [half for mask in node.masks for half in halves(mask)] + list(node.directory)
+    words += [1, node.erasing.sector] + halves(node.erasing.done) if node.erasing else [0] * 4
+    if node.pending is None:
+        return words + [0] * 11
+    words += [2 if node.pending.group else 1, node.pending.link, node.pending.slave] + halves(node.pending.at)
+    if node.pending.group is None:
+        return words + [0] * 6
+    group = node.pending.group
+    return words + halves(group.asked) + [group.first] + halves(group.words) + [group.tally]
+
+
+class Items:
+    """The words of a line, one after the other."""
+
+    def __init__(self, words):
+        self.words = words
+        self.at = 0
+
+    def number(self, count=1):
+        value = 0
+        for _ in range(count):
+            value = value << 16 | (self.words[self.at] if self.at < len(self.words) else 0)
+            self.at += 1
+        return value
+
+    def run(self):
+        front, count, seed = self.number(), self.number(2), self.number()
+        words = self.words[self.at:]
+        return words[:front] + list(run_of(seed, count)) + words[front:]
+
+
+class Program:
+    """What the lines act on: the node, the memories, and the words of them that are lent."""
+
+    def __init__(self):
+        self.node = model.ZEROS
+        self.memories = [[0] * room for room in MEMORY_ROOM]
+        self.lent = [[] for _ in MEMORY_ROOM]
+        self.answer = None
+
+    def whole(self, memory):
+        """A memory with what calls did to its lent words."""
+        words = self.memories[memory]
+        words[:len(self.lent[memory])] = self.lent[memory]
+        return words
+
+    def lend(self, memory, count):
+        self.lent[memory] = self.whole(memory)[:count]
+
+    def change(self, memory, at, words):
+        whole = self.whole(memory)
+        whole[at:at + len(words)] = words
+        self.lent[memory] = whole[:len(self.lent[memory])]
+
+    def line(self, words):
+        items = Items(words)
+        does = items.number()
+        if does in (START, REQUEST, REPLY, POLL, ERASE):
+            return self.call(does, items)
+        if does == DIGEST:
+            memory, at, count = items.number(), items.number(2), items.number(2)
+            return "%04x" % self.digest(memory, self.whole(memory)[at:at + count])
+        if does == STATE:
+            return " ".join("%04x" % word for word in words_of_node(self.node))
+        {FILL: self.fill, POKE: self.poke, SET: self.set, LEND: self.lend_all}[does](items)
+        return ""
+
+    # Lines that are no calls.
+
+    def fill(self, items):
+        memory, at, count = items.number(), items.number(2), items.number(2)
+        rule = items.number(), count * (2 if memory == PROGRAM else 1), items.number(), items.number()
+        words = run_of(*rule)
+        if memory == PROGRAM:
+            words = [high << 16 | low for high, low in zip(words[0::2], words[1::2])]
+        self.change(memory, at, words)
+
+    def poke(self, items):
+        self.change(items.number(), items.number(2), items.run())
+
+    def set(self, items):
+        field, index, value = items.number(), items.number(), items.number(2)
+        if field < len(SCALARS):
+            self.node = replace(self.node, **{SCALARS[field]: value})
+        elif field in (MASK, DIRECTORY):
+            name = "masks" if field == MASK else "directory"
+            words = getattr(self.node, name)
+            self.node = replace(self.node, **{name: words[:index] + (value,) + words[index + 1:]})
+        elif field in (ERASING_NOTHING, ERASING):
+            self.node = replace(self.node, erasing=model.Erasing(index, value) if field == ERASING else None)
+        elif field == PENDING_NOTHING:
+            self.node = replace(self.node, pending=None)
+        else:
+            slave, asked, first, words, tally = items.number(), items.number(2), items.number(), items.number(2), items.number()
+            group = model.Built(asked, first, words, tally) if field == PENDING_GROUP else None
+            self.node = replace(self.node, pending=model.Pending(index, slave, value, group))
+
+    def lend_all(self, items):
+        for memory in range(len(MEMORY_ROOM)):
+            self.lend(memory, items.number(2))
+
+    # Calls.
+
+    def call(self, does, items):
+        show = items.number()
+        self.node, self.answer = {
+            START: self.start, REQUEST: self.request, REPLY: self.reply, POLL: self.poll, ERASE: self.erase
+        }[does](items)
+        shown = ["%04x" % check_sequence(words_of_node(self.node)), self.said()]
+        for memory, letter in enumerate(LETTERS):
+            if show >> memory & 1:
+                shown.append("%s %04x" % (letter, self.digest(memory, self.lent[memory])))
+        return " ".join(shown)
+
+    def start(self, items):
+        kind, ports, subdetector = items.number(2), items.number(2), items.number(2)
+        return model.start(
+            kind, ports, subdetector, items.number(), items.number(), items.number(), items.number(2), self.lent[FLASH]
+        )
+
+    def request(self, items):
+        lent = model.Lent(
+            self.lent[FLASH], {PM: self.lent[PROGRAM], DM: self.lent[DATA], IO: self.lent[REGISTERS]}, self.lent[BUFFER]
+        )
+        return model.request(
+            self.node, lent, items.number(2), items.number(2), items.number(), items.number(), items.run()
+        )
+
+    def reply(self, items):
+        return model.reply(
+            self.node, self.lent[BUFFER], items.number(2), items.number(2), items.number(), items.number(), items.number(),
+            items.number(), items.run(),
+        )
+
+    def poll(self, items):
+        return model.poll(self.node, self.lent[BUFFER], items.number(2))
+
+    def erase(self, items):
+        return model.erase(self.node, self.lent[FLASH], items.number(4))
+
+    # What is printed.
+
+    def said(self):
+        if self.answer[0] != "reply":
+            return " ".join(str(part) for part in self.answer)
+        _, bc, count = self.answer
+        words = self.lent[BUFFER][:count]
+        shown = ["reply", str(bc), str(count), "%04x" % check_sequence(words)]
+        return " ".join(shown + ["%04x" % word for word in words if count <= 16])
+
+    def digest(self, memory, words):
+        if memory == PROGRAM:
+            words = [half for word in words for half in (word >> 16, word & 0xFFFF)]
+        return check_sequence(words)

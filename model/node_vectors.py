@@ -1,0 +1,31 @@
+"""Vectors of the whole node: scripts of calls, by the lines of `node_lines`; what each line prints."""
+
+from node_lines import Program
+from script import Script
+from scripts_flash import bad_sectors, directories, every_sector, files, long_files
+from scripts_memory import headers, loads, long_segments, runs_of_memory, segments
+from scripts_requests import command_numbers, counts, first_bytes, lengths, small_commands
+from scripts_slaves import groups, room, singles, tallies, times
+from scripts_states import refusals, soup, start_refusals, states
+from words import words_of
+
+SCRIPTS = (
+    start_refusals, refusals, states,
+    first_bytes, lengths, command_numbers, small_commands, counts,
+    files, every_sector, long_files, bad_sectors, directories,
+    runs_of_memory, segments, headers, long_segments, loads,
+    groups, room, times, tallies, singles,
+    soup,
+)
+
+
+def inputs():
+    script = Script(7)
+    for part in SCRIPTS:
+        part(script)
+    return "".join(script.lines)
+
+
+def outputs(stdin):
+    program = Program()
+    return "".join(program.line(words_of(line)) + "\n" for line in stdin.splitlines())
