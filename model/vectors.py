@@ -4,8 +4,8 @@
     vectors.py write [NAME..]    write crates/NAME/stdin and crates/NAME/stdout anew
     vectors.py check [NAME..]    work out stdout from the stored stdin again, and compare
 
-NAME is a crate with a module of that name here, which has `inputs() -> str` and `outputs(stdin) -> str`; no name means all. The
-programs themselves are run and compared with their stdout by `rt ci`."""
+NAME is a crate with a module of that name here, which has `inputs() -> str` and `outputs(stdin) -> str`; no name means every such
+crate. The programs themselves are run and compared with their stdout by `rt ci`."""
 
 import importlib
 import pathlib
@@ -16,7 +16,7 @@ CRATES = HERE.parent / "crates"
 
 
 def names():
-    return sorted(path.stem for path in HERE.glob("*_vectors.py"))
+    return sorted(path.stem for path in HERE.glob("*_vectors.py") if (CRATES / path.stem).is_dir())
 
 
 def write(name):
