@@ -144,3 +144,28 @@ pub fn words_of(line: &[u8], words: &mut [u16]) -> usize
     }
     n
 }
+
+// A word of a line; 0 where it has none.
+pub fn item(line: &[u16], at: usize) -> u16 {
+    if at < line.len() {
+        return line[at];
+    }
+    0
+}
+
+// The word after another in the rule by which lines give long runs: 25,173 times it and 13,849, modulo 65,536.
+pub fn next_word(word: u16) -> u16 {
+    ((word as u32 * 25173 + 13849) % 65536) as u16
+}
+
+// A run by that rule, from its first word on.
+pub fn seed_words(run: &mut [u16], seed: u16) {
+    let n = run.len();
+    let mut word = seed;
+    let mut i = 0;
+    while i < n {
+        run[i] = word;
+        word = next_word(word);
+        i += 1;
+    }
+}

@@ -46,34 +46,9 @@ fn print_number(n: usize) {
     io::print_decimal(1, n as u64);
 }
 
-// A word of a line, 0 past its end.
-fn item(line: &[u16], at: usize) -> u16 {
-    if at < line.len() {
-        return line[at];
-    }
-    0
-}
-
 // Two words as one number, high word first.
 fn double(high: u16, low: u16) -> u32 {
     high as u32 * 65536 + low as u32
-}
-
-// The word behind a word of a reply.
-fn next_word(word: u16) -> u16 {
-    ((word as u32 * 25173 + 13849) % 65536) as u16
-}
-
-// The words that follow from a seed.
-fn seed_words(run: &mut [u16], seed: u16) {
-    let n = run.len();
-    let mut word = seed;
-    let mut i = 0;
-    while i < n {
-        run[i] = word;
-        word = next_word(word);
-        i += 1;
-    }
 }
 
 // A word set at a place counted from the end: 1 is the last.
@@ -88,7 +63,7 @@ fn set_last(run: &mut [u16], place: usize, word: u16)
 
 // A reply's words: from a seed on, the last two as given.
 fn make_reply(reply: &mut [u16], seed: u16, status: u16, last: u16) {
-    seed_words(reply, seed);
+    feed::seed_words(reply, seed);
     set_last(reply, 2, status);
     set_last(reply, 1, last);
 }
@@ -124,14 +99,14 @@ fn digest(buffer: &[u16]) -> u64 {
 fn heard_at(line: &[u16], at: usize) -> Heard
     requires { ⌜ at < 1000 ⌝ }
 {
-    let asked = double(item(line, at), item(line, at + 1));
-    let clock = double(item(line, at + 2), item(line, at + 3));
+    let asked = double(feed::item(line, at), feed::item(line, at + 1));
+    let clock = double(feed::item(line, at + 2), feed::item(line, at + 3));
     Heard {
         late: group::slaves::is_late(clock, asked),
-        errors: item(line, at + 4) != 0,
-        rx_status: item(line, at + 5),
-        rx_address: item(line, at + 6),
-        bc: item(line, at + 7) as u32,
+        errors: feed::item(line, at + 4) != 0,
+        rx_status: feed::item(line, at + 5),
+        rx_address: feed::item(line, at + 6),
+        bc: feed::item(line, at + 7) as u32,
     }
 }
 
@@ -140,10 +115,10 @@ fn words_at(line: &[u16], at: usize, reply: &mut [u16]) -> usize
     requires { ⌜ at < 1000 ⌝ }
     ensures { λ r. ⌜ r ≤ length (now (reply .exit)) ⌝ }
 {
-    let n = base::least(base::wide(item(line, at + 8)), reply.len());
-    let seed = item(line, at + 9);
-    let status = item(line, at + 10);
-    let last = item(line, at + 11);
+    let n = base::least(base::wide(feed::item(line, at + 8)), reply.len());
+    let seed = feed::item(line, at + 9);
+    let status = feed::item(line, at + 10);
+    let last = feed::item(line, at + 11);
     make_reply(&mut reply[0..n], seed, status, last);
     n
 }
@@ -176,7 +151,7 @@ fn show_built(built: Built, buffer: &[u16]) {
     print_number(base::wide(group::judge::tally_number(tally)));
     io::write_all(1, b":");
     if 0 < w {
-        print_word(item(buffer, w - 1));
+        print_word(feed::item(buffer, w - 1));
     }
     io::write_all(1, b" ");
 }
@@ -209,10 +184,10 @@ fn show_reply(sent: Reply) {
 
 // A line's reply, in the part of the buffer that is lent.
 fn reply_to(line: &[u16], buffer: &mut [u16], reply: &mut [u16]) {
-    if item(line, 0) == 0 {
-        let set = double(item(line, 1), item(line, 2));
+    if feed::item(line, 0) == 0 {
+        let set = double(feed::item(line, 1), feed::item(line, 2));
         let built = answers(line, set, buffer, reply);
-        show_reply(group::ending::finish(buffer, built, item(line, 3)));
+        show_reply(group::ending::finish(buffer, built, feed::item(line, 3)));
         return;
     }
     let heard = heard_at(line, 5);
@@ -222,7 +197,7 @@ fn reply_to(line: &[u16], buffer: &mut [u16], reply: &mut [u16]) {
 
 fn turn(bytes: &[u8], line: &mut [u16], buffer: &mut [u16], reply: &mut [u16]) {
     let n = feed::words_of(bytes, line);
-    let lent = base::least(base::wide(item(&line[0..n], 4)), buffer.len());
+    let lent = base::least(base::wide(feed::item(&line[0..n], 4)), buffer.len());
     clear(buffer);
     reply_to(&line[0..n], &mut buffer[0..lent], reply);
     io::print_hex(1, digest(buffer), 8);

@@ -110,7 +110,7 @@ pub fn address_of(second: u16) -> usize
 }
 
 // Whether the memory has segments of this length.
-fn length_ok(memory: Memory, n: usize) -> bool
+pub fn length_ok(memory: Memory, n: usize) -> bool
     ensures { λ r. ⌜ r ≡ lengthOk memory n ⌝ }
 {
     match memory {
@@ -121,7 +121,7 @@ fn length_ok(memory: Memory, n: usize) -> bool
 }
 
 // Whether this is a page.
-fn is_page(page: Page) -> bool
+pub fn is_page(page: Page) -> bool
     ensures { λ r. ⌜ r ≡ isPage page ⌝ }
 {
     match page {

@@ -3,28 +3,15 @@ use image::Memory;
 use image::Page;
 ghost use mathlib.Core.Path.{_≡_};
 ghost use Prim.Native.Nat.{_≤_};
-ghost use Rattle.image.specs.Segment.{isPage};
 ghost use Rattle.memory.specs.Map.{seen, lowAt, highAt, indexOf};
-
-// Whether PM and DM have the page.
-fn has_page(page: Page) -> bool
-    ensures { λ r. ⌜ r ≡ isPage page ⌝ }
-{
-    match page {
-        Page::Zero => true,
-        Page::Four => true,
-        Page::Five => true,
-        Page::Invalid => false,
-    }
-}
 
 // Whether addresses of the memory are seen from the page.
 pub(crate) fn is_seen(memory: Memory, page: Page) -> bool
     ensures { λ r. ⌜ r ≡ seen memory page ⌝ }
 {
     match memory {
-        Memory::Pm => has_page(page),
-        Memory::Dm => has_page(page),
+        Memory::Pm => image::is_page(page),
+        Memory::Dm => image::is_page(page),
         Memory::Io => false,
     }
 }

@@ -7,7 +7,7 @@ ghost use Prim.Native.Nat.{_-_, _≤_};
 ghost use lib.ListN.{length, set};
 ghost use Rattle.base.specs.Words.{part};
 ghost use Rattle.fcs.specs.Fcs.{fcsOf};
-ghost use Rattle.image.specs.Segment.{lengthOk, wordBytes};
+ghost use Rattle.image.specs.Segment.{wordBytes};
 ghost use Rattle.memory.specs.Segment.{memories};
 ghost use Rattle.memory.specs.Load.{loadable, loaded, loadOf};
 ghost use Rattle.memory.specs.Command.{memoryNumber, isOwn, readWords, readable, read, readOf, writable, written, writeOf, performable, performed, performOf};
@@ -42,17 +42,6 @@ fn is_own(memory: Memory, first: u16) -> bool
     number_of(image::memory_of(first)) == number_of(memory)
 }
 
-// Whether the memory has segments of this length.
-fn is_permitted(memory: Memory, n: usize) -> bool
-    ensures { λ r. ⌜ r ≡ lengthOk memory n ⌝ }
-{
-    match memory {
-        Memory::Pm => (n % 2 == 0) & (2 <= n),
-        Memory::Dm => 2 <= n,
-        Memory::Io => (n % 2 == 1) & (3 <= n),
-    }
-}
-
 // The bytes of a memory word.
 fn word_bytes(memory: Memory) -> usize
     ensures { λ r. ⌜ r ≡ wordBytes memory ⌝ }
@@ -78,7 +67,7 @@ pub fn can_read(memory: Memory, len: usize, first: u16, second: u16, room: usize
     if !is_own(memory, first) {
         return false;
     }
-    if !is_permitted(memory, image::length_of(first)) {
+    if !image::length_ok(memory, image::length_of(first)) {
         return false;
     }
     if !segments::header_fits(len, memory, first, second) {

@@ -99,24 +99,11 @@ fn print_answer(answer: Answer, reply: &[u16]) {
     print_digest(reply);
 }
 
-// A word of a line, 0 past its end.
-fn item(line: &[u16], at: usize) -> u16 {
-    if at < line.len() {
-        return line[at];
-    }
-    0
-}
-
 // A length that a line asks for, as far as there is room.
 fn lent(line: &[u16], at: usize, room: usize) -> usize
     ensures { λ r. ⌜ r ≤ room ⌝ }
 {
-    base::least(base::wide(item(line, at)), room)
-}
-
-// The word behind a word.
-fn next_word(word: u16) -> u16 {
-    ((word as u32 * 25173 + 13849) % 65536) as u16
+    base::least(base::wide(feed::item(line, at)), room)
 }
 
 // A PM word that is a word twice, and its halves.
@@ -132,18 +119,6 @@ fn high_half(word: u32) -> u16 {
     (word / 65536) as u16
 }
 
-// The words that follow from a seed.
-fn seed_words(run: &mut [u16], seed: u16) {
-    let n = run.len();
-    let mut word = seed;
-    let mut i = 0;
-    while i < n {
-        run[i] = word;
-        word = next_word(word);
-        i += 1;
-    }
-}
-
 // The same in PM, each word twice.
 fn seed_pm(pm: &mut [u32], seed: u16) {
     let n = pm.len();
@@ -151,7 +126,7 @@ fn seed_pm(pm: &mut [u32], seed: u16) {
     let mut i = 0;
     while i < n {
         pm[i] = twice(word);
-        word = next_word(word);
+        word = feed::next_word(word);
         i += 1;
     }
 }
@@ -185,16 +160,16 @@ fn print_pm(pm: &[u32], halves: &mut [u16]) {
 }
 
 fn pm_read(line: &[u16], pm: &[u32], reply: &mut [u16]) {
-    let first = item(line, 6);
-    let second = item(line, 7);
+    let first = feed::item(line, 6);
+    let second = feed::item(line, 7);
     print_can(memory::can_read(Memory::Pm, pm.len(), first, second, reply.len()));
     let answer = memory::read_pm(pm, first, second, reply);
     print_answer(answer, reply);
 }
 
 fn dm_read(line: &[u16], dm: &[u16], reply: &mut [u16]) {
-    let first = item(line, 6);
-    let second = item(line, 7);
+    let first = feed::item(line, 6);
+    let second = feed::item(line, 7);
     print_can(memory::can_read(Memory::Dm, dm.len(), first, second, reply.len()));
     let answer = memory::read_dm(dm, first, second, reply);
     print_answer(answer, reply);
@@ -234,9 +209,9 @@ fn load(file: &[u16], pm: &mut [u32], pm_len: usize, dm: &mut [u16], dm_len: usi
 // All that is lent, from one seed.
 fn seed_all(seed: u16, pm: &mut [u32], dm: &mut [u16], io: &mut [u16], reply: &mut [u16]) {
     seed_pm(pm, seed);
-    seed_words(dm, seed);
-    seed_words(io, seed);
-    seed_words(reply, seed);
+    feed::seed_words(dm, seed);
+    feed::seed_words(io, seed);
+    feed::seed_words(reply, seed);
 }
 
 // Does what a line says with the memories that it asks for.
@@ -246,7 +221,7 @@ fn answer(line: &[u16], pm: &mut [u32], dm: &mut [u16], io: &mut [u16], reply: &
     let io_len = lent(line, 3, io.len());
     let room = lent(line, 4, reply.len());
     let from = base::least(6, line.len());
-    match item(line, 0) {
+    match feed::item(line, 0) {
         0 => pm_read(line, &pm[0..pm_len], &mut reply[0..room]),
         1 => dm_read(line, &dm[0..dm_len], &mut reply[0..room]),
         2 => pm_write(&line[from..], &mut pm[0..pm_len], dm),
@@ -266,7 +241,7 @@ fn turn(
     reply: &mut [u16],
 ) {
     let n = feed::words_of(line, words);
-    seed_all(item(&words[0..n], 5), pm, dm, io, reply);
+    seed_all(feed::item(&words[0..n], 5), pm, dm, io, reply);
     answer(&words[0..n], pm, dm, io, reply);
     io::write_all(1, b"\n");
 }

@@ -1,14 +1,13 @@
--- `memory_vectors::seed_words` meets its contract: the run keeps its length. The measure is what is left of it. Assumes
--- nothing.
-use mathlib.Core.Path.{_≡_}
+-- `feed::seed_words` meets its contract: the run keeps its length. The measure is what is left of it. Assumes nothing.
 use Prim.Native.Nat.{_≤_, _-_}
-use lib.ListN.{length}
+use mathlib.Core.Path.{_≡_}
 use borrow.Author.Needs.{needs}
-use Rattle.memory_vectors.proofs.seed_words.Statement.{statement}
-use Rattle.memory_vectors.proofs.seed_words.Tie as tie
+use lib.ListN.{length}
+use Rattle.feed.proofs.seed_words.Statement.{statement}
+use Rattle.feed.proofs.seed_words.Tie as tie
 
 abbrev Inv-loop : tie.InvT-loop
-Inv-loop run₀ seed n word₀ i₀ run word i = (i ≤ n) × (n ≡ length run₀) × (length run ≡ length run₀)
+Inv-loop run₀ seed n word₀ i₀ run word i = (i ≤ n) × (length run ≡ n)
 
 abbrev μ-loop : tie.MeasureT-loop
 μ-loop run₀ seed n word₀ i₀ run word i = n - i
