@@ -7,6 +7,7 @@ FILES ?= examples/files
 # Which of some files are valid, each line the words of one in hex (FILES=..), by the proved program.
 run: tools
 	@test -r "$(FILES)" || { echo "make: no file $(FILES): give one by FILES=, a line of words in hex for each file"; exit 1; }
+	@echo "make: proving and building the program first, which takes a minute or two where it isn't there" >&2
 	@rt check image_vectors >build/run.log 2>&1 || { cat build/run.log; exit 1; }
 	@host/run target/bin/image_vectors <"$(FILES)"
 

@@ -1,4 +1,4 @@
--- The changes of a flash: a file stored, an attribute set, words erased. 01 'Flash', 5.3 of the note. Assumes nothing.
+-- The changes of a flash: a file stored, an attribute set, words erased. 01 'Flash', sections 5 and 7.12 of the note. Assumes nothing.
 use Prim.Native.Nat.{ℕ, min, _+_, _-_, _^_, _/_, _%_, _≤_, _<_}
 use mathlib.Core.Path.{_≡_}
 use mathlib.Core.Bool.{true}

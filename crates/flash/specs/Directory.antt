@@ -1,4 +1,4 @@
--- The directory, which is the flash summary: four words for each file sector. 01 'Flash', 7.10 of the note. Assumes nothing.
+-- The directory, which is the flash summary: four words for each file sector. 01 'Flash', section 7.10 of the note. Assumes nothing.
 use Prim.Native.Nat.{ℕ, zero, suc, _+_}
 use mathlib.Core.Bool.{Bool, _&&_}
 use mathlib.Core.List.{List, [], _∷_, _++_}

@@ -1,4 +1,4 @@
--- What a sector is: empty, good, bad, or being erased. 01 'Flash', 7.10 of the note. Assumes nothing.
+-- What a sector is: empty, good, bad, or being erased. 01 'Flash', section 7.10 of the note. Assumes nothing.
 use Prim.Native.Nat.{ℕ}
 use mathlib.Core.Bool.{Bool, true, false, _&&_}
 use mathlib.Core.List.{List, [], _∷_}

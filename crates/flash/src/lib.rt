@@ -1,5 +1,5 @@
 // The file sectors of a flash, which is lent as 16-bit words of either size, and the directory that is kept of them. 01 'Flash',
-// section 5 and 7.4 to 7.12 of the note. What reads or changes words works on one sector's words; only the loops over the sectors
+// sections 5 and 7.6 to 7.12 of the note. What reads or changes words works on one sector's words; only the loops over the sectors
 // and the geometry see the whole flash.
 
 pub mod change;
