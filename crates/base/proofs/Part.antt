@@ -1,6 +1,6 @@
 -- A part of a run, and runs that agree on a stretch. Assumes nothing.
 use Prim.Native.Nat.{ℕ, zero, suc, _+_, _-_, _≤_, _<_}
-use mathlib.Core.Path.{_≡_, refl, sym, ap, _∙_}
+use mathlib.Core.Path.{_≡_, sym, ap, _∙_}
 use mathlib.Core.List.{List, [], _∷_, _++_}
 use native.Mathlib.Omega.{arith}
 use lib.ListN.{length, getD, take, drop, length-take, length-drop, take-append-drop}
@@ -65,9 +65,6 @@ below-append (x ∷ a) b h g (suc i) = below-append a b (λ j. h (suc j)) g i
 
 -- agreement on a stretch
 
-pub same-refl : (ws : List ℕ) (from to : ℕ) → to ≤ length ws → Same ws ws from to
-same-refl ws from to h = record { left = h; right = h; words = λ i p q. refl }
-
 pub same-sym : {a b : List ℕ} {from to : ℕ} → Same a b from to → Same b a from to
 same-sym s = record { left = s .right; right = s .left; words = λ i p q. sym (s .words i p q) }
 
@@ -81,11 +78,3 @@ same-part {a} {b} at n s p q =
     let lb = length-part b at n (omega arith) in
     ext-getD 0 (part a at n) (part b at n) (la ∙ sym lb)
     (λ i h. let h′ : i < n = omega arith in getD-part a at n i h′ ∙ s .words (at + i) (omega arith) (omega arith) ∙ sym (getD-part b at n i h′))
-
--- runs that agree from their first word on start with the same words
-pub same-take : {a b : List ℕ} (n : ℕ) → Same a b 0 n → take n a ≡ take n b
-same-take n s = same-part 0 n s (omega arith) (omega arith)
-
-pub take-same : (a b : List ℕ) (n : ℕ) → n ≤ length a → n ≤ length b → take n a ≡ take n b → Same a b 0 n
-take-same a b n p q e =
-    record { left = p; right = q; words = λ i h k. sym (getD-take n a i 0 k) ∙ ap (λ (l : List ℕ). getD l i 0) e ∙ getD-take n b i 0 k }
