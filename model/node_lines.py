@@ -37,8 +37,8 @@ A call prints the digest of the node's words, then its answer:
     reply BC N DIGEST WORD..      N words in the reply buffer, the digest of them, and the words themselves where N is at most 16
 
 with numbers in decimal, and a digest or a word in four hex digits. Then, for each bit of `show` that is set, a letter and the
-digest of the lent words after the call: bit 0 `f` flash, bit 1 `p` PM, bit 2 `d` DM, bit 3 `i` IO, bit 4 `r` reply buffer. One space
-stands between any two of these.
+digest of the lent words after the call: bit 0 `f` flash, bit 1 `p` PM, bit 2 `d` DM, bit 3 `i` IO, bit 4 `r` reply buffer. One
+space stands between any two of these.
 
 The digest of a run is 1 for no words; with one word more it is the digest before times 17 plus the word, modulo 65,521. Of PM both
 halves of each word count, the high half first. (An FCS would not do: it is 0 of every run that ends with its own.)
