@@ -19,8 +19,7 @@ to a call, as many as the last line 9 said. The node that a call hands back is k
     7 memory at(2) RUN                                  the words of a run, from `at` on; never PM
     8 field index value(2) ..                           one field of the node, by its number below
     9 flash(2) PM(2) DM(2) IO(2) reply(2)               how many words of each memory are lent from now on
-    A memory at(2) count(2)                             prints the FCS of `count` words from `at` on, for PM of both halves of each,
-                                                        the high half first
+    A memory at(2) count(2)                             prints the digest of `count` words from `at` on
     B                                                   prints the node's words
 
 RUN is `front count(2) seed word..`: the first `front` of the words, then `count` words that begin with the seed, each next one the
@@ -32,14 +31,17 @@ sector `index` with `value` words done, 15 nothing pending, 16 a slave pending, 
 link and `value` the clock when the slave was asked, and behind them stand slave asked(2) first words(2) tally, of which 16 has the
 slave alone. Kind, ports, sub-detector, mode, sector, link, slave and first are at most 255, and the tally at most 6.
 
-A call prints the FCS of the node's words, then its answer:
+A call prints the digest of the node's words, then its answer:
 
     refused N             started             erased N             waiting             ask SLAVE FIRST
-    reply BC N FCS WORD..      N words in the reply buffer, the FCS of them (ffff of none), and the words where N is at most 16
+    reply BC N DIGEST WORD..      N words in the reply buffer, the digest of them, and the words themselves where N is at most 16
 
-with numbers in decimal, and an FCS or a word in four hex digits. Then, for each bit of `show` that is set, a letter and the FCS of
-the lent words after the call: bit 0 `f` flash, bit 1 `p` PM, bit 2 `d` DM, bit 3 `i` IO, bit 4 `r` reply buffer. One space stands
-between any two of these.
+with numbers in decimal, and a digest or a word in four hex digits. Then, for each bit of `show` that is set, a letter and the
+digest of the lent words after the call: bit 0 `f` flash, bit 1 `p` PM, bit 2 `d` DM, bit 3 `i` IO, bit 4 `r` reply buffer. One
+space stands between any two of these.
+
+The digest of a run is 1 for no words; with one word more it is the digest before times 17 plus the word, modulo 65,521. Of PM both
+halves of each word count, the high half first. (An FCS would not do: it is 0 of every run that ends with its own.)
 
 The node's words: kind, ports, sub-detector, mode, program version, sub-detector version, start tests, start clock(2), flash
 words(2), AMSWire errors, FLASH errors, 16 masks(2), 32 directory words; 1 or 0 as something is erasing or not, sector, done(2); 0
@@ -50,8 +52,7 @@ from dataclasses import replace
 
 import node as model
 from files import DM, IO, PM
-from runs import check_sequence
-from words import run_of
+from words import digest, run_of
 
 START, REQUEST, REPLY, POLL, ERASE, FILL, POKE, SET, LEND, DIGEST, STATE = range(1, 12)
 MEMORY_ROOM = (262160, 32784, 32784, 4112, 12304)
@@ -80,6 +81,12 @@ def words_of_node(node):
         return words + [0] * 6
     group = node.pending.group
     return words + halves(group.asked) + [group.first] + halves(group.words) + [group.tally]
+
+
+def digest_of(memory, words):
+    if memory == PROGRAM:
+        words = [half for word in words for half in halves(word)]
+    return digest(words)
 
 
 class Items:
@@ -132,7 +139,7 @@ class Program:
             return self.call(does, items)
         if does == DIGEST:
             memory, at, count = items.number(), items.number(2), items.number(2)
-            return "%04x" % self.digest(memory, self.whole(memory)[at:at + count])
+            return "%04x" % digest_of(memory, self.whole(memory)[at:at + count])
         if does == STATE:
             return " ".join("%04x" % word for word in words_of_node(self.node))
         {FILL: self.fill, POKE: self.poke, SET: self.set, LEND: self.lend_all}[does](items)
@@ -179,10 +186,10 @@ class Program:
         self.node, self.answer = {
             START: self.start, REQUEST: self.request, REPLY: self.reply, POLL: self.poll, ERASE: self.erase
         }[does](items)
-        shown = ["%04x" % check_sequence(words_of_node(self.node)), self.said()]
+        shown = ["%04x" % digest(words_of_node(self.node)), self.said()]
         for memory, letter in enumerate(LETTERS):
             if show >> memory & 1:
-                shown.append("%s %04x" % (letter, self.digest(memory, self.lent[memory])))
+                shown.append("%s %04x" % (letter, digest_of(memory, self.lent[memory])))
         return " ".join(shown)
 
     def start(self, items):
@@ -218,10 +225,5 @@ class Program:
             return " ".join(str(part) for part in self.answer)
         _, bc, count = self.answer
         words = self.lent[BUFFER][:count]
-        shown = ["reply", str(bc), str(count), "%04x" % check_sequence(words)]
+        shown = ["reply", str(bc), str(count), "%04x" % digest(words)]
         return " ".join(shown + ["%04x" % word for word in words if count <= 16])
-
-    def digest(self, memory, words):
-        if memory == PROGRAM:
-            words = [half for word in words for half in (word >> 16, word & 0xFFFF)]
-        return check_sequence(words)

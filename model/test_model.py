@@ -15,7 +15,7 @@ from node_lines import FLASH, POKE
 from script import Script
 from scripts_flash import flash_step
 from runs import check_sequence
-from words import words_of
+from words import digest, words_of
 
 BENCH = 32768
 
@@ -98,6 +98,17 @@ class CheckSequence(unittest.TestCase):
         for length in (0, 1, 31, 32, 33, 64, 100, 1000):
             words = [pick.randrange(65536) for _ in range(length)]
             self.assertEqual(check_sequence(words), fcs(words))
+
+
+class Digest(unittest.TestCase):
+    def test_rule(self):
+        pick = random.Random(2)
+        for length in (0, 1, 2, 92, 12288):
+            words = [pick.randrange(65536) for _ in range(length)]
+            value = 1
+            for word in words:
+                value = (value * 17 + word) % 65521
+            self.assertEqual(digest(words), value)
 
 
 class Calls(unittest.TestCase):
