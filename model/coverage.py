@@ -1,13 +1,13 @@
 #!/usr/bin/env python3
 """Which lines of the model the stored vectors of the whole node reach.
 
-    coverage.py    run `node_vectors` over its stored stdin, and print each line of the model's parts that was not reached
+    coverage.py    run the scripts of `node_vectors`, and print each line of the model's parts that was not reached
 
 The answer is 1 if there is such a line. A line counts if the compiler made code of it, a function's own line left aside."""
 
 import sys
 
-from vectors import CRATES, HERE
+from vectors import HERE
 
 PARTS = ("node", "flash", "memory", "group", "files", "runs", "fcs")
 
@@ -52,7 +52,7 @@ def reached(work):
 def work():
     import node_vectors
 
-    node_vectors.outputs((CRATES / "node_vectors" / "stdin").read_text())
+    node_vectors.outputs(node_vectors.inputs())
 
 
 def main():
