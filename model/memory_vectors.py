@@ -11,7 +11,7 @@ from build import file_of, segment
 from files import DM, IO, PM, segment_at, segments_of
 from memory import fits, load, perform, read
 from runs import check_sequence
-from words import line_of, run_of, words_of
+from words import digest, line_of, run_of, words_of
 
 PM_READ, DM_READ, PM_WRITE, DM_WRITE, PERFORM, LOAD = range(6)
 FULL, REGISTERS, REPLY = 0x8000, 0x1000, 12288
@@ -172,20 +172,20 @@ def inputs():
     return "".join(line_of(line) for line in cases.lines)
 
 
-def digest(words):
-    return "%04x" % check_sequence(words)
+def shown_digest(words):
+    return "%04x" % digest(words)
 
 
 def pm_digests(pm):
-    return [digest([word & 0xFFFF for word in pm]), digest([word >> 16 for word in pm])]
+    return [shown_digest([word & 0xFFFF for word in pm]), shown_digest([word >> 16 for word in pm])]
 
 
 def shown(data, reply):
     """An answer that stands at the front of the reply, or ABORT; and the reply's digest."""
     if data is None:
-        return ["0", "ABORT", digest(reply)]
+        return ["0", "ABORT", shown_digest(reply)]
     reply = data + reply[len(data):]
-    return ["1", "%d" % len(data)] + ["%04x" % word for word in data[:16]] + [digest(reply)]
+    return ["1", "%d" % len(data)] + ["%04x" % word for word in data[:16]] + [shown_digest(reply)]
 
 
 def done(ok):
@@ -208,15 +208,15 @@ def write_line(memory, words, memories):
     ok = found is not None and fits(found, memories)
     if ok:
         load(found, memories)
-    return done(ok) + (pm_digests(memories[PM]) if memory == PM else [digest(memories[DM])])
+    return done(ok) + (pm_digests(memories[PM]) if memory == PM else [shown_digest(memories[DM])])
 
 
 def perform_line(words, memories, reply):
     found = exact(words, IO)
     if found is None or not fits(found, memories) or len(words) > len(reply):
-        return shown(None, reply) + [digest(memories[IO])]
+        return shown(None, reply) + [shown_digest(memories[IO])]
     body = perform(memories[IO], found[3])
-    return shown(words[:2] + body + [check_sequence(body)], reply) + [digest(memories[IO])]
+    return shown(words[:2] + body + [check_sequence(body)], reply) + [shown_digest(memories[IO])]
 
 
 def load_line(words, memories):
@@ -225,7 +225,7 @@ def load_line(words, memories):
     if ok:
         for segment_found in found:
             load(segment_found, memories)
-    return done(ok) + [digest(memories[IO]), digest(memories[DM])] + pm_digests(memories[PM])
+    return done(ok) + [shown_digest(memories[IO]), shown_digest(memories[DM])] + pm_digests(memories[PM])
 
 
 @lru_cache(maxsize=None)

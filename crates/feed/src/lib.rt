@@ -169,3 +169,20 @@ pub fn seed_words(run: &mut [u16], seed: u16) {
         i += 1;
     }
 }
+
+// One word more of a digest.
+fn mixed(digest: u16, word: u16) -> u16 {
+    ((digest as u32 * 17 + word as u32) % 65521) as u16
+}
+
+// One word for a run that is too long to print: from 1 on, for each word times 17 plus the word, modulo 65,521. It is no check
+// sequence: a run that ends with its own FCS has the same FCS whatever it says.
+pub fn digest(run: &[u16]) -> u16 {
+    let mut d: u16 = 1;
+    let mut i = 0;
+    while i < run.len() {
+        d = mixed(d, run[i]);
+        i += 1;
+    }
+    d
+}

@@ -57,7 +57,7 @@ fn print_word(word: u16) {
 }
 
 fn print_digest(words: &[u16]) {
-    print_word(fcs::fcs(words));
+    print_word(feed::digest(words));
 }
 
 fn print_can(can: bool) {
