@@ -10,7 +10,7 @@ use Rattle.base.specs.Pick.{pick}
 use Rattle.base.specs.Words.{laid}
 use Rattle.flash.specs.Geometry.{unitOf}
 use Rattle.flash.specs.Directory.{refreshed}
-use Rattle.flash.specs.Change.{stored, headed, erased, eraseCount, erasingAfter}
+use Rattle.flash.specs.Change.{stored, headed, erased, eraseCount, erasingAfter, erasureStatus}
 use Rattle.flash.specs.Status.{progress}
 use Rattle.flash.specs.declared.Erasing.{Erasing}
 use Rattle.flash.specs.declared.Status.{Status}
@@ -54,16 +54,12 @@ erasingNext (Change.Blanked budget) erasing u = erasingAfter u erasing budget
 
 -- The entry of a sector after a step of its erasure that set a word: its first word as it now is, with 4000, or 0 in the call that
 -- sets the sector's last word. A step that sets nothing changes nothing.
-abbrev pub statusOfErasing : Erasing → Status
-statusOfErasing Erasing.Nothing = Status.Empty
-statusOfErasing (Erasing.Sector p) = Status.Erasing
-
 abbrev pub directoryErased : List ℕ → Erasing → List ℕ → ℕ → List ℕ
 directoryErased directory Erasing.Nothing flash budget = directory
 directoryErased directory (Erasing.Sector p) flash budget =
     pick (eqb (eraseCount (unitOf flash) (Erasing.Sector p) budget) 0) directory
     (refreshed directory (erased flash (Erasing.Sector p) budget) (p .sector)
-    (statusOfErasing (erasingAfter (unitOf flash) (Erasing.Sector p) budget)))
+    (erasureStatus (erasingAfter (unitOf flash) (Erasing.Sector p) budget)))
 
 -- Whoever touches an entry lays it whole.
 abbrev pub directoryAfter : Change → List ℕ → Erasing → List ℕ → List ℕ
