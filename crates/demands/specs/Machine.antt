@@ -1,0 +1,60 @@
+-- Anything that answers the five calls. The demands are stated of any such machine, so that they can be seen to shut out wrong ones;
+-- ours is the node's definitions. 01 'Covered' and 'What calls owe'. Assumes nothing.
+use Prim.Native.Nat.{ℕ}
+use mathlib.Core.Bool.{Bool, true, false}
+use mathlib.Core.List.{List}
+use Rattle.memory.specs.Segment.{Memories}
+use Rattle.node.specs.Effect.{Lent, lent, Outcome}
+use Rattle.node.specs.Calls.{startOf, requestOf, replyOf, pollOf, eraseOf}
+use Rattle.node.specs.declared.Answer.{Answer}
+use Rattle.node.specs.declared.Node.{Node}
+use Rattle.node.specs.declared.Turn.{Turn}
+
+-- The five calls, each a function of what it is given and lent.
+pub record Machine : Type 0 where
+  pub start : ℕ → ℕ → ℕ → ℕ → ℕ → ℕ → ℕ → List ℕ → Turn
+  pub request : Node → ℕ → ℕ → ℕ → Bool → List ℕ → Lent → Outcome
+  pub reply : Node → ℕ → ℕ → ℕ → Bool → ℕ → ℕ → List ℕ → List ℕ → Outcome
+  pub poll : Node → ℕ → List ℕ → Outcome
+  pub erase : Node → ℕ → List ℕ → Outcome
+
+-- The node.
+abbrev pub logodwen : Machine
+logodwen = record { start = startOf; request = requestOf; reply = replyOf; poll = pollOf; erase = eraseOf }
+
+-- A call, with all that it is given and lent but the state and the flash.
+pub data Call : Type 0 where
+  Start : (kind ports subdetector program version tests clock : ℕ) → Call
+  Request : (clock link bc : ℕ) (errors : Bool) (packet : List ℕ) (m : Memories) (reply : List ℕ) → Call
+  Reply : (clock slave bc : ℕ) (errors : Bool) (status address : ℕ) (words reply : List ℕ) → Call
+  Poll : (clock : ℕ) (reply : List ℕ) → Call
+  Erase : (budget : ℕ) → Call
+
+-- What a call answers, with the next state.
+abbrev pub turnOf : Machine → Call → Node → List ℕ → Turn
+turnOf M (Call.Start kind ports subdetector program version tests clock) n flash =
+    M .start kind ports subdetector program version tests clock flash
+turnOf M (Call.Request clock link bc errors packet m reply) n flash =
+    M .request n clock link bc errors packet (lent flash m reply) .turn
+turnOf M (Call.Reply clock slave bc errors status address words reply) n flash =
+    M .reply n clock slave bc errors status address words reply .turn
+turnOf M (Call.Poll clock reply) n flash = M .poll n clock reply .turn
+turnOf M (Call.Erase budget) n flash = M .erase n budget flash .turn
+
+-- The flash after it: start reads it, reply and poll are not lent it.
+abbrev pub flashOf : Machine → Call → Node → List ℕ → List ℕ
+flashOf M (Call.Start kind ports subdetector program version tests clock) n flash = flash
+flashOf M (Call.Request clock link bc errors packet m reply) n flash =
+    M .request n clock link bc errors packet (lent flash m reply) .after .flash
+flashOf M (Call.Reply clock slave bc errors status address words reply) n flash = flash
+flashOf M (Call.Poll clock reply) n flash = flash
+flashOf M (Call.Erase budget) n flash = M .erase n budget flash .after .flash
+
+-- Whether an answer is a refusal.
+abbrev pub isRefused : Answer → Bool
+isRefused (Answer.Refused r) = true
+isRefused Answer.Started = false
+isRefused (Answer.Reply r) = false
+isRefused (Answer.Ask a) = false
+isRefused Answer.Waiting = false
+isRefused (Answer.Erased count) = false
