@@ -58,7 +58,7 @@ taken-all (s ∷ ss) (a ∷ said) r w t h l =
     ∙ ap (λ (x : ℕ). assembly (laid r w (f ++ rest)) (built x u)) n
 
 -- status word and FCS laid behind the fragments are laid with them
-sealed-all : (r ws : List ℕ) (status : ℕ) → length ws + 2 ≤ length r → sealed (laid r 0 ws) (length ws) status ≡ sent (laid r 0 (ws ++ trailer ws status)) (replied 3 (length ws + 2))
+pub sealed-all : (r ws : List ℕ) (status : ℕ) → length ws + 2 ≤ length r → sealed (laid r 0 ws) (length ws) status ≡ sent (laid r 0 (ws ++ trailer ws status)) (replied 3 (length ws + 2))
 unfolding sealed
 sealed-all r ws status h =
     let place : 0 + length ws ≤ length r = omega arith in

@@ -14,7 +14,7 @@ use Rattle.flash.specs.Change.{stored, headed, erased, eraseCount, erasingAfter
 use Rattle.flash.specs.Status.{progress}
 use Rattle.flash.specs.declared.Erasing.{Erasing}
 use Rattle.flash.specs.declared.Status.{Status}
-use Rattle.group.specs.Ending.{replied, zeroReply, trailer}
+use Rattle.group.specs.Ending.{Sent, replied, zeroReply, trailer}
 use Rattle.group.specs.declared.Reply.{Reply}
 use Rattle.group.specs.declared.ZeroLength.{ZeroLength}
 use Rattle.memory.specs.Segment.{Memories, segmentStored}
@@ -204,9 +204,23 @@ pub record Said : Type 0 where
 abbrev pub said : Turn → List ℕ → Said
 said t r = record { turn = t; reply = r }
 
--- What a command comes to that is lent the reply buffer alone, or nothing at all: that of the whole call, whatever else is lent.
+-- A node that sends what it has closed.
+abbrev pub told : Node → Sent → Said
+told n s = said (turn n (Answer.Reply (s .reply))) (s .buffer)
+
+-- What a command comes to, as its code says it: that of the whole call, whatever is lent beside what it touches. A command that
+-- touches nothing ..
+abbrev pub Sets : Node → Did → Turn → Type 0
+Sets n d r = (l : Lent) → outcome r l ≡ ownOutcome n l d
+
+-- .. the reply buffer alone ..
 abbrev pub Replies : Node → Did → List ℕ → Turn → List ℕ → Type 0
 Replies n d before r after = (flash : List ℕ) (m : Memories) → outcome r (lent flash m after) ≡ ownOutcome n (lent flash m before) d
 
-abbrev pub Sets : Node → Did → Turn → Type 0
-Sets n d r = (flash : List ℕ) (m : Memories) (reply : List ℕ) → outcome r (lent flash m reply) ≡ ownOutcome n (lent flash m reply) d
+-- .. the flash alone ..
+abbrev pub Changes : Node → Did → List ℕ → Turn → List ℕ → Type 0
+Changes n d before r after = (m : Memories) (reply : List ℕ) → outcome r (lent after m reply) ≡ ownOutcome n (lent before m reply) d
+
+-- .. the memories alone.
+abbrev pub Stores : Node → Did → Memories → Turn → Memories → Type 0
+Stores n d before r after = (flash reply : List ℕ) → outcome r (lent flash after reply) ≡ ownOutcome n (lent flash before reply) d

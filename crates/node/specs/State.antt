@@ -40,7 +40,7 @@ counts amswire flash = record { amswire = amswire; flash = flash }
 abbrev pub withFlash : Node → List ℕ → Erasing → Node
 withFlash n directory erasing = node (n .masks) directory (n .given) (n .mode) (n .counts) erasing (n .pending)
 
--- The node with one FLASH error more.
-abbrev pub withFault : Node → Node
-withFault n =
-    node (n .masks) (n .directory) (n .given) (n .mode) (counts (n .counts .amswire) (counted true (n .counts .flash))) (n .erasing) (n .pending)
+-- The node with one FLASH error more, where there is one.
+abbrev pub faulted : Bool → Node → Node
+faulted fault n =
+    node (n .masks) (n .directory) (n .given) (n .mode) (counts (n .counts .amswire) (counted fault (n .counts .flash))) (n .erasing) (n .pending)

@@ -1,6 +1,7 @@
 // The node: its state, the calls that are refused, and the five calls. Each call takes the whole state by value and hands the next
 // one back with the answer; flash, memories, packet and reply buffer are lent. What cannot be is not written down in the state: no
 // flag stands beside a number that it would make meaningless. `kind` is a number all the same, so that all zeros are no state.
+mod answering;
 pub mod refusals;
 pub mod routing;
 pub mod valid;
