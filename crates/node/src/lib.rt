@@ -4,6 +4,7 @@
 mod answering;
 pub mod refusals;
 pub mod routing;
+mod slaves;
 pub mod valid;
 
 use flash::Erasing;
