@@ -1,17 +1,16 @@
+-- `node::slaves::count_error` meets its contract: all but one count stays. Assumes nothing.
+use Prim.Native.Nat.{ℕ}
+use mathlib.Core.Path.{ap}
+use Rattle.node.specs.State.{node, counts}
 use borrow.Author.Needs.{needs}
 use Rattle.node.proofs.slaves.count_error.Statement.{statement}
 use Rattle.node.proofs.slaves.count_error.Tie as tie
-use Rattle.node.proofs.slaves.count_error.Reads as reads
-use Rattle.node.proofs.slaves.count_error.Lts as lts
-use Rattle.node.proofs.answering.count.Reads as count-reads
 
--- src/slaves.rt:61:22
 count-requires : tie.Need-count-requires
 count-requires c κs = search needs
 
--- src/slaves.rt:46:1
 returns : tie.Need-returns
-returns c = ?
+returns c = ap (λ (x : ℕ). node (c .before .before .before .before .before .args .node .masks) (c .before .before .before .before .before .args .node .directory) (c .before .before .before .before .before .args .node .given) (c .before .before .before .before .before .args .node .mode) (counts x (c .before .before .before .before .before .args .node .counts .flash)) (c .before .before .before .before .before .args .node .erasing) (c .before .before .before .before .before .args .node .pending)) (c .count .ensures)
 
 pub count-error-spec : {M : Type 1} → statement M
 count-error-spec = tie.close (tie.spec count-requires returns)

@@ -1,48 +1,53 @@
+-- `node::slaves::go_on` meets its contract, by whether a slave is left. Assumes nothing.
+use mathlib.Core.Path.{ap, _∙_}
+use Rattle.base.proofs.Pick.{via}
+use Rattle.group.specs.Fragment.{assembly}
+use Rattle.group.specs.Ending.{endOf}
+use Rattle.group.specs.declared.Next.{Next}
+use Rattle.node.specs.Effect.{Outcome, applied}
+use Rattle.node.specs.Slaves.{goesOn}
+use Rattle.node.specs.Calls.{lentReply}
+use Rattle.node.proofs.Hearing.{turned, sends-told}
 use borrow.Author.Needs.{needs}
 use Rattle.node.proofs.slaves.go_on.Statement.{statement}
 use Rattle.node.proofs.slaves.go_on.Tie as tie
-use Rattle.node.proofs.slaves.go_on.Reads as reads
-use Rattle.node.proofs.slaves.go_on.Lts as lts
-use Rattle.group.proofs.ending.finish.Reads as finish-reads
-use Rattle.node.proofs.answering.own_status.Reads as own-status-reads
-use Rattle.node.proofs.slaves.send.Reads as send-reads
-use Rattle.node.proofs.slaves.with_pending.Reads as with-pending-reads
 
--- src/slaves.rt:92:9
+-- what is owed, by the slave that is next
+abbrev owed : tie.Start → Next → Outcome
+owed s next =
+    applied (s .args .node) (lentReply (s .args .reply .now))
+    (goesOn (s .args .node) (s .args .ask) (s .args .gathering) (s .args .clock) (assembly (s .args .reply .now) (s .args .built)) next)
+
 own-status-requires : tie.Need-own-status-requires
 own-status-requires c κs = search needs
 
--- src/slaves.rt:94:21
 enum-known-next : tie.Need-enum-known-next
 enum-known-next c = search needs
 
--- src/slaves.rt:106:23
 with-pending-requires : tie.Need-with-pending-requires
 with-pending-requires c κs = search needs
 
--- src/slaves.rt:113:58
 enum-told : tie.Need-enum-told
 enum-told c = search needs
 
--- src/slaves.rt:113:36
 finish-requires : tie.Need-finish-requires
 finish-requires c κs = search needs
 
--- src/slaves.rt:113:25
 send-requires : tie.Need-send-requires
 send-requires c κs = search needs
 
--- src/slaves.rt:80:1
 returns : tie.Need-returns
-returns c = ?
+returns c = let s = c .before .before .before .before .before .before .before in via (owed s) (c .before .before .next .given .1) (turned (lentReply (s .args .reply .now)) (c .with-pending .ensures))
 
--- src/slaves.rt:80:1
 same-length : tie.Need-same-length
 same-length c = search needs
 
--- src/slaves.rt:80:1
 returns-2 : tie.Need-returns-2
-returns-2 c = ?
+returns-2 c =
+    let s = c .before .before .before .before .before .before .before .before .before .before in
+    via (owed s) (c .before .before .before .before .before .enum-told .given .1)
+    (sends-told (s .args .node) (s .args .reply .now) _ (c .send .ensures)
+    (c .before .before .before .finish .ensures ∙ ap (endOf (assembly (s .args .reply .now) (s .args .built))) (c .before .before .before .before .before .before .before .own-status .ensures)))
 
 pub go-on-spec : {M : Type 1} → statement M
 go-on-spec =

@@ -1,17 +1,17 @@
+-- `node::slaves::send` meets its contract: the node has nothing pending. Assumes nothing.
+use mathlib.Core.Path.{ap}
+use Rattle.node.specs.State.{turn}
+use Rattle.node.specs.declared.Answer.{Answer}
+use Rattle.node.specs.declared.Node.{Node}
 use borrow.Author.Needs.{needs}
 use Rattle.node.proofs.slaves.send.Statement.{statement}
 use Rattle.node.proofs.slaves.send.Tie as tie
-use Rattle.node.proofs.slaves.send.Reads as reads
-use Rattle.node.proofs.slaves.send.Lts as lts
-use Rattle.node.proofs.slaves.with_pending.Reads as with-pending-reads
 
--- src/slaves.rt:74:15
 with-pending-requires : tie.Need-with-pending-requires
 with-pending-requires c κs = search needs
 
--- src/slaves.rt:70:1
 returns : tie.Need-returns
-returns c = ?
+returns c = ap (λ (n : Node). turn n (Answer.Reply (c .before .args .sent))) (c .with-pending .ensures)
 
 pub send-spec : {M : Type 1} → statement M
 send-spec = tie.close (tie.spec with-pending-requires returns)
