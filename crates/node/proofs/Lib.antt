@@ -1,3 +1,4 @@
 pub mod States
 pub mod Outcomes
 pub mod Hearing
+pub mod Access
