@@ -43,12 +43,9 @@ parameters packet = part packet 1 (length packet - 1)
 parameters-drop : (packet : List ℕ) → parameters packet ≡ drop 1 packet
 parameters-drop packet = take-all (length packet - 1) (drop 1 packet) (omega (arith, length-drop 1 packet))
 
--- what holds of a choice's value, by its test
-held : (P : Did → Type 0) {t : Bool} {a : Did} (b : Did) → t ≡ true → P a → P (pick t a b)
-held P {a = a} b e p = subst (λ (t : Bool). P (pick t a b)) (sym e) p
-
-failed : (P : Did → Type 0) {t : Bool} {b : Did} (a : Did) → t ≡ false → P b → P (pick t a b)
-failed P {b = b} a e p = subst (λ (t : Bool). P (pick t a b)) (sym e) p
+-- what holds of a choice's value holds of the choice
+chosen : (P : Did → Type 0) {t u : Bool} (a b : Did) → t ≡ u → P (pick u a b) → P (pick t a b)
+chosen P a b e p = subst (λ (t : Bool). P (pick t a b)) (sym e) p
 
 -- a command that stores beside its reply
 stored-told : (n : Node) (d : Did) (store : Store) (flash before after : List ℕ) (m m′ : Memories) (r : Turn) → Replies n d before r after
@@ -94,7 +91,7 @@ module _ (n : Node) (before after : List ℕ) (r : Turn) (h : 12288 ≤ length b
       let front-lent = part before 0 dataRoom in
       let can : readable memory (length ws) first second (length front-lent) ≡ readable memory (length ws) first second dataRoom = ap (readable memory (length ws) first second) room in
       let said-by : (x : Read) → read answer front ≡ x → said r after ≡ ended n (x .answer) (givenBack before (x .reply)) = λ x f. q ∙ ap (λ (y : Read). ended n (y .answer) (givenBack before (y .reply))) f in
-      held (λ (d : Did). Replies n d before r after) (says ZeroLength.Abort) (eq-eqb (length packet) 3 three)
+      chosen (λ (d : Did). Replies n d before r after) _ (says ZeroLength.Abort) (eq-eqb (length packet) 3 three)
       (pick-case (λ (d : Did). Replies n d before r after) (readable memory (length ws) first second dataRoom)
       (λ t. let x = readable-tells memory (length ws) first second dataRoom t in
       closed-told (readAnswer memory ws first second) (readWords memory first) (length-read-answer memory ws first second (x .permitted)) (x .held)
@@ -127,7 +124,7 @@ pub miscounted-told : (n : Node) (memory : Memory) (ws packet reply : List ℕ) 
     → Replies n (memoryReadOf (statusIn n) memory ws packet) reply r reply
 unfolding memoryReadOf
 miscounted-told n memory ws packet reply {r} other e =
-    failed (λ (d : Did). Replies n d reply r reply) _ (ne-eqb (length packet) 3 other) (zero-replies n ZeroLength.Abort reply e)
+    chosen (λ (d : Did). Replies n d reply r reply) _ (says ZeroLength.Abort) (ne-eqb (length packet) 3 other) (zero-replies n ZeroLength.Abort reply e)
 
 -- Memory Write, to a memory that has its place among the three
 pub write-told : (n : Node) (memory : Memory) (ws packet : List ℕ) (among : List ℕ → Memories) {done : Bool} {ws′ : List ℕ} {r : Turn}

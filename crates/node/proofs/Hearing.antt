@@ -55,10 +55,14 @@ module _ (n : Node) (error : Bool) (clock : ℕ) (h : Heard) (words reply : List
   goes-on-counted a g m (Next.Slave s) = refl
   goes-on-counted a g m Next.Nobody = refl
 
-  pub hears-counted : (p : Pending) → applied (errored error n) (lentReply reply) (hears p (errored error n) clock h words reply) ≡ applied n (lentReply reply) (withAmswire error (hears p n clock h words reply))
+  hears-counted : (p : Pending) → applied (errored error n) (lentReply reply) (hears p (errored error n) clock h words reply) ≡ applied n (lentReply reply) (withAmswire error (hears p n clock h words reply))
   hears-counted Pending.Nothing = refl
   hears-counted (Pending.Slave a) = refl
   hears-counted (Pending.Group a g) =
       goes-on-counted a g
       (taken (assembly reply (g .built)) (length (above (g .set) (a .slave))) (a .slave) (answer h words))
       (nextOf (above (g .set) (a .slave)))
+
+  pub hears-told : {m : Node} {x : Outcome} → m ≡ errored error n → x ≡ applied m (lentReply reply) (hears (m .pending) m clock h words reply)
+      → x ≡ applied n (lentReply reply) (withAmswire error (hears (n .pending) n clock h words reply))
+  hears-told e q = q ∙ ap (λ (m : Node). applied m (lentReply reply) (hears (m .pending) m clock h words reply)) e ∙ hears-counted (n .pending)

@@ -1,16 +1,26 @@
 -- `node::slaves::take_reply` meets its contract: the count of errors decides nothing of what is done. Assumes nothing.
-use mathlib.Core.Path.{ap, _∙_}
-use mathlib.Core.Bool.{Bool, _&&_, not}
+use mathlib.Core.Path.{sym, ap, _∙_}
+use mathlib.Core.Bool.{Bool}
+use Rattle.base.proofs.Pick.{via}
 use Rattle.group.specs.Time.{isLate}
 use Rattle.group.specs.declared.Heard.{Heard}
-use Rattle.node.specs.Effect.{applied}
-use Rattle.node.specs.Slaves.{heard, hears, withAmswire, replyEffect}
+use Rattle.node.specs.Effect.{Outcome, applied}
+use Rattle.node.specs.Slaves.{heard, hears, withAmswire, errorIn, replyEffect}
 use Rattle.node.specs.Calls.{lentReply}
-use Rattle.node.specs.declared.Node.{Node}
-use Rattle.node.proofs.Hearing.{hears-counted}
+use Rattle.node.proofs.Hearing.{hears-told}
 use borrow.Author.Needs.{needs}
 use Rattle.node.proofs.slaves.take_reply.Statement.{statement}
 use Rattle.node.proofs.slaves.take_reply.Tie as tie
+
+-- what is heard, and what is owed, by whether the reply is late
+abbrev told : tie.Start → Bool → Heard
+told s late = heard late (s .args .errors) (s .args .status) (s .args .address) (s .args .bc)
+
+abbrev owed : tie.Start → Bool → Outcome
+owed s late =
+    applied (s .args .node) (lentReply (s .args .reply .now))
+    (withAmswire (errorIn (told s late))
+    (hears (s .args .node .pending) (s .args .node) (s .args .clock) (told s late) (s .args .words .now) (s .args .reply .now)))
 
 asked-at-requires : tie.Need-asked-at-requires
 asked-at-requires c κs = search needs
@@ -30,15 +40,10 @@ same-length c = search needs
 returns : tie.Need-returns
 unfolding replyEffect
 returns c =
-    let a = c .before .before .before .before .before .before .before .before .before .args in
-    let n = a .node in
-    let l = lentReply (a .reply .now) in
-    let h : Bool → Heard = λ late. heard late (a .errors) (a .status) (a .address) (a .bc) in
+    let s = c .before .before .before .before .before .before .before .before .before in
     let late = c .before .before .before .before .before .is-late .result in
-    c .before .before .hear .ensures
-    ∙ ap (λ (m : Node). applied m l (hears (m .pending) m (a .clock) (h late) (a .words .now) (a .reply .now))) (c .before .before .before .before .count-error .ensures)
-    ∙ hears-counted n (not late && a .errors) (a .clock) (h late) (a .words .now) (a .reply .now) (n .pending)
-    ∙ ap (λ (x : Bool). applied n l (withAmswire (not x && a .errors) (hears (n .pending) n (a .clock) (h x) (a .words .now) (a .reply .now)))) (c .before .before .before .before .before .is-late .ensures ∙ ap (isLate (a .clock)) (c .before .before .before .before .before .before .asked-at .ensures))
+    via (owed s) (sym (c .before .before .before .before .before .is-late .ensures ∙ ap (isLate (s .args .clock)) (c .before .before .before .before .before .before .asked-at .ensures)))
+    (hears-told (s .args .node) (errorIn (told s late)) (s .args .clock) (told s late) (s .args .words .now) (s .args .reply .now) (c .before .before .before .before .count-error .ensures) (c .before .before .hear .ensures))
 
 pub take-reply-spec : {M : Type 1} → statement M
 take-reply-spec =
