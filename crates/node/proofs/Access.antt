@@ -1,11 +1,11 @@
 -- Memory Read, Memory Write and Perform IO, as the outcome of the whole call. Reading and writing are one law each, over the memory.
 -- Assumes nothing.
-use Prim.Native.Nat.{ℕ, _-_, _≤_}
+use Prim.Native.Nat.{ℕ, _+_, _-_, _≤_}
 use mathlib.Core.Path.{_≡_, refl, sym, ap, subst, _∙_}
 use mathlib.Core.Bool.{Bool, true, false}
 use mathlib.Core.List.{List, _++_}
 use native.Mathlib.Omega.{arith}
-use lib.ListN.{length, getD, drop, length-drop, take-append-drop}
+use lib.ListN.{length, getD, drop, length-append, length-drop, take-append-drop}
 use lib.Seq.{take-all}
 use borrow.Author.Tests.{eq-eqb, ne-eqb}
 use Rattle.base.specs.Pick.{pick}
@@ -35,6 +35,13 @@ use Rattle.node.proofs.Outcomes.{says-told, answers-told}
 -- a reply buffer whose front was lent, and given back as these words
 abbrev pub givenBack : List ℕ → List ℕ → List ℕ
 givenBack before front = front ++ drop dataRoom before
+
+pub length-given-back : (before front : List ℕ) → length front ≡ length (part before 0 dataRoom) → length (givenBack before front) ≡ length before
+length-given-back before front e =
+    length-append front (drop dataRoom before)
+    ∙ ap (λ (n : ℕ). n + length (drop dataRoom before)) e
+    ∙ sym (length-append (part before 0 dataRoom) (drop dataRoom before))
+    ∙ ap (λ (ws : List ℕ). length ws) (take-append-drop dataRoom before)
 
 -- a packet's words after the first
 abbrev pub parameters : List ℕ → List ℕ

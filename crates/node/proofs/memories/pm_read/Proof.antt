@@ -1,9 +1,8 @@
 -- `node::memories::pm_read` meets its contract: by the law over the memory. Assumes nothing.
 use mathlib.Core.Path.{_∙_}
 use native.Mathlib.Omega.{arith}
-use borrow.Rule.Slice.PartMut.{same-len-mid}
 use Rattle.image.specs.declared.Memory.{Memory}
-use Rattle.node.proofs.Access.{miscounted-told, read-told}
+use Rattle.node.proofs.Access.{length-given-back, miscounted-told, read-told}
 use borrow.Author.Needs.{needs}
 use Rattle.node.proofs.memories.pm_read.Statement.{statement}
 use Rattle.node.proofs.memories.pm_read.Tie as tie
@@ -36,7 +35,7 @@ end-read-requires : tie.Need-end-read-requires
 end-read-requires c κs = search needs
 
 same-length : tie.Need-same-length
-same-length c = c .before .before .end-read .kept .1 .1 .0 ∙ same-len-mid 0 12286 (c .before .before .before .before .before .before .before .before .before .before .before .before .before .before .args .reply .now) (c .before .before .before .before .before .before .read-pm .last .1 .1 .1 .0) (c .before .before .before .before .before .before .read-pm .kept .1 .1 .1 .0)
+same-length c = c .before .before .end-read .kept .1 .1 .0 ∙ length-given-back (c .before .before .before .before .before .before .before .before .before .before .before .before .before .before .args .reply .now) (c .before .before .before .before .before .before .read-pm .last .1 .1 .1 .0) (c .before .before .before .before .before .before .read-pm .kept .1 .1 .1 .0)
 
 returns-2 : tie.Need-returns-2
 returns-2 c = let a = c .before .before .before .before .before .before .before .before .before .before .before .before .before .before .args in read-told (a .node) (a .reply .now) _ _ (omega arith) Memory.Pm (a .pm .now) (a .packet .now) (c .before .before .before .before .before .before .before .before .before .before .if1 .left) (c .before .before .before .before .before .before .read-pm .ensures) (c .before .before .end-read .ensures)
