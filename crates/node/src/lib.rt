@@ -2,6 +2,8 @@
 // one back with the answer; flash, memories, packet and reply buffer are lent. What cannot be is not written down in the state: no
 // flag stands beside a number that it would make meaningless. `kind` is a number all the same, so that all zeros are no state.
 mod answering;
+mod changing;
+mod files;
 pub mod refusals;
 pub mod routing;
 pub mod valid;
