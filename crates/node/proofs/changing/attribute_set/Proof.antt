@@ -1,3 +1,9 @@
+use mathlib.Core.Path.{refl, sym, ap, ap₂, _∙_}
+use Rattle.group.specs.declared.ZeroLength.{ZeroLength}
+use Rattle.node.specs.Effect.{lent, ownOutcome, Change}
+use Rattle.node.proofs.Commands.{says-by, changes-by, served, unserved}
+use lib.ListN.{length, getD, drop}
+use Rattle.node.specs.Files.{namedBy, attributeAt, attributeSetOf}
 use borrow.Author.Needs.{needs}
 use Rattle.node.proofs.changing.attribute_set.Statement.{statement}
 use Rattle.node.proofs.changing.attribute_set.Tie as tie
@@ -19,7 +25,8 @@ says-requires c κs = search needs
 
 -- src/changing.rt:213:9
 returns : tie.Need-returns
-returns c = ?
+unfolding attributeSetOf
+returns c = let a = c .before .before .before .before .before .args in λ m reply. says-by (a .node) ZeroLength.Abort (unserved (a .node) (length (a .packet .now)) 3 _ (c .before .before .is-served .ensures) (c .before .if1 .taken)) (c .says .ensures) (lent (a .flash .now) m reply)
 
 -- src/changing.rt:218:9
 word-at-requires : tie.Need-word-at-requires
@@ -43,7 +50,8 @@ same-length c = search needs
 
 -- src/changing.rt:208:1
 returns-2 : tie.Need-returns-2
-returns-2 c = ?
+unfolding attributeSetOf
+returns-2 c = let a = c .before .before .before .before .before .before .before .before .before .before .before .args in λ m reply. c .before .before .attribute-at .ensures m reply ∙ ap (ownOutcome (a .node) (lent (a .flash .now) m reply)) (ap₂ (attributeAt (a .node) (a .flash .now)) (c .before .before .before .before .before .word-at .ensures) (c .before .before .before .named-by .ensures ∙ ap (namedBy (a .node)) (c .before .before .before .before .word-at2 .ensures)) ∙ served (a .node) (length (a .packet .now)) 3 _ (c .before .before .before .before .before .before .before .before .is-served .ensures) (c .before .before .before .before .before .before .before .if1 .left))
 
 pub attribute-set-spec : {M : Type 1} → statement M
 attribute-set-spec =

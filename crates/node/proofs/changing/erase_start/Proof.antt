@@ -1,3 +1,9 @@
+use mathlib.Core.Path.{refl, sym, ap, _∙_}
+use Rattle.group.specs.declared.ZeroLength.{ZeroLength}
+use Rattle.node.specs.Effect.{lent, ownOutcome, Change}
+use Rattle.node.proofs.Commands.{says-by, changes-by, served, unserved}
+use lib.ListN.{length, getD, drop}
+use Rattle.node.specs.Files.{toErase, eraseAt, eraseStartOf}
 use borrow.Author.Needs.{needs}
 use Rattle.node.proofs.changing.erase_start.Statement.{statement}
 use Rattle.node.proofs.changing.erase_start.Tie as tie
@@ -19,7 +25,8 @@ says-requires c κs = search needs
 
 -- src/changing.rt:155:9
 returns : tie.Need-returns
-returns c = ?
+unfolding eraseStartOf
+returns c = let a = c .before .before .before .before .before .args in λ m reply. says-by (a .node) ZeroLength.Abort (unserved (a .node) (length (a .packet .now)) 2 _ (c .before .before .is-served .ensures) (c .before .if1 .taken)) (c .says .ensures) (lent (a .flash .now) m reply)
 
 -- src/changing.rt:157:42
 word-at-requires : tie.Need-word-at-requires
@@ -35,7 +42,8 @@ erase-at-requires c κs = search needs
 
 -- src/changing.rt:150:1
 returns-2 : tie.Need-returns-2
-returns-2 c = ?
+unfolding eraseStartOf
+returns-2 c = let a = c .before .before .before .before .before .before .before .args in λ m reply. c .erase-at .ensures m reply ∙ ap (ownOutcome (a .node) (lent (a .flash .now) m reply)) (ap eraseAt (c .before .to-erase .ensures ∙ ap (toErase (a .node)) (c .before .before .word-at .ensures)) ∙ served (a .node) (length (a .packet .now)) 2 _ (c .before .before .before .before .is-served .ensures) (c .before .before .before .if1 .left))
 
 pub erase-start-spec : {M : Type 1} → statement M
 erase-start-spec =

@@ -1,3 +1,7 @@
+use mathlib.Core.Path.{refl, sym, ap, _∙_}
+use Rattle.base.proofs.Pick.{yes, no, via}
+use borrow.Author.Tests.{eq-eqb, ne-eqb, le-leb, lt-leb, not-true, not-false}
+use Rattle.node.specs.Files.{namedBy, isMissing}
 use borrow.Author.Needs.{needs}
 use Rattle.node.proofs.changing.placed_for.Statement.{statement}
 use Rattle.node.proofs.changing.placed_for.Tie as tie
@@ -15,7 +19,7 @@ is-exact-requires c κs = search needs
 
 -- src/changing.rt:87:9
 returns : tie.Need-returns
-returns c = ?
+returns c = no _ (sym (c .before .is-exact .ensures) ∙ not-true _ (c .if1 .taken)) refl
 
 -- src/changing.rt:89:35
 word-at-requires : tie.Need-word-at-requires
@@ -31,7 +35,7 @@ is-missing-requires c κs = search needs
 
 -- src/changing.rt:90:9
 returns-2 : tie.Need-returns-2
-returns-2 c = ?
+returns-2 c = yes _ (sym (c .before .before .before .before .before .is-exact .ensures) ∙ not-false _ (c .before .before .before .before .if1 .left)) (no _ (sym (c .before .is-missing .ensures ∙ ap isMissing (c .before .before .named-by .ensures ∙ ap (namedBy (c .before .before .before .before .before .before .before .before .before .args .node)) (c .before .before .before .word-at .ensures))) ∙ not-true _ (c .if2 .taken)) refl)
 
 -- src/changing.rt:92:5
 place-requires : tie.Need-place-requires
@@ -39,7 +43,7 @@ place-requires c κs = search needs
 
 -- src/changing.rt:81:1
 returns-3 : tie.Need-returns-3
-returns-3 c = ?
+returns-3 c = yes _ (sym (c .before .before .before .before .before .before .is-exact .ensures) ∙ not-false _ (c .before .before .before .before .before .if1 .left)) (yes _ (sym (c .before .before .is-missing .ensures ∙ ap isMissing (c .before .before .before .named-by .ensures ∙ ap (namedBy (c .before .before .before .before .before .before .before .before .before .before .args .node)) (c .before .before .before .before .word-at .ensures))) ∙ not-false _ (c .before .if2 .left)) (c .place .ensures))
 
 pub placed-for-spec : {M : Type 1} → statement M
 placed-for-spec =

@@ -1,3 +1,7 @@
+use mathlib.Core.Path.{refl, sym, ap, _∙_}
+use Rattle.base.proofs.Pick.{yes, no, via}
+use borrow.Author.Tests.{eq-eqb, ne-eqb, le-leb, lt-leb, not-true, not-false}
+use Rattle.node.specs.Files.{foundBy}
 use borrow.Author.Needs.{needs}
 use Rattle.node.proofs.changing.to_erase.Statement.{statement}
 use Rattle.node.proofs.changing.to_erase.Tie as tie
@@ -12,7 +16,7 @@ sector-at-requires c κs = search needs
 
 -- src/changing.rt:127:9
 returns : tie.Need-returns
-returns c = ?
+returns c = yes _ (eq-eqb _ _ (c .before .if1 .taken)) (c .sector-at .ensures)
 
 -- src/changing.rt:129:9
 named-by-requires : tie.Need-named-by-requires
@@ -28,11 +32,11 @@ enum-known-target c = search needs
 
 -- src/changing.rt:123:1
 returns-2 : tie.Need-returns-2
-returns-2 c = ?
+returns-2 c = no _ (ne-eqb _ _ (c .before .before .before .if1 .left)) (via foundBy (sym (c .before .before .named-by .ensures) ∙ c .enum-told .given .1) refl)
 
 -- src/changing.rt:123:1
 returns-3 : tie.Need-returns-3
-returns-3 c = ?
+returns-3 c = no _ (ne-eqb _ _ (c .before .before .before .before .if1 .left)) (via foundBy (sym (c .before .before .before .named-by .ensures) ∙ c .before .target .given .1) refl)
 
 pub to-erase-spec : {M : Type 1} → statement M
 to-erase-spec =

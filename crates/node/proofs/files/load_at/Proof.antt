@@ -1,3 +1,10 @@
+use mathlib.Core.Path.{refl, sym, ap, _∙_}
+use Rattle.group.specs.declared.ZeroLength.{ZeroLength}
+use Rattle.node.specs.Effect.{lent, ownOutcome, Change}
+use Rattle.node.proofs.Commands.{says-by, changes-by, served, unserved}
+use Rattle.base.proofs.Pick.{yes, no, via}
+use Rattle.memory.specs.Segment.{memories}
+use Rattle.node.specs.Files.{loadAt}
 use borrow.Author.Needs.{needs}
 use Rattle.node.proofs.files.load_at.Statement.{statement}
 use Rattle.node.proofs.files.load_at.Tie as tie
@@ -24,7 +31,7 @@ load-sector-requires c κs = search needs
 
 -- src/files.rt:182:1
 returns : tie.Need-returns
-returns c = ?
+returns c = let a = c .before .before .before .before .before .before .before .args in let k = memories (a .pm .now) (a .dm .now) (a .io .now) in λ f reply. says-by (a .node) ZeroLength.Abort (via (loadAt (a .node) (a .flash .now) k) (c .before .enum-told .given .1) refl) (c .says .ensures) (lent f k reply)
 
 -- src/files.rt:182:1
 same-length : tie.Need-same-length
@@ -40,7 +47,7 @@ same-length-3 c = search needs
 
 -- src/files.rt:182:1
 returns-2 : tie.Need-returns-2
-returns-2 c = ?
+returns-2 c = let a = c .before .before .before .before .before .before .before .before .before .before .before .before .before .before .before .before .before .args in let k = memories (a .pm .now) (a .dm .now) (a .io .now) in λ f reply. c .before .before .before .before .before .before .load-sector .ensures f reply ∙ ap (ownOutcome (a .node) (lent f k reply)) (via (loadAt (a .node) (a .flash .now) k) (c .before .before .before .before .before .before .before .before .before .before .before .target .given .1) refl)
 
 pub load-at-spec : {M : Type 1} → statement M
 load-at-spec =

@@ -1,3 +1,5 @@
+use mathlib.Core.Path.{ap, _∙_}
+use Rattle.flash.specs.Search.{targetOf}
 use borrow.Author.Needs.{needs}
 use Rattle.node.proofs.files.named_by.Statement.{statement}
 use Rattle.node.proofs.files.named_by.Tie as tie
@@ -16,7 +18,7 @@ target-requires c κs = search needs
 
 -- src/files.rt:42:1
 returns : tie.Need-returns
-returns c = ?
+returns c = c .target .ensures ∙ ap (targetOf (c .before .before .before .args .node .directory)) (c .before .name-of .ensures)
 
 pub named-by-spec : {M : Type 1} → statement M
 named-by-spec = tie.close (tie.spec name-of-requires target-requires returns)

@@ -1,3 +1,6 @@
+use mathlib.Core.Path.{refl}
+use Rattle.base.proofs.Pick.{via}
+use Rattle.node.specs.Files.{tested}
 use borrow.Author.Needs.{needs}
 use Rattle.node.proofs.files.tested_as.Statement.{statement}
 use Rattle.node.proofs.files.tested_as.Tie as tie
@@ -22,7 +25,7 @@ enum-told-3 c = search needs
 
 -- src/files.rt:122:1
 returns : tie.Need-returns
-returns c = ?
+returns c = via tested (c .before .status .given .1) refl
 
 -- src/files.rt:122:1
 returns-2 : tie.Need-returns-2
