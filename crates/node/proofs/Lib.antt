@@ -1,3 +1,4 @@
 pub mod States
 pub mod Outcomes
 pub mod Commands
+pub mod Loads

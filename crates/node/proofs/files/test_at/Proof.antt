@@ -1,3 +1,17 @@
+use mathlib.Core.Path.{refl, sym, ap, _∙_}
+use mathlib.Core.Bool.{Bool}
+use Rattle.group.specs.declared.ZeroLength.{ZeroLength}
+use Rattle.base.proofs.Pick.{yes, no, via}
+use Rattle.node.specs.Effect.{lent, ownOutcome, Change}
+use Rattle.node.proofs.Commands.{says-by, answers-by}
+use Rattle.flash.specs.declared.Status.{Status}
+use mathlib.Core.List.{List, [], _∷_}
+use Rattle.base.specs.Words.{laid}
+use Prim.Native.Nat.{ℕ, _-_}
+use native.Mathlib.Omega.{arith}
+use Rattle.flash.specs.Status.{statusWord}
+use Rattle.node.specs.State.{faulted}
+use Rattle.node.specs.Files.{seen, isFaulty, tested, testAt}
 use borrow.Author.Needs.{needs}
 use Rattle.node.proofs.files.test_at.Statement.{statement}
 use Rattle.node.proofs.files.test_at.Tie as tie
@@ -58,7 +72,7 @@ close-requires c κs = search needs
 
 -- src/files.rt:134:1
 returns : tie.Need-returns
-returns c = ?
+returns c = let a = c .before .before .before .before .before .args in λ f m. says-by (a .node) ZeroLength.Abort (via (testAt (a .node) (a .flash .now)) (c .before .enum-told .given .1) refl) (c .says .ensures) (lent f m (a .reply .now))
 
 -- src/files.rt:134:1
 same-length : tie.Need-same-length
@@ -66,7 +80,7 @@ same-length c = search needs
 
 -- src/files.rt:134:1
 returns-2 : tie.Need-returns-2
-returns-2 c = ?
+returns-2 c = let a = c .before .before .before .before .before .before .before .before .before .before .before .before .before .before .before .before .before .before .before .args in let n = a .node in let f = a .flash .now in let s = seen n f (c .before .before .before .before .before .before .before .before .before .before .before .before .before .before .before .target .given .0 .0) in answers-by n (isFaulty s) (statusWord (tested s) ∷ []) (a .reply .now) 1 refl (omega (arith, c .before .before .before .before .before .before .before .before .before .before .before .before .before .before .before .before .before .before .before .pre)) (via (testAt n f) (c .before .before .before .before .before .before .before .before .before .before .before .before .before .before .before .target .given .1) refl) (c .before .before .before .before .before .before .before .before .copy .ensures ∙ ap (λ (w : ℕ). laid (a .reply .now) 0 (w ∷ [])) (c .before .before .before .before .before .before .before .before .before .before .before .status-word .ensures ∙ ap (λ (t : Status). statusWord t) (c .before .before .before .before .before .before .before .before .before .before .before .before .tested-as .ensures ∙ ap tested (c .before .before .before .before .before .before .before .before .before .before .before .before .before .status-seen .ensures)))) (c .before .before .before .before .count-fault .ensures ∙ ap (λ (b : Bool). faulted b n) (c .before .before .before .before .before .is-faulty .ensures ∙ ap isFaulty (c .before .before .before .before .before .before .before .before .before .before .before .before .before .status-seen .ensures))) (c .before .before .close .ensures)
 
 pub test-at-spec : {M : Type 1} → statement M
 test-at-spec =
