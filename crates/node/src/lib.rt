@@ -4,6 +4,7 @@
 mod answering;
 mod changing;
 mod files;
+mod filing;
 pub mod refusals;
 pub mod routing;
 pub mod valid;
