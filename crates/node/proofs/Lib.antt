@@ -2,3 +2,4 @@ pub mod States
 pub mod Outcomes
 pub mod Commands
 pub mod Loads
+pub mod Masks

@@ -10,9 +10,9 @@ use Rattle.group.specs.Ending.{Sent, replied, zeroReply, sealed}
 use Rattle.group.specs.declared.ZeroLength.{ZeroLength}
 use Rattle.group.proofs.Groups.{sealed-all}
 use Rattle.memory.specs.Segment.{Memories}
-use Rattle.node.specs.State.{turn, faulted}
+use Rattle.node.specs.State.{turn, faulted, withSettings}
 use Rattle.node.specs.Settings.{statusIn}
-use Rattle.node.specs.Effect.{Did, did, says, faulty, sealedWords, answers, Change, Store, Setup, Lent, lent, outcome, ownOutcome, Said, said, told, Replies, Sets}
+use Rattle.node.specs.Effect.{Setup, masksAfter, modeAfter, Did, says, sets, answers, lent, outcome, ownOutcome, Said, said, told, Replies, Sets}
 use Rattle.node.specs.Files.{withFault}
 use Rattle.node.specs.declared.Answer.{Answer}
 use Rattle.node.specs.declared.Node.{Node}
@@ -37,3 +37,36 @@ pub answers-told : (n : Node) (ws before after : List ℕ) (r : Turn) → length
     → said r after ≡ told n (sealed (laid before 0 ws) (length ws) (statusIn n))
     → Replies n (answers (statusIn n) ws) before r after
 answers-told n ws before after r h e = words-told n false ws before after r h e
+
+-- so a command ends: its definition comes to a 0-length reply ..
+pub ends : (n : Node) (z : ZeroLength) {r : Turn} {d : Did} → r ≡ turn n (Answer.Reply (zeroReply z)) → says z ≡ d → Sets n d r
+ends n z e h l = ap (λ (t : Turn). outcome t l) e ∙ says-told n z l ∙ ap (ownOutcome n l) h
+
+-- .. or to words that it laid at the front of the reply buffer and closed there
+pub closes : (n : Node) (fault : Bool) (ws before : List ℕ) {mid after : List ℕ} {k : ℕ} {r : Turn} {d : Did}
+    → said r after ≡ told (faulted fault n) (sealed mid k (statusIn n))
+    → mid ≡ laid before 0 ws → k ≡ length ws → length ws + 2 ≤ length before
+    → withFault (answers (statusIn n) ws) fault ≡ d → Replies n d before r after
+closes n fault ws before {mid} {after} {k} {r} e laid-so many room h flash m =
+    words-told n fault ws before after r room
+    (e
+    ∙ ap (λ (x : List ℕ). told (faulted fault n) (sealed x k (statusIn n))) laid-so
+    ∙ ap (λ (x : ℕ). told (faulted fault n) (sealed (laid before 0 ws) x (statusIn n))) many)
+    flash m
+    ∙ ap (ownOutcome n (lent flash m before)) h
+
+-- .. or to a setting
+pub ends-set : (n : Node) (u : Setup) {n′ : Node} {r : Turn} {d : Did}
+    → r ≡ turn n′ (Answer.Reply (zeroReply ZeroLength.End)) → n′ ≡ withSettings n (masksAfter u (n .masks)) (modeAfter u (n .mode)) → sets u ≡ d → Sets n d r
+ends-set n u e f h l =
+    ap (λ (t : Turn). outcome t l) e
+    ∙ ap (λ (x : Node). outcome (turn x (Answer.Reply (zeroReply ZeroLength.End))) l) f
+    ∙ ap (λ (x : List ℕ). outcome (turn (withSettings n (masksAfter u (n .masks)) (modeAfter u (n .mode))) (Answer.Reply (zeroReply ZeroLength.End))) (lent (l .flash) (l .memories) x)) (laid-none (l .reply) 0)
+    ∙ ap (ownOutcome n l) h
+
+-- a command by another name
+pub replies-as : (n : Node) (before : List ℕ) {d d′ : Did} {after : List ℕ} {r : Turn} → Replies n d before r after → d ≡ d′ → Replies n d′ before r after
+replies-as n before e h flash m = e flash m ∙ ap (ownOutcome n (lent flash m before)) h
+
+pub sets-as : (n : Node) {d d′ : Did} {r : Turn} (reply : List ℕ) → Sets n d r → d ≡ d′ → Replies n d′ reply r reply
+sets-as n reply e h flash m = e (lent flash m reply) ∙ ap (ownOutcome n (lent flash m reply)) h

@@ -36,6 +36,10 @@ counted false count = count
 abbrev pub counts : ℕ → ℕ → Counts
 counts amswire flash = record { amswire = amswire; flash = flash }
 
+-- The node with other masks and another mode.
+abbrev pub withSettings : Node → List ℕ → ℕ → Node
+withSettings n masks mode = node masks (n .directory) (n .given) mode (n .counts) (n .erasing) (n .pending)
+
 -- The node with another directory and another erasure.
 abbrev pub withFlash : Node → List ℕ → Erasing → Node
 withFlash n directory erasing = node (n .masks) directory (n .given) (n .mode) (n .counts) erasing (n .pending)

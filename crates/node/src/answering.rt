@@ -38,24 +38,14 @@ pub fn count(error: bool, before: u16) -> u16
 pub fn count_fault(node: Node, fault: bool) -> Node
     ensures { λ r. ⌜ r ≡ faulted fault node ⌝ }
 {
+    let mut next = node;
     let counts = node.counts;
-    let masks = node.masks;
-    let directory = node.directory;
-    let given = node.given;
-    let erasing = node.erasing;
-    let pending = node.pending;
-    Node {
-        masks,
-        directory,
-        given,
-        mode: node.mode,
-        counts: Counts {
-            amswire: counts.amswire,
-            flash: count(fault, counts.flash),
-        },
-        erasing,
-        pending,
-    }
+    let raised = Counts {
+        amswire: counts.amswire,
+        flash: count(fault, counts.flash),
+    };
+    next.counts = raised;
+    next
 }
 
 // 1 where there is any.

@@ -7,6 +7,7 @@ mod files;
 mod filing;
 pub mod refusals;
 pub mod routing;
+mod settings;
 pub mod valid;
 
 use flash::Erasing;

@@ -1,15 +1,16 @@
+-- `node::answering::any` meets its contract: 0 or 1. Assumes nothing.
+use native.Mathlib.Omega.{arith}
+use mathlib.Core.Path.{refl}
+use borrow.Author.Tests.{eq-eqb, ne-eqb}
+use Rattle.base.proofs.Pick.{yes, no}
 use Rattle.node.proofs.answering.any.Statement.{statement}
 use Rattle.node.proofs.answering.any.Tie as tie
-use Rattle.node.proofs.answering.any.Reads as reads
-use Rattle.node.proofs.answering.any.Lts as lts
 
--- src/answering.rt:57:1
 returns : tie.Need-returns
-returns c = ?
+returns c = (yes _ (eq-eqb _ _ (c .if1 .taken)) refl, omega arith)
 
--- src/answering.rt:57:1
 returns-2 : tie.Need-returns-2
-returns-2 c = ?
+returns-2 c = (no _ (ne-eqb _ _ (c .if1 .left)) refl, omega arith)
 
 pub any-spec : {M : Type 1} → statement M
 any-spec = tie.close (tie.spec returns returns-2)

@@ -1,24 +1,24 @@
+-- `node::answering::count` meets its contract: it stops at FFFF. Assumes nothing.
+use mathlib.Core.Path.{refl}
+use Rattle.base.proofs.Pick.{via}
+use Rattle.node.specs.State.{counted}
+use native.Mathlib.Omega.{arith}
+use mathlib.Core.Bool.{Bool}
 use borrow.Author.Needs.{needs}
 use Rattle.node.proofs.answering.count.Statement.{statement}
 use Rattle.node.proofs.answering.count.Tie as tie
-use Rattle.node.proofs.answering.count.Reads as reads
-use Rattle.node.proofs.answering.count.Lts as lts
 
--- src/answering.rt:31:20
 add-result : tie.Need-add-result
 add-result c = search needs
 
--- src/answering.rt:31:13
 returns : tie.Need-returns
-returns c = ?
+returns c = via (λ (e : Bool). counted e (c .before .before .args .«before»)) (c .before .if1 .taken) (omega arith)
 
--- src/answering.rt:26:1
 returns-2 : tie.Need-returns-2
-returns-2 c = ?
+returns-2 c = via (λ (e : Bool). counted e (c .before .before .args .«before»)) (c .before .if1 .taken) (omega arith)
 
--- src/answering.rt:26:1
 returns-3 : tie.Need-returns-3
-returns-3 c = search needs
+returns-3 c = via (λ (e : Bool). counted e (c .before .args .«before»)) (c .if1 .left) refl
 
 pub count-spec : {M : Type 1} → statement M
 count-spec = tie.close (tie.spec add-result returns returns-2 returns-3)

@@ -1,17 +1,17 @@
+-- `node::answering::count_fault` meets its contract. Assumes nothing.
+use mathlib.Core.Path.{ap}
+use Rattle.node.specs.State.{node, counts}
+use Prim.Native.Nat.{ℕ}
+use Prim.Native.Nat.{ℕ}
 use borrow.Author.Needs.{needs}
 use Rattle.node.proofs.answering.count_fault.Statement.{statement}
 use Rattle.node.proofs.answering.count_fault.Tie as tie
-use Rattle.node.proofs.answering.count_fault.Reads as reads
-use Rattle.node.proofs.answering.count_fault.Lts as lts
-use Rattle.node.proofs.answering.count.Reads as count-reads
 
--- src/answering.rt:54:20
 count-requires : tie.Need-count-requires
 count-requires c κs = search needs
 
--- src/answering.rt:38:1
 returns : tie.Need-returns
-returns c = ?
+returns c = ap (λ (x : ℕ). node (c .before .before .args .node .masks) (c .before .before .args .node .directory) (c .before .before .args .node .given) (c .before .before .args .node .mode) (counts (c .before .before .args .node .counts .amswire) x) (c .before .before .args .node .erasing) (c .before .before .args .node .pending)) (c .count .ensures)
 
 pub count-fault-spec : {M : Type 1} → statement M
 count-fault-spec = tie.close (tie.spec count-requires returns)

@@ -1,41 +1,35 @@
+-- `node::answering::own_status` meets its contract: bit by bit. Assumes nothing.
+use mathlib.Core.Path.{ap}
+use Rattle.node.specs.Status.{ownStatus}
+use Prim.Native.Nat.{ℕ, _+_, _*_, _/_, _%_}
 use borrow.Author.Needs.{needs}
 use Rattle.node.proofs.answering.own_status.Statement.{statement}
 use Rattle.node.proofs.answering.own_status.Tie as tie
-use Rattle.node.proofs.answering.own_status.Reads as reads
-use Rattle.node.proofs.answering.own_status.Lts as lts
-use Rattle.node.proofs.answering.any.Reads as any-reads
 
--- src/answering.rt:67:5
 any-requires : tie.Need-any-requires
 any-requires c κs = search needs
 
--- src/answering.rt:67:5
 mul-result : tie.Need-mul-result
 mul-result c = search needs
 
--- src/answering.rt:67:35
 mul-result-2 : tie.Need-mul-result-2
 mul-result-2 c = search needs
 
--- src/answering.rt:67:5
 add-result : tie.Need-add-result
 add-result c = search needs
 
--- src/answering.rt:67:56
 mul-result-3 : tie.Need-mul-result-3
 mul-result-3 c = search needs
 
--- src/answering.rt:67:5
 add-result-2 : tie.Need-add-result-2
 add-result-2 c = search needs
 
--- src/answering.rt:67:5
 add-result-3 : tie.Need-add-result-3
 add-result-3 c = search needs
 
--- src/answering.rt:64:1
 returns : tie.Need-returns
-returns c = ?
+unfolding ownStatus
+returns c = ap (λ (x : ℕ). x * 256 + c .before .args .mode / 2 % 2 * 128 + c .before .args .mode % 2 * 64 + 32) (c .any .ensures .0)
 
 pub own-status-spec : {M : Type 1} → statement M
 own-status-spec =
