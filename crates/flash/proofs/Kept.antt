@@ -8,9 +8,10 @@ use lib.ListN.{getD}
 use lib.Dec.{leb}
 use borrow.Author.Tests.{leb-true, eq-eqb}
 use Rattle.base.specs.Pick.{pick}
-use Rattle.base.proofs.Pick.{yes, and-left, and-right}
+use Rattle.base.proofs.Pick.{yes, pick-first, pick-second, and-left, and-right}
 use Rattle.image.specs.File.{fileEnd}
 use Rattle.image.specs.declared.End.{End}
+use Rattle.image.proofs.File.{FileTo, file-tells}
 use Rattle.flash.specs.Geometry.{isSector, unitOf, sizeOf, sectorOf, sectorAddress, entryPlace}
 use Rattle.flash.specs.Status.{isEmpty, firstOf, statusBy, statusOf, isErasing, statusIn, statusWord, fourthWord}
 use Rattle.flash.specs.Directory.{entryOf, entryFor, directoryOf, entrySays, entryIs, checkedStatus, keptStatus}
@@ -19,7 +20,7 @@ use Rattle.flash.specs.declared.Erasing.{Erasing}
 use Rattle.flash.specs.declared.Found.{Found}
 use Rattle.flash.specs.declared.Status.{Status}
 use Rattle.flash.specs.declared.Target.{Target}
-use Rattle.flash.proofs.Statuses.{status-erasing, status-quiet, empty-first}
+use Rattle.flash.proofs.Statuses.{status-erasing, status-quiet, empty-first, good-file}
 use Rattle.flash.proofs.Entries.{directory-word, directory-first}
 use Rattle.flash.proofs.Searches.{FirstSector, found-tells, nothing-tells, first-same}
 
@@ -89,6 +90,14 @@ module _ (directory flash : List ℕ) (erasing : Erasing) (s : ℕ) where
       by : (t : Bool) → isEmptyStatus (pick t Status.Erasing Status.Bad) ≡ false
       by true = refl
       by false = refl
+
+  -- one that is good is good by its words, and its file ends inside it
+  pub kept-good : (end : ℕ) → keptStatus directory flash erasing s ≡ Status.Good end → FileTo words end
+  unfolding keptStatus statusIn
+  kept-good end h =
+      let p = pick-first (entryIs directory s (firstOf words) (statusIn erasing s words)) (λ e. let z : _≡_ {A = ℕ} 0 1 = cc in omega arith) h in
+      let q = pick-second (isErasing erasing s) (λ e. let z : _≡_ {A = ℕ} 0 1 = cc in omega arith) (p .1) in
+      file-tells words end (good-file words end (q .1))
 
 -- the directory that is worked out afresh differs nowhere: each sector is what the flash makes it
 pub kept-true : (flash : List ℕ) (erasing : Erasing) (s : ℕ) → isSector s ≡ true → keptStatus (directoryOf flash erasing) flash erasing s ≡ statusIn erasing s (sectorOf flash s)

@@ -24,6 +24,9 @@ use group::Reply;
 
 mod answering;
 mod blanking;
+mod changing;
+mod files;
+mod filing;
 mod memories;
 pub mod refusals;
 mod requests;

@@ -18,6 +18,7 @@ use crate::Route;
 use crate::Turn;
 use crate::answering::count_error;
 use crate::answering::says;
+use crate::filing::files;
 use crate::memories::memories;
 use crate::settings::settings;
 use crate::slaves::with_pending;

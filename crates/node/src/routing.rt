@@ -64,8 +64,8 @@ fn mask_at(masks: &[u32], id: u16) -> u32
     masks[i]
 }
 
-// A word of a packet; 0 where it has none.
-fn word_at(packet: &[u16], at: usize) -> u16
+// A word of a run; 0 where it has none.
+pub fn word_at(packet: &[u16], at: usize) -> u16
     ensures { λ r. ⌜ r ≡ getD (now (packet .entry)) at 0 ⌝ }
 {
     if packet.len() <= at {
