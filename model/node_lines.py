@@ -22,6 +22,8 @@ to a call, as many as the last line 9 said. The node that a call hands back is k
     A memory at(2) count(2)                             prints the digest of `count` words from `at` on
     B                                                   prints the node's words
 
+The node takes kind, ports and sub-detector as one word each: a number above 65,535 is given to it as 65,535.
+
 RUN is `front count(2) seed word..`: the first `front` of the words, then `count` words that begin with the seed, each next one the
 one before times 25173 plus 13849, modulo 65,536 (no product reaches 2^32), then the other words. No run is above 65,552 words.
 

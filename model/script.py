@@ -52,6 +52,7 @@ class Script:
     # Lines.
 
     def put(self, *words):
+        assert all(0 <= word < 65536 for word in words), words
         self.lines.append(line_of(words))
         self.program.line(list(words))
         return self.program.answer

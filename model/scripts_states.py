@@ -25,7 +25,7 @@ def out_of_range(s):
         lambda: s.set("ports", pick.choice((0, 5, 9, 255))),
         lambda: s.set("subdetector", pick.choice((8, 9, 255))),
         lambda: s.set("mode", pick.choice((4, 5, 255))),
-        lambda: s.set("flash_words", pick.choice((0, size - 1, size + 1, FULL + BENCH - size, 65536, 2**32 - 1))),
+        lambda: s.set("flash_words", pick.choice((0, size - 1, size + 1, FULL + BENCH - size, 65536, 2**32 - 1)) % 2**32),
         lambda: s.set(MASK, pick.choice((1 << 24, 0x1FFFFFF, 2**31, 2**32 - 1)), pick.randrange(16)),
         lambda: s.set(ERASING, 0, pick.choice((0, 1, 2, 11, 12, 255))),
         lambda: s.set(ERASING, len(extent(size, sector)) + pick.choice((0, 1, 2**31)), sector),

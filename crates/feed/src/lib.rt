@@ -171,7 +171,7 @@ pub fn seed_words(run: &mut [u16], seed: u16) {
 }
 
 // One word more of a digest.
-fn mixed(digest: u16, word: u16) -> u16 {
+pub fn mixed(digest: u16, word: u16) -> u16 {
     ((digest as u32 * 17 + word as u32) % 65521) as u16
 }
 

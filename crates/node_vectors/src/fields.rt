@@ -1,0 +1,252 @@
+// The node's 92 words, and a node with one field changed.
+ghost use mathlib.Core.Path.{_≡_};
+ghost use Prim.Native.Nat.{_≤_, _<_};
+ghost use lib.ListN.{length};
+use crate::reading::count;
+use crate::reading::double;
+use flash::Erasing;
+use flash::Progress;
+use group::Built;
+use group::Tally;
+use group::ZeroLength;
+use group::judge::tally_number;
+use node::Ask;
+use node::Counts;
+use node::Gathering;
+use node::Given;
+use node::Node;
+use node::Pending;
+
+fn room() -> [u16; 92]
+    ensures { λ r. ⌜ length r ≡ 92 ⌝ }
+{
+    [0; 92]
+}
+
+fn put_word(words: &mut [u16], at: usize, word: u16) {
+    if at < words.len() {
+        words[at] = word;
+    }
+}
+
+// A number as two words, the high one first.
+fn put_number(words: &mut [u16], at: usize, number: u32)
+    requires { ⌜ at < 1000 ⌝ }
+{
+    put_word(words, at, (number / 65536) as u16);
+    put_word(words, at + 1, low(number));
+}
+
+fn low(number: u32) -> u16 {
+    (number % 65536) as u16
+}
+
+// A count that the line format has in two words.
+fn small(number: usize) -> u32 {
+    (number % 4294967296) as u32
+}
+
+fn put_given(words: &mut [u16], given: Given) {
+    put_word(words, 0, given.kind);
+    put_word(words, 1, given.ports);
+    put_word(words, 2, given.subdetector);
+    put_word(words, 4, given.program_version);
+    put_word(words, 5, given.subdetector_version);
+    put_word(words, 6, given.start_tests);
+    put_number(words, 7, given.start_clock);
+    put_number(words, 9, small(given.flash_words));
+}
+
+fn put_masks(words: &mut [u16], masks: [u32; 16]) {
+    let mut i = 0;
+    while i < 16 {
+        put_number(words, 13 + i * 2, masks[i]);
+        i += 1;
+    }
+}
+
+fn put_directory(words: &mut [u16], directory: [u16; 32]) {
+    let mut i = 0;
+    while i < 32 {
+        put_word(words, 45 + i, directory[i]);
+        i += 1;
+    }
+}
+
+fn put_erasing(words: &mut [u16], erasing: Erasing) {
+    match erasing {
+        Erasing::Nothing => {}
+        Erasing::Sector(progress) => {
+            put_word(words, 77, 1);
+            put_word(words, 78, low(small(progress.sector)));
+            put_number(words, 79, small(progress.done));
+        }
+    }
+}
+
+fn put_ask(words: &mut [u16], ask: Ask) {
+    put_word(words, 82, low(ask.link));
+    put_word(words, 83, low(ask.slave));
+    put_number(words, 84, ask.at);
+}
+
+fn put_gathering(words: &mut [u16], gathering: Gathering) {
+    let built = gathering.built;
+    put_number(words, 86, gathering.set);
+    put_word(words, 88, low(gathering.from));
+    put_number(words, 89, small(built.words));
+    put_word(words, 91, tally_number(built.tally));
+}
+
+fn put_pending(words: &mut [u16], pending: Pending) {
+    match pending {
+        Pending::Nothing => {}
+        Pending::Slave(ask) => {
+            put_word(words, 81, 1);
+            put_ask(words, ask);
+        }
+        Pending::Group(ask, gathering) => {
+            put_word(words, 81, 2);
+            put_ask(words, ask);
+            put_gathering(words, gathering);
+        }
+    }
+}
+
+// The node's words.
+pub fn words_of(node: Node) -> [u16; 92]
+    ensures { λ r. ⌜ length r ≡ 92 ⌝ }
+{
+    let mut words = room();
+    put_given(&mut words, node.given);
+    put_word(&mut words, 3, node.mode);
+    put_word(&mut words, 11, node.counts.amswire);
+    put_word(&mut words, 12, node.counts.flash);
+    put_masks(&mut words, node.masks);
+    put_directory(&mut words, node.directory);
+    put_erasing(&mut words, node.erasing);
+    put_pending(&mut words, node.pending);
+    words
+}
+
+// A field's value, where it is the one that a line sets.
+fn chosen(here: bool, value: u16, before: u16) -> u16 {
+    if here { value } else { before }
+}
+
+fn given_with(given: Given, field: u16, value: u32) -> Given {
+    let word = low(value);
+    Given {
+        kind: chosen(field == 0, word, given.kind),
+        ports: chosen(field == 1, word, given.ports),
+        subdetector: chosen(field == 2, word, given.subdetector),
+        program_version: chosen(field == 4, word, given.program_version),
+        subdetector_version: chosen(field == 5, word, given.subdetector_version),
+        start_tests: chosen(field == 6, word, given.start_tests),
+        start_clock: if field == 7 { value } else { given.start_clock },
+        flash_words: if field == 8 {
+            value as usize
+        } else {
+            given.flash_words
+        },
+    }
+}
+
+fn masks_with(masks: [u32; 16], at: usize, value: u32) -> [u32; 16] {
+    let mut after = masks;
+    if at < 16 {
+        after[at] = value;
+    }
+    after
+}
+
+fn directory_with(directory: [u16; 32], at: usize, word: u16) -> [u16; 32] {
+    let mut after = directory;
+    if at < 32 {
+        after[at] = word;
+    }
+    after
+}
+
+// The place that a line sets, where the field is this one; else none of its places.
+fn place(here: bool, index: u16) -> usize {
+    if here { base::wide(index) } else { 32 }
+}
+
+fn erasing_with(erasing: Erasing, field: u16, index: u16, value: u32) -> Erasing {
+    if field == 13 {
+        return Erasing::Nothing;
+    }
+    if field == 14 {
+        let sector = base::wide(index);
+        return Erasing::Sector(Progress {
+            sector,
+            done: value as usize,
+        });
+    }
+    erasing
+}
+
+fn tally_of(number: u16) -> Tally {
+    match number {
+        0 => Tally::Nothing,
+        1 => Tally::Zero(ZeroLength::Next),
+        2 => Tally::Zero(ZeroLength::Abort),
+        3 => Tally::Zero(ZeroLength::Error),
+        4 => Tally::Zero(ZeroLength::End),
+        5 => Tally::Whole,
+        _ => Tally::Mixed,
+    }
+}
+
+fn ask_of(line: &[u16]) -> Ask {
+    Ask {
+        link: feed::item(line, 2) as u32,
+        slave: feed::item(line, 5) as u32,
+        at: double(line, 3),
+    }
+}
+
+fn gathering_of(line: &[u16]) -> Gathering {
+    let built = Built {
+        words: count(line, 9),
+        tally: tally_of(feed::item(line, 11)),
+    };
+    Gathering {
+        set: double(line, 6),
+        from: feed::item(line, 8) as u32,
+        built,
+    }
+}
+
+fn pending_with(pending: Pending, line: &[u16]) -> Pending {
+    match feed::item(line, 1) {
+        15 => Pending::Nothing,
+        16 => Pending::Slave(ask_of(line)),
+        17 => Pending::Group(ask_of(line), gathering_of(line)),
+        _ => pending,
+    }
+}
+
+// The node with the field changed that a line names.
+pub fn with_field(node: Node, line: &[u16]) -> Node {
+    let field = feed::item(line, 1);
+    let index = feed::item(line, 2);
+    let value = double(line, 3);
+    let masks = masks_with(node.masks, place(field == 11, index), value);
+    let directory = directory_with(node.directory, place(field == 12, index), low(value));
+    let erasing = erasing_with(node.erasing, field, index, value);
+    let pending = pending_with(node.pending, line);
+    Node {
+        masks,
+        directory,
+        given: given_with(node.given, field, value),
+        mode: chosen(field == 3, low(value), node.mode),
+        counts: Counts {
+            amswire: chosen(field == 9, low(value), node.counts.amswire),
+            flash: chosen(field == 10, low(value), node.counts.flash),
+        },
+        erasing,
+        pending,
+    }
+}

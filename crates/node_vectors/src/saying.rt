@@ -1,0 +1,88 @@
+// What is printed of a call: its answer, in words and numbers.
+ghost use mathlib.Core.Path.{_≡_};
+ghost use Rattle.node.specs.State.{refusalNumber};
+use group::Reply;
+use node::Answer;
+use node::Asking;
+use node::Refusal;
+
+fn refusal_number(refusal: Refusal) -> u32
+    ensures { λ r. ⌜ r ≡ refusalNumber refusal ⌝ }
+{
+    match refusal {
+        Refusal::FlashSize => 1,
+        Refusal::ReplySize => 2,
+        Refusal::MemorySize => 3,
+        Refusal::Number => 4,
+        Refusal::State => 5,
+        Refusal::Busy => 6,
+        Refusal::Unasked => 7,
+    }
+}
+
+pub fn say_word(word: u16) {
+    io::print_hex(1, word as u64, 4);
+}
+
+fn say_number(number: u64) {
+    io::write_all(1, b" ");
+    io::print_decimal(1, number);
+}
+
+// The words of a run, one space before each.
+fn say_words(words: &[u16]) {
+    let mut i = 0;
+    while i < words.len() {
+        io::write_all(1, b" ");
+        say_word(words[i]);
+        i += 1;
+    }
+}
+
+// All words of a run, one space between them.
+pub fn say_run(words: &[u16]) {
+    say_word(feed::item(words, 0));
+    let rest = base::least(1, words.len());
+    say_words(&words[rest..]);
+}
+
+// A reply: its BC, how many words, their digest, and the words themselves where they are few.
+fn say_reply(sent: Reply, buffer: &[u16]) {
+    let n = base::least(sent.words, buffer.len());
+    io::write_all(1, b" reply");
+    say_number(sent.bc as u64);
+    say_number(sent.words as u64);
+    io::write_all(1, b" ");
+    say_word(feed::digest(&buffer[0..n]));
+    if n <= 16 {
+        say_words(&buffer[0..n]);
+    }
+}
+
+fn say_asking(asking: Asking) {
+    io::write_all(1, b" ask");
+    say_number(asking.slave as u64);
+    say_number(asking.from as u64);
+}
+
+// The answer, one space before it.
+pub fn say_answer(answer: Answer, buffer: &[u16]) {
+    match answer {
+        Answer::Refused(refusal) => {
+            io::write_all(1, b" refused");
+            say_number(refusal_number(refusal) as u64);
+        }
+        Answer::Started => {
+            io::write_all(1, b" started");
+        }
+        Answer::Reply(sent) => say_reply(sent, buffer),
+        Answer::Ask(asking) => say_asking(asking),
+        Answer::Waiting => {
+            io::write_all(1, b" waiting");
+        }
+        Answer::Erased(words) => {
+            io::write_all(1, b" erased");
+            say_number(words as u64);
+        }
+    }
+}
