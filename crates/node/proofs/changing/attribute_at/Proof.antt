@@ -1,7 +1,9 @@
+use mathlib.Core.Path.{_≡_, refl, sym, ap, ap₂, subst, _∙_}
+use Rattle.node.proofs.Outcomes.{ends, closes, replies-as, sets-as}
+use Rattle.node.proofs.Commands.{ends-changed, changes-as, stores-as, served, unserved}
 use mathlib.Core.Path.{refl, sym, ap, _∙_}
 use Rattle.group.specs.declared.ZeroLength.{ZeroLength}
 use Rattle.node.specs.Effect.{lent, ownOutcome, Change}
-use Rattle.node.proofs.Commands.{says-by, changes-by, served, unserved}
 use Rattle.base.proofs.Pick.{yes, no, via}
 use Rattle.node.specs.Files.{attributeAt}
 use borrow.Author.Needs.{needs}
@@ -30,7 +32,8 @@ attribute-sector-requires c κs = search needs
 
 -- src/changing.rt:198:1
 returns : tie.Need-returns
-returns c = let a = c .before .before .before .before .args in λ m reply. says-by (a .node) ZeroLength.Abort (via (attributeAt (a .node) (a .flash .now) (a .value)) (c .before .enum-told .given .1) refl) (c .says .ensures) (lent (a .flash .now) m reply)
+returns c = let a = c .before .before .before .before .args in
+     λ m reply. ends (a .node) ZeroLength.Abort (c .says .ensures) (via (attributeAt (a .node) (a .flash .now) (a .value)) (c .before .enum-told .given .1) refl) (lent (a .flash .now) m reply)
 
 -- src/changing.rt:198:1
 same-length : tie.Need-same-length
@@ -38,7 +41,8 @@ same-length c = search needs
 
 -- src/changing.rt:198:1
 returns-2 : tie.Need-returns-2
-returns-2 c = let a = c .before .before .before .before .before .before .before .before .args in λ m reply. c .before .before .attribute-sector .ensures m reply ∙ ap (ownOutcome (a .node) (lent (a .flash .now) m reply)) (via (attributeAt (a .node) (a .flash .now) (a .value)) (c .before .before .before .before .before .target .given .1) refl)
+returns-2 c = let a = c .before .before .before .before .before .before .before .before .args in
+     changes-as (a .node) (a .flash .now) (c .before .before .attribute-sector .ensures) (via (attributeAt (a .node) (a .flash .now) (a .value)) (c .before .before .before .before .before .target .given .1) refl)
 
 pub attribute-at-spec : {M : Type 1} → statement M
 attribute-at-spec =

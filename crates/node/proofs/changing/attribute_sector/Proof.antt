@@ -1,7 +1,11 @@
+use Prim.Native.Nat.{ℕ, _-_, _≤_}
+use mathlib.Core.List.{List, [], _∷_}
+use mathlib.Core.Path.{_≡_, refl, sym, ap, ap₂, subst, _∙_}
+use Rattle.node.proofs.Outcomes.{ends, closes, replies-as, sets-as}
+use Rattle.node.proofs.Commands.{ends-changed, changes-as, stores-as, served, unserved}
 use mathlib.Core.Path.{refl, sym, ap, _∙_}
 use Rattle.group.specs.declared.ZeroLength.{ZeroLength}
 use Rattle.node.specs.Effect.{lent, ownOutcome, Change}
-use Rattle.node.proofs.Commands.{says-by, changes-by, served, unserved}
 use Rattle.base.proofs.Pick.{yes, no, via}
 use lib.ListN.{length, getD, drop}
 use Rattle.flash.specs.Geometry.{sectorOf}
@@ -75,7 +79,11 @@ same-length c = search needs
 
 -- src/changing.rt:176:1
 returns : tie.Need-returns
-returns c = let a = c .before .before .before .before .before .before .before .before .before .before .before .before .before .before .args in let by = attributeBy (a .sector) (sectorOf (a .flash .now) (a .sector)) (a .value) in λ m reply. c .before .before .set-to .ensures m reply ∙ ap (ownOutcome (a .node) (lent (a .flash .now) m reply)) (ap (setTo (a .sector) (c .before .before .before .before .before .before .before .before .before .status .given .0 .0)) (c .before .before .before .setting-of .ensures ∙ ap (λ (h : ℕ). settingOf h (a .value)) (c .before .before .before .before .before .word-at .ensures ∙ ap (λ (ws : List ℕ). getD ws 0 0) (c .before .before .before .before .before .before .sector-of .ensures))) ∙ via by (sym (c .before .before .before .before .before .before .before .before .before .before .before .status-seen .ensures) ∙ c .before .before .before .before .before .before .before .before .before .status .given .1) refl)
+returns c = let a = c .before .before .before .before .before .before .before .before .before .before .before .before .before .before .args in
+     let by = attributeBy (a .sector) (sectorOf (a .flash .now) (a .sector)) (a .value) in
+     changes-as (a .node) (a .flash .now) (c .before .before .set-to .ensures)
+     (ap (setTo (a .sector) (c .before .before .before .before .before .before .before .before .before .status .given .0 .0)) (c .before .before .before .setting-of .ensures ∙ ap (λ (h : ℕ). settingOf h (a .value)) (c .before .before .before .before .before .word-at .ensures ∙ ap (λ (ws : List ℕ). getD ws 0 0) (c .before .before .before .before .before .before .sector-of .ensures)))
+     ∙ via by (sym (c .before .before .before .before .before .before .before .before .before .before .before .status-seen .ensures) ∙ c .before .before .before .before .before .before .before .before .before .status .given .1) refl)
 
 -- src/changing.rt:176:1
 same-length-2 : tie.Need-same-length-2
@@ -83,7 +91,9 @@ same-length-2 c = search needs
 
 -- src/changing.rt:176:1
 returns-2 : tie.Need-returns-2
-returns-2 c = let a = c .before .before .before .before .before .before .args in let by = attributeBy (a .sector) (sectorOf (a .flash .now) (a .sector)) (a .value) in λ m reply. says-by (a .node) ZeroLength.Abort (via by (sym (c .before .before .before .status-seen .ensures) ∙ c .before .enum-told .given .1) refl) (c .says .ensures) (lent (a .flash .now) m reply)
+returns-2 c = let a = c .before .before .before .before .before .before .args in
+     let by = attributeBy (a .sector) (sectorOf (a .flash .now) (a .sector)) (a .value) in
+     λ m reply. ends (a .node) ZeroLength.Abort (c .says .ensures) (via by (sym (c .before .before .before .status-seen .ensures) ∙ c .before .enum-told .given .1) refl) (lent (a .flash .now) m reply)
 
 -- src/changing.rt:176:1
 same-length-3 : tie.Need-same-length-3
@@ -91,7 +101,9 @@ same-length-3 c = search needs
 
 -- src/changing.rt:176:1
 returns-3 : tie.Need-returns-3
-returns-3 c = let a = c .before .before .before .before .before .before .args in let by = attributeBy (a .sector) (sectorOf (a .flash .now) (a .sector)) (a .value) in λ m reply. says-by (a .node) ZeroLength.Abort (via by (sym (c .before .before .before .status-seen .ensures) ∙ c .before .enum-told2 .given .1) refl) (c .says2 .ensures) (lent (a .flash .now) m reply)
+returns-3 c = let a = c .before .before .before .before .before .before .args in
+     let by = attributeBy (a .sector) (sectorOf (a .flash .now) (a .sector)) (a .value) in
+     λ m reply. ends (a .node) ZeroLength.Abort (c .says2 .ensures) (via by (sym (c .before .before .before .status-seen .ensures) ∙ c .before .enum-told2 .given .1) refl) (lent (a .flash .now) m reply)
 
 -- src/changing.rt:176:1
 same-length-4 : tie.Need-same-length-4
@@ -99,7 +111,9 @@ same-length-4 c = search needs
 
 -- src/changing.rt:176:1
 returns-4 : tie.Need-returns-4
-returns-4 c = let a = c .before .before .before .before .before .before .args in let by = attributeBy (a .sector) (sectorOf (a .flash .now) (a .sector)) (a .value) in λ m reply. says-by (a .node) ZeroLength.Abort (via by (sym (c .before .before .before .status-seen .ensures) ∙ c .before .enum-told3 .given .1) refl) (c .says3 .ensures) (lent (a .flash .now) m reply)
+returns-4 c = let a = c .before .before .before .before .before .before .args in
+     let by = attributeBy (a .sector) (sectorOf (a .flash .now) (a .sector)) (a .value) in
+     λ m reply. ends (a .node) ZeroLength.Abort (c .says3 .ensures) (via by (sym (c .before .before .before .status-seen .ensures) ∙ c .before .enum-told3 .given .1) refl) (lent (a .flash .now) m reply)
 
 pub attribute-sector-spec : {M : Type 1} → statement M
 attribute-sector-spec =

@@ -1,9 +1,11 @@
+use mathlib.Core.Path.{_≡_, refl, sym, ap, ap₂, subst, _∙_}
+use Rattle.node.proofs.Outcomes.{ends, closes, replies-as, sets-as}
+use Rattle.node.proofs.Commands.{ends-changed, changes-as, stores-as, served, unserved}
 use mathlib.Core.Path.{refl, sym, ap, _∙_}
 use Rattle.group.specs.declared.ZeroLength.{ZeroLength}
 use Rattle.flash.specs.declared.Status.{Status}
 use Rattle.base.proofs.Pick.{yes, no, via}
 use Rattle.node.specs.Effect.{lent, ownOutcome, Change}
-use Rattle.node.proofs.Commands.{says-by, changes-by, served, unserved}
 use Rattle.node.specs.Files.{eraseAt}
 use borrow.Author.Needs.{needs}
 use Rattle.node.proofs.changing.erase_at.Statement.{statement}
@@ -31,11 +33,14 @@ end-with-requires c κs = search needs
 
 -- src/changing.rt:137:1
 returns : tie.Need-returns
-returns c = λ m reply. says-by (c .before .before .before .before .args .node) ZeroLength.Abort (via eraseAt (c .before .enum-told .given .1) refl) (c .says .ensures) (lent (c .before .before .before .before .args .flash .now) m reply)
+returns c = let a = c .before .before .before .before .args in
+     λ m reply. ends (a .node) ZeroLength.Abort (c .says .ensures) (via eraseAt (c .before .enum-told .given .1) refl) (lent (a .flash .now) m reply)
 
 -- src/changing.rt:137:1
 returns-2 : tie.Need-returns-2
-returns-2 c = changes-by (c .before .before .before .before .before .args .node) (c .before .before .before .before .before .args .flash .now) (Change.Begun (c .before .before .found .given .0 .0)) (c .before .before .found .given .0 .0) Status.Erasing refl (via eraseAt (c .before .before .found .given .1) refl) refl (c .end-with .ensures)
+returns-2 c = let a = c .before .before .before .before .before .args in
+     let s = c .before .before .found .given .0 .0 in
+     ends-changed (a .node) (a .flash .now) (Change.Begun s) s Status.Erasing refl (via eraseAt (c .before .before .found .given .1) refl) refl (c .end-with .ensures)
 
 pub erase-at-spec : {M : Type 1} → statement M
 erase-at-spec =

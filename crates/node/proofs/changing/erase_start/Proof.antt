@@ -1,7 +1,10 @@
+use mathlib.Core.Path.{_≡_, refl, sym, ap, ap₂, subst, _∙_}
+use Rattle.node.proofs.Outcomes.{ends, closes, replies-as, sets-as}
+use Rattle.node.proofs.Commands.{ends-changed, changes-as, stores-as, served, unserved}
+use Rattle.base.proofs.Pick.{yes, no, via}
 use mathlib.Core.Path.{refl, sym, ap, _∙_}
 use Rattle.group.specs.declared.ZeroLength.{ZeroLength}
 use Rattle.node.specs.Effect.{lent, ownOutcome, Change}
-use Rattle.node.proofs.Commands.{says-by, changes-by, served, unserved}
 use lib.ListN.{length, getD, drop}
 use Rattle.node.specs.Files.{toErase, eraseAt, eraseStartOf}
 use borrow.Author.Needs.{needs}
@@ -26,7 +29,8 @@ says-requires c κs = search needs
 -- src/changing.rt:155:9
 returns : tie.Need-returns
 unfolding eraseStartOf
-returns c = let a = c .before .before .before .before .before .args in λ m reply. says-by (a .node) ZeroLength.Abort (unserved (a .node) (length (a .packet .now)) 2 _ (c .before .before .is-served .ensures) (c .before .if1 .taken)) (c .says .ensures) (lent (a .flash .now) m reply)
+returns c = let a = c .before .before .before .before .before .args in
+     λ m reply. ends (a .node) ZeroLength.Abort (c .says .ensures) (unserved (a .node) (length (a .packet .now)) 2 _ (c .before .before .is-served .ensures) (c .before .if1 .taken)) (lent (a .flash .now) m reply)
 
 -- src/changing.rt:157:42
 word-at-requires : tie.Need-word-at-requires
@@ -43,7 +47,8 @@ erase-at-requires c κs = search needs
 -- src/changing.rt:150:1
 returns-2 : tie.Need-returns-2
 unfolding eraseStartOf
-returns-2 c = let a = c .before .before .before .before .before .before .before .args in λ m reply. c .erase-at .ensures m reply ∙ ap (ownOutcome (a .node) (lent (a .flash .now) m reply)) (ap eraseAt (c .before .to-erase .ensures ∙ ap (toErase (a .node)) (c .before .before .word-at .ensures)) ∙ served (a .node) (length (a .packet .now)) 2 _ (c .before .before .before .before .is-served .ensures) (c .before .before .before .if1 .left))
+returns-2 c = let a = c .before .before .before .before .before .before .before .args in
+     changes-as (a .node) (a .flash .now) (c .erase-at .ensures) (ap eraseAt (c .before .to-erase .ensures ∙ ap (toErase (a .node)) (c .before .before .word-at .ensures)) ∙ served (a .node) (length (a .packet .now)) 2 _ (c .before .before .before .before .is-served .ensures) (c .before .before .before .if1 .left))
 
 pub erase-start-spec : {M : Type 1} → statement M
 erase-start-spec =

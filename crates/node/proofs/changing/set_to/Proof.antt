@@ -1,9 +1,11 @@
+use mathlib.Core.Path.{_≡_, refl, sym, ap, ap₂, subst, _∙_}
+use Rattle.node.proofs.Outcomes.{ends, closes, replies-as, sets-as}
+use Rattle.node.proofs.Commands.{ends-changed, changes-as, stores-as, served, unserved}
 use mathlib.Core.Path.{refl, sym, ap, _∙_}
 use Rattle.group.specs.declared.ZeroLength.{ZeroLength}
 use Rattle.flash.specs.declared.Status.{Status}
 use Rattle.base.proofs.Pick.{yes, no, via}
 use Rattle.node.specs.Effect.{lent, ownOutcome, Change}
-use Rattle.node.proofs.Commands.{says-by, changes-by, served, unserved}
 use lib.ListN.{length, getD}
 use Rattle.node.specs.Files.{setTo}
 use borrow.Author.Needs.{needs}
@@ -45,11 +47,15 @@ end-with-requires c κs = search needs
 
 -- src/changing.rt:161:1
 returns : tie.Need-returns
-returns c = let a = c .before .before .before .before .args in λ m reply. says-by (a .node) ZeroLength.Abort (via (setTo (a .sector) (a .end)) (c .before .enum-told .given .1) refl) (c .says .ensures) (lent (a .flash .now) m reply)
+returns c = let a = c .before .before .before .before .args in
+     let by = setTo (a .sector) (a .end) in
+     λ m reply. ends (a .node) ZeroLength.Abort (c .says .ensures) (via by (c .before .enum-told .given .1) refl) (lent (a .flash .now) m reply)
 
 -- src/changing.rt:161:1
 returns-2 : tie.Need-returns-2
-returns-2 c = let a = c .before .before .before .before .args in λ m reply. says-by (a .node) ZeroLength.End (via (setTo (a .sector) (a .end)) (c .before .enum-told2 .given .1) refl) (c .says2 .ensures) (lent (a .flash .now) m reply)
+returns-2 c = let a = c .before .before .before .before .args in
+     let by = setTo (a .sector) (a .end) in
+     λ m reply. ends (a .node) ZeroLength.End (c .says2 .ensures) (via by (c .before .enum-told2 .given .1) refl) (lent (a .flash .now) m reply)
 
 -- src/changing.rt:161:1
 same-length : tie.Need-same-length
@@ -57,7 +63,9 @@ same-length c = search needs
 
 -- src/changing.rt:161:1
 returns-3 : tie.Need-returns-3
-returns-3 c = let a = c .before .before .before .before .before .before .before .before .before .before .args in let h = c .before .before .before .before .before .before .before .setting .given .0 .0 in changes-by (a .node) (a .flash .now) (Change.Headed (a .sector) (a .end) h) (a .sector) (Status.Good (a .end)) refl (via (setTo (a .sector) (a .end)) (c .before .before .before .before .before .before .before .setting .given .1) refl) (c .before .before .before .before .store-header .ensures) (c .end-with .ensures)
+returns-3 c = let a = c .before .before .before .before .before .before .before .before .before .before .args in
+     let by = setTo (a .sector) (a .end) in
+     ends-changed (a .node) (a .flash .now) (Change.Headed (a .sector) (a .end) (c .before .before .before .before .before .before .before .setting .given .0 .0)) (a .sector) (Status.Good (a .end)) refl (via by (c .before .before .before .before .before .before .before .setting .given .1) refl) (c .before .before .before .before .store-header .ensures) (c .end-with .ensures)
 
 pub set-to-spec : {M : Type 1} → statement M
 set-to-spec =

@@ -1,9 +1,12 @@
+use lib.ListN.{length, getD, drop}
+use mathlib.Core.Path.{_≡_, refl, sym, ap, ap₂, subst, _∙_}
+use Rattle.node.proofs.Outcomes.{ends, closes, replies-as, sets-as}
+use Rattle.node.proofs.Commands.{ends-changed, changes-as, stores-as, served, unserved}
 use mathlib.Core.Path.{refl, sym, ap, _∙_}
 use Rattle.group.specs.declared.ZeroLength.{ZeroLength}
 use Rattle.flash.specs.declared.Status.{Status}
 use Rattle.base.proofs.Pick.{yes, no, via}
 use Rattle.node.specs.Effect.{lent, ownOutcome, Change}
-use Rattle.node.proofs.Commands.{says-by, changes-by, served, unserved}
 use lib.ListN.{length, getD}
 use Rattle.node.specs.Files.{writeAt}
 use borrow.Author.Needs.{needs}
@@ -37,7 +40,8 @@ end-with-requires c κs = search needs
 
 -- src/changing.rt:96:1
 returns : tie.Need-returns
-returns c = let a = c .before .before .before .before .before .args in λ m reply. says-by (a .node) ZeroLength.Abort (via (writeAt (a .file .now)) (c .before .enum-told .given .1) refl) (c .says .ensures) (lent (a .flash .now) m reply)
+returns c = let a = c .before .before .before .before .before .args in
+     λ m reply. ends (a .node) ZeroLength.Abort (c .says .ensures) (via (writeAt (a .file .now)) (c .before .enum-told .given .1) refl) (lent (a .flash .now) m reply)
 
 -- src/changing.rt:96:1
 same-length : tie.Need-same-length
@@ -45,7 +49,9 @@ same-length c = search needs
 
 -- src/changing.rt:96:1
 returns-2 : tie.Need-returns-2
-returns-2 c = let a = c .before .before .before .before .before .before .before .before .before .before .before .args in let s = c .before .before .before .before .before .before .before .found .given .0 .0 in changes-by (a .node) (a .flash .now) (Change.Wrote s (a .file .now)) s (Status.Good (length (a .file .now))) refl (via (writeAt (a .file .now)) (c .before .before .before .before .before .before .before .found .given .1) refl) (c .before .before .before .before .store-file .ensures) (c .end-with .ensures)
+returns-2 c = let a = c .before .before .before .before .before .before .before .before .before .before .before .args in
+     let s = c .before .before .before .before .before .before .before .found .given .0 .0 in
+     ends-changed (a .node) (a .flash .now) (Change.Wrote s (a .file .now)) s (Status.Good (length (a .file .now))) refl (via (writeAt (a .file .now)) (c .before .before .before .before .before .before .before .found .given .1) refl) (c .before .before .before .before .store-file .ensures) (c .end-with .ensures)
 
 pub write-at-spec : {M : Type 1} → statement M
 write-at-spec =

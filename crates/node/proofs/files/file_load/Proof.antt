@@ -1,7 +1,10 @@
+use mathlib.Core.Path.{_≡_, refl, sym, ap, ap₂, subst, _∙_}
+use Rattle.node.proofs.Outcomes.{ends, closes, replies-as, sets-as}
+use Rattle.node.proofs.Commands.{ends-changed, changes-as, stores-as, served, unserved}
+use Rattle.base.proofs.Pick.{yes, no, via}
 use mathlib.Core.Path.{refl, sym, ap, _∙_}
 use Rattle.group.specs.declared.ZeroLength.{ZeroLength}
 use Rattle.node.specs.Effect.{lent, ownOutcome, Change}
-use Rattle.node.proofs.Commands.{says-by, changes-by, served, unserved}
 use lib.ListN.{length, getD, drop}
 use Rattle.memory.specs.Segment.{memories}
 use Rattle.node.specs.Files.{namedBy, loadAt, loadOf}
@@ -27,7 +30,9 @@ says-requires c κs = search needs
 -- src/files.rt:211:9
 returns : tie.Need-returns
 unfolding loadOf
-returns c = let a = c .before .before .before .before .before .before .before .before .args in λ f reply. says-by (a .node) ZeroLength.Abort (unserved (a .node) (length (a .packet .now)) 2 _ (c .before .before .is-served .ensures) (c .before .if1 .taken)) (c .says .ensures) (lent f (memories (a .pm .now) (a .dm .now) (a .io .now)) reply)
+returns c = let a = c .before .before .before .before .before .before .before .before .args in
+     let m = memories (a .pm .now) (a .dm .now) (a .io .now) in
+     λ flash reply. ends (a .node) ZeroLength.Abort (c .says .ensures) (unserved (a .node) (length (a .packet .now)) 2 _ (c .before .before .is-served .ensures) (c .before .if1 .taken)) (lent flash m reply)
 
 -- src/files.rt:213:41
 word-at-requires : tie.Need-word-at-requires
@@ -56,7 +61,9 @@ same-length-3 c = search needs
 -- src/files.rt:199:1
 returns-2 : tie.Need-returns-2
 unfolding loadOf
-returns-2 c = let a = c .before .before .before .before .before .before .before .before .before .before .before .before .before .before .before .before .before .before .before .args in let k = memories (a .pm .now) (a .dm .now) (a .io .now) in λ f reply. c .before .before .before .before .before .before .load-at .ensures f reply ∙ ap (ownOutcome (a .node) (lent f k reply)) (ap (loadAt (a .node) (a .flash .now) k) (c .before .before .before .before .before .before .before .before .before .before .named-by .ensures ∙ ap (namedBy (a .node)) (c .before .before .before .before .before .before .before .before .before .before .before .word-at .ensures)) ∙ served (a .node) (length (a .packet .now)) 2 _ (c .before .before .before .before .before .before .before .before .before .before .before .before .before .is-served .ensures) (c .before .before .before .before .before .before .before .before .before .before .before .before .if1 .left))
+returns-2 c = let a = c .before .before .before .before .before .before .before .before .before .before .before .before .before .before .before .before .before .before .before .args in
+     let m = memories (a .pm .now) (a .dm .now) (a .io .now) in
+     stores-as (a .node) m (c .before .before .before .before .before .before .load-at .ensures) (ap (loadAt (a .node) (a .flash .now) m) (c .before .before .before .before .before .before .before .before .before .before .named-by .ensures ∙ ap (namedBy (a .node)) (c .before .before .before .before .before .before .before .before .before .before .before .word-at .ensures)) ∙ served (a .node) (length (a .packet .now)) 2 _ (c .before .before .before .before .before .before .before .before .before .before .before .before .before .is-served .ensures) (c .before .before .before .before .before .before .before .before .before .before .before .before .if1 .left))
 
 pub file-load-spec : {M : Type 1} → statement M
 file-load-spec =

@@ -1,7 +1,9 @@
+use mathlib.Core.Path.{_≡_, refl, sym, ap, ap₂, subst, _∙_}
+use Rattle.node.proofs.Outcomes.{ends, closes, replies-as, sets-as}
+use Rattle.node.proofs.Commands.{ends-changed, changes-as, stores-as, served, unserved}
 use mathlib.Core.Path.{refl, sym, ap, _∙_}
 use Rattle.group.specs.declared.ZeroLength.{ZeroLength}
 use Rattle.node.specs.Effect.{lent, ownOutcome, Change}
-use Rattle.node.proofs.Commands.{says-by, changes-by, served, unserved}
 use Rattle.base.proofs.Pick.{yes, no, via}
 use Rattle.memory.specs.Segment.{memories}
 use Rattle.node.specs.Files.{loadAt}
@@ -31,7 +33,9 @@ load-sector-requires c κs = search needs
 
 -- src/files.rt:182:1
 returns : tie.Need-returns
-returns c = let a = c .before .before .before .before .before .before .before .args in let k = memories (a .pm .now) (a .dm .now) (a .io .now) in λ f reply. says-by (a .node) ZeroLength.Abort (via (loadAt (a .node) (a .flash .now) k) (c .before .enum-told .given .1) refl) (c .says .ensures) (lent f k reply)
+returns c = let a = c .before .before .before .before .before .before .before .args in
+     let m = memories (a .pm .now) (a .dm .now) (a .io .now) in
+     λ flash reply. ends (a .node) ZeroLength.Abort (c .says .ensures) (via (loadAt (a .node) (a .flash .now) m) (c .before .enum-told .given .1) refl) (lent flash m reply)
 
 -- src/files.rt:182:1
 same-length : tie.Need-same-length
@@ -47,7 +51,9 @@ same-length-3 c = search needs
 
 -- src/files.rt:182:1
 returns-2 : tie.Need-returns-2
-returns-2 c = let a = c .before .before .before .before .before .before .before .before .before .before .before .before .before .before .before .before .before .args in let k = memories (a .pm .now) (a .dm .now) (a .io .now) in λ f reply. c .before .before .before .before .before .before .load-sector .ensures f reply ∙ ap (ownOutcome (a .node) (lent f k reply)) (via (loadAt (a .node) (a .flash .now) k) (c .before .before .before .before .before .before .before .before .before .before .before .target .given .1) refl)
+returns-2 c = let a = c .before .before .before .before .before .before .before .before .before .before .before .before .before .before .before .before .before .args in
+     let m = memories (a .pm .now) (a .dm .now) (a .io .now) in
+     stores-as (a .node) m (c .before .before .before .before .before .before .load-sector .ensures) (via (loadAt (a .node) (a .flash .now) m) (c .before .before .before .before .before .before .before .before .before .before .before .target .given .1) refl)
 
 pub load-at-spec : {M : Type 1} → statement M
 load-at-spec =

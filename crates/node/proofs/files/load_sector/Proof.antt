@@ -1,3 +1,8 @@
+use Prim.Native.Nat.{ℕ, _-_, _≤_}
+use mathlib.Core.Path.{_≡_, refl, sym, ap, ap₂, subst, _∙_}
+use Rattle.node.proofs.Outcomes.{ends, closes, replies-as, sets-as}
+use Rattle.node.proofs.Commands.{ends-changed, changes-as, stores-as, served, unserved}
+use Rattle.base.proofs.Pick.{yes, no, via}
 use mathlib.Core.Path.{_≡_, refl, sym, ap, _∙_}
 use mathlib.Core.Bool.{false}
 use Rattle.group.specs.declared.ZeroLength.{ZeroLength}
@@ -35,7 +40,12 @@ abort-faulty-requires c κs = search needs
 
 -- src/files.rt:173:9
 returns : tie.Need-returns
-returns c = let a = c .before .before .before .before .before .before .before .before .args in let f = a .flash .now in let ws = sectorOf f (a .sector) in let k = memories (a .pm .now) (a .dm .now) (a .io .now) in let s = seen (a .node) f (a .sector) in λ fl reply. c .abort-faulty .ensures (lent fl k reply) ∙ ap (ownOutcome (a .node) (lent fl k reply)) (load-faulty ws k s (sym (c .before .before .is-faulty .ensures ∙ ap isFaulty (c .before .before .before .status-seen .ensures)) ∙ c .before .if1 .taken))
+returns c = let a = c .before .before .before .before .before .before .before .before .args in
+     let f = a .flash .now in
+     let ws = sectorOf f (a .sector) in
+     let m = memories (a .pm .now) (a .dm .now) (a .io .now) in
+     let s = seen (a .node) f (a .sector) in
+     λ flash reply. c .abort-faulty .ensures (lent flash m reply) ∙ ap (ownOutcome (a .node) (lent flash m reply)) (load-faulty ws m s (sym (c .before .before .is-faulty .ensures ∙ ap isFaulty (c .before .before .before .status-seen .ensures)) ∙ c .before .if1 .taken))
 
 -- src/files.rt:175:21
 sector-of-requires : tie.Need-sector-of-requires
@@ -63,7 +73,13 @@ same-length-3 c = search needs
 
 -- src/files.rt:176:9
 returns-2 : tie.Need-returns-2
-returns-2 c = let a = c .before .before .before .before .before .before .before .before .before .before .before .before .before .before .before .before .before .before .before .before .args in let f = a .flash .now in let ws = sectorOf f (a .sector) in let k = memories (a .pm .now) (a .dm .now) (a .io .now) in let s = seen (a .node) f (a .sector) in let g : isFaulty s ≡ false = sym (c .before .before .before .before .before .before .before .before .before .before .before .before .before .before .is-faulty .ensures ∙ ap isFaulty (c .before .before .before .before .before .before .before .before .before .before .before .before .before .before .before .status-seen .ensures)) ∙ c .before .before .before .before .before .before .before .before .before .before .before .before .before .if1 .left in load-ends ws k (a .node) s g (c .before .before .before .before .before .before .before .before .load .ensures ∙ ap (λ (w : List ℕ). loadOf w k) (c .before .before .before .before .before .before .before .before .before .before .before .before .sector-of .ensures)) (c .before .if2 .taken) (c .says .ensures)
+returns-2 c = let a = c .before .before .before .before .before .before .before .before .before .before .before .before .before .before .before .before .before .before .before .before .args in
+     let f = a .flash .now in
+     let ws = sectorOf f (a .sector) in
+     let m = memories (a .pm .now) (a .dm .now) (a .io .now) in
+     let s = seen (a .node) f (a .sector) in
+     let good : isFaulty s ≡ false = sym (c .before .before .before .before .before .before .before .before .before .before .before .before .before .before .is-faulty .ensures ∙ ap isFaulty (c .before .before .before .before .before .before .before .before .before .before .before .before .before .before .before .status-seen .ensures)) ∙ c .before .before .before .before .before .before .before .before .before .before .before .before .before .if1 .left in
+     load-ends ws m (a .node) s good (c .before .before .before .before .before .before .before .before .load .ensures ∙ ap (λ (w : List ℕ). loadOf w m) (c .before .before .before .before .before .before .before .before .before .before .before .before .sector-of .ensures)) (c .before .if2 .taken) (c .says .ensures)
 
 -- src/files.rt:178:5
 says-requires-2 : tie.Need-says-requires-2
@@ -83,7 +99,13 @@ same-length-6 c = search needs
 
 -- src/files.rt:162:1
 returns-3 : tie.Need-returns-3
-returns-3 c = let a = c .before .before .before .before .before .before .before .before .before .before .before .before .before .before .before .before .before .before .before .before .args in let f = a .flash .now in let ws = sectorOf f (a .sector) in let k = memories (a .pm .now) (a .dm .now) (a .io .now) in let s = seen (a .node) f (a .sector) in let g : isFaulty s ≡ false = sym (c .before .before .before .before .before .before .before .before .before .before .before .before .before .before .is-faulty .ensures ∙ ap isFaulty (c .before .before .before .before .before .before .before .before .before .before .before .before .before .before .before .status-seen .ensures)) ∙ c .before .before .before .before .before .before .before .before .before .before .before .before .before .if1 .left in load-aborts ws k (a .node) s g (c .before .before .before .before .before .before .before .before .load .ensures ∙ ap (λ (w : List ℕ). loadOf w k) (c .before .before .before .before .before .before .before .before .before .before .before .before .sector-of .ensures)) (c .before .if2 .left) (c .says2 .ensures)
+returns-3 c = let a = c .before .before .before .before .before .before .before .before .before .before .before .before .before .before .before .before .before .before .before .before .args in
+     let f = a .flash .now in
+     let ws = sectorOf f (a .sector) in
+     let m = memories (a .pm .now) (a .dm .now) (a .io .now) in
+     let s = seen (a .node) f (a .sector) in
+     let good : isFaulty s ≡ false = sym (c .before .before .before .before .before .before .before .before .before .before .before .before .before .before .is-faulty .ensures ∙ ap isFaulty (c .before .before .before .before .before .before .before .before .before .before .before .before .before .before .before .status-seen .ensures)) ∙ c .before .before .before .before .before .before .before .before .before .before .before .before .before .if1 .left in
+     load-aborts ws m (a .node) s good (c .before .before .before .before .before .before .before .before .load .ensures ∙ ap (λ (w : List ℕ). loadOf w m) (c .before .before .before .before .before .before .before .before .before .before .before .before .sector-of .ensures)) (c .before .if2 .left) (c .says2 .ensures)
 
 pub load-sector-spec : {M : Type 1} → statement M
 load-sector-spec =

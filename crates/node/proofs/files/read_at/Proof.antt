@@ -1,7 +1,9 @@
+use mathlib.Core.Path.{_≡_, refl, sym, ap, ap₂, subst, _∙_}
+use Rattle.node.proofs.Outcomes.{ends, closes, replies-as, sets-as}
+use Rattle.node.proofs.Commands.{ends-changed, changes-as, stores-as, served, unserved}
 use mathlib.Core.Path.{refl, sym, ap, _∙_}
 use Rattle.group.specs.declared.ZeroLength.{ZeroLength}
 use Rattle.node.specs.Effect.{lent, ownOutcome, Change}
-use Rattle.node.proofs.Commands.{says-by, changes-by, served, unserved}
 use Rattle.base.proofs.Pick.{yes, no, via}
 use Rattle.node.specs.Files.{readAt}
 use borrow.Author.Needs.{needs}
@@ -30,7 +32,8 @@ read-sector-requires c κs = search needs
 
 -- src/files.rt:87:1
 returns : tie.Need-returns
-returns c = let a = c .before .before .before .before .before .args in λ f m. says-by (a .node) ZeroLength.End (via (readAt (a .node) (a .flash .now)) (c .before .enum-told .given .1) refl) (c .says .ensures) (lent f m (a .reply .now))
+returns c = let a = c .before .before .before .before .before .args in
+     sets-as (a .node) (a .reply .now) (ends (a .node) ZeroLength.End (c .says .ensures) refl) (via (readAt (a .node) (a .flash .now)) (c .before .enum-told .given .1) refl)
 
 -- src/files.rt:87:1
 same-length : tie.Need-same-length
@@ -38,7 +41,8 @@ same-length c = search needs
 
 -- src/files.rt:87:1
 returns-2 : tie.Need-returns-2
-returns-2 c = let a = c .before .before .before .before .before .before .before .before .before .args in λ f m. c .before .before .read-sector .ensures f m ∙ ap (ownOutcome (a .node) (lent f m (a .reply .now))) (via (readAt (a .node) (a .flash .now)) (c .before .before .before .before .before .target .given .1) refl)
+returns-2 c = let a = c .before .before .before .before .before .before .before .before .before .args in
+     replies-as (a .node) (a .reply .now) (c .before .before .read-sector .ensures) (via (readAt (a .node) (a .flash .now)) (c .before .before .before .before .before .target .given .1) refl)
 
 pub read-at-spec : {M : Type 1} → statement M
 read-at-spec =

@@ -1,10 +1,11 @@
+use Rattle.node.proofs.Outcomes.{ends, closes, replies-as, sets-as}
+use Rattle.node.proofs.Commands.{ends-changed, changes-as, stores-as, served, unserved}
 use mathlib.Core.Path.{_≡_, refl, sym, ap, ap₂, subst, _∙_}
 use mathlib.Core.Bool.{false}
 use Rattle.group.specs.declared.ZeroLength.{ZeroLength}
 use Rattle.base.proofs.Pick.{yes, no, via}
 use borrow.Author.Tests.{eq-eqb, ne-eqb, le-leb, lt-leb, not-true, not-false}
 use Rattle.node.specs.Effect.{lent, ownOutcome, Change}
-use Rattle.node.proofs.Commands.{says-by, answers-by}
 use Rattle.flash.specs.Geometry.{sectorOf}
 use Rattle.flash.specs.declared.Status.{Status}
 use mathlib.Core.List.{List, [], _∷_}
@@ -43,7 +44,13 @@ says-requires c κs = search needs
 
 -- src/files.rt:74:17
 returns : tie.Need-returns
-returns c = let a = c .before .before .before .before .before .before .before .before .args in let n = a .node in let f = a .flash .now in let ws = sectorOf f (a .sector) in let by = readBy (statusIn n) ws in let end = c .before .before .before .status .given .0 .0 in let e : seen n f (a .sector) ≡ Status.Good end = sym (c .before .before .before .before .before .status-seen .ensures) ∙ c .before .before .before .status .given .1 in λ fl m. says-by n ZeroLength.Abort (via by e (no _ (lt-leb _ _ (c .before .if1 .taken)) refl)) (c .says .ensures) (lent fl m (a .reply .now))
+returns c = let a = c .before .before .before .before .before .before .before .before .args in
+     let f = a .flash .now in
+     let ws = sectorOf f (a .sector) in
+     let by = readBy (statusIn (a .node)) ws in
+     let end = c .before .before .before .status .given .0 .0 in
+     let e : seen (a .node) f (a .sector) ≡ Status.Good end = sym (c .before .before .before .before .before .status-seen .ensures) ∙ c .before .before .before .status .given .1 in
+     sets-as (a .node) (a .reply .now) (ends (a .node) ZeroLength.Abort (c .says .ensures) refl) (via by e (no _ (lt-leb _ _ (c .before .if1 .taken)) refl))
 
 -- src/files.rt:76:17
 sector-of-requires : tie.Need-sector-of-requires
@@ -59,7 +66,11 @@ part-copy-start c = search needs
 
 -- src/files.rt:77:34
 part-copy-end : tie.Need-part-copy-end
-part-copy-end c = let a = c .before .before .before .before .before .before .before .before .before .args in let n = a .node in let f = a .flash .now in let end = c .before .before .before .before .status .given .0 .0 in let e : seen n f (a .sector) ≡ Status.Good end = sym (c .before .before .before .before .before .before .status-seen .ensures) ∙ c .before .before .before .before .status .given .1 in subst (λ (w : List ℕ). end ≤ length w) (sym (c .before .sector-of .ensures)) (kept-good (n .directory) f (n .erasing) (a .sector) end e .fits)
+part-copy-end c = let a = c .before .before .before .before .before .before .before .before .before .args in
+     let f = a .flash .now in
+     let end = c .before .before .before .before .status .given .0 .0 in
+     let e : seen (a .node) f (a .sector) ≡ Status.Good end = sym (c .before .before .before .before .before .before .status-seen .ensures) ∙ c .before .before .before .before .status .given .1 in
+     subst (λ (w : List ℕ). end ≤ length w) (sym (c .before .sector-of .ensures)) (kept-good (a .node .directory) f (a .node .erasing) (a .sector) end e .fits)
 
 -- src/files.rt:77:13
 copy-requires : tie.Need-copy-requires
@@ -99,19 +110,40 @@ same-length c = search needs
 
 -- src/files.rt:66:1
 returns-2 : tie.Need-returns-2
-returns-2 c = let a = c .before .before .before .before .before .before .before .before .before .before .before .before .before .before .before .before .before .args in let n = a .node in let f = a .flash .now in let ws = sectorOf f (a .sector) in let by = readBy (statusIn n) ws in let end = c .before .before .before .before .before .before .before .before .before .before .before .before .status .given .0 .0 in let e : seen n f (a .sector) ≡ Status.Good end = sym (c .before .before .before .before .before .before .before .before .before .before .before .before .before .before .status-seen .ensures) ∙ c .before .before .before .before .before .before .before .before .before .before .before .before .status .given .1 in let l : length (take end ws) ≡ end = length-take-le end ws (kept-good (n .directory) f (n .erasing) (a .sector) end e .fits) in answers-by n false (take end ws) (a .reply .now) end l (omega (arith, c .before .before .before .before .before .before .before .before .before .before .before .before .before .before .before .before .before .pre, c .before .before .before .before .before .before .before .before .before .before .if1 .left)) (via by e (yes _ (le-leb _ _ (c .before .before .before .before .before .before .before .before .before .before .if1 .left)) refl)) (c .before .before .before .before .before .before .copy .ensures ∙ ap (laid (a .reply .now) 0) (ap₂ take (sub-zero end) (c .before .before .before .before .before .before .before .before .before .sector-of .ensures))) refl (c .before .before .close .ensures)
+returns-2 c = let a = c .before .before .before .before .before .before .before .before .before .before .before .before .before .before .before .before .before .args in
+     let f = a .flash .now in
+     let ws = sectorOf f (a .sector) in
+     let by = readBy (statusIn (a .node)) ws in
+     let end = c .before .before .before .before .before .before .before .before .before .before .before .before .status .given .0 .0 in
+     let e : seen (a .node) f (a .sector) ≡ Status.Good end = sym (c .before .before .before .before .before .before .before .before .before .before .before .before .before .before .status-seen .ensures) ∙ c .before .before .before .before .before .before .before .before .before .before .before .before .status .given .1 in
+     let l : length (take end ws) ≡ end = length-take-le end ws (kept-good (a .node .directory) f (a .node .erasing) (a .sector) end e .fits) in
+     closes (a .node) false (take end ws) (a .reply .now) (c .before .before .close .ensures)
+     (c .before .before .before .before .before .before .copy .ensures ∙ ap (laid (a .reply .now) 0) (ap₂ take (sub-zero end) (c .before .before .before .before .before .before .before .before .before .sector-of .ensures)))
+     (sym l) (omega (arith, l, c .before .before .before .before .before .before .before .before .before .before .before .before .before .before .before .before .before .pre, c .before .before .before .before .before .before .before .before .before .before .if1 .left)) (via by e (yes _ (le-leb _ _ (c .before .before .before .before .before .before .before .before .before .before .if1 .left)) refl))
 
 -- src/files.rt:66:1
 returns-3 : tie.Need-returns-3
-returns-3 c = let a = c .before .before .before .before .before .before .args in let n = a .node in let f = a .flash .now in let ws = sectorOf f (a .sector) in let by = readBy (statusIn n) ws in λ fl m. c .abort-faulty .ensures (lent fl m (a .reply .now)) ∙ ap (ownOutcome n (lent fl m (a .reply .now))) (via by (sym (c .before .before .before .status-seen .ensures) ∙ c .before .enum-told .given .1) refl)
+returns-3 c = let a = c .before .before .before .before .before .before .args in
+     let f = a .flash .now in
+     let ws = sectorOf f (a .sector) in
+     let by = readBy (statusIn (a .node)) ws in
+     sets-as (a .node) (a .reply .now) (c .abort-faulty .ensures) (via by (sym (c .before .before .before .status-seen .ensures) ∙ c .before .enum-told .given .1) refl)
 
 -- src/files.rt:66:1
 returns-4 : tie.Need-returns-4
-returns-4 c = let a = c .before .before .before .before .before .before .args in let n = a .node in let f = a .flash .now in let ws = sectorOf f (a .sector) in let by = readBy (statusIn n) ws in λ fl m. c .abort-faulty2 .ensures (lent fl m (a .reply .now)) ∙ ap (ownOutcome n (lent fl m (a .reply .now))) (via by (sym (c .before .before .before .status-seen .ensures) ∙ c .before .enum-told2 .given .1) refl)
+returns-4 c = let a = c .before .before .before .before .before .before .args in
+     let f = a .flash .now in
+     let ws = sectorOf f (a .sector) in
+     let by = readBy (statusIn (a .node)) ws in
+     sets-as (a .node) (a .reply .now) (c .abort-faulty2 .ensures) (via by (sym (c .before .before .before .status-seen .ensures) ∙ c .before .enum-told2 .given .1) refl)
 
 -- src/files.rt:66:1
 returns-5 : tie.Need-returns-5
-returns-5 c = let a = c .before .before .before .before .before .before .args in let n = a .node in let f = a .flash .now in let ws = sectorOf f (a .sector) in let by = readBy (statusIn n) ws in λ fl m. c .abort-faulty3 .ensures (lent fl m (a .reply .now)) ∙ ap (ownOutcome n (lent fl m (a .reply .now))) (via by (sym (c .before .before .before .status-seen .ensures) ∙ c .before .enum-told3 .given .1) refl)
+returns-5 c = let a = c .before .before .before .before .before .before .args in
+     let f = a .flash .now in
+     let ws = sectorOf f (a .sector) in
+     let by = readBy (statusIn (a .node)) ws in
+     sets-as (a .node) (a .reply .now) (c .abort-faulty3 .ensures) (via by (sym (c .before .before .before .status-seen .ensures) ∙ c .before .enum-told3 .given .1) refl)
 
 pub read-sector-spec : {M : Type 1} → statement M
 read-sector-spec =

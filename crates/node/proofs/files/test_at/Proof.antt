@@ -1,9 +1,16 @@
+use Prim.Native.Nat.{ℕ, _-_, _≤_}
+use Rattle.group.specs.Ending.{sealed}
+use Rattle.node.specs.Effect.{told}
+use Rattle.node.specs.Settings.{statusIn}
+use Rattle.node.specs.declared.Node.{Node}
+use mathlib.Core.Path.{_≡_, refl, sym, ap, ap₂, subst, _∙_}
+use Rattle.node.proofs.Outcomes.{ends, closes, replies-as, sets-as}
+use Rattle.node.proofs.Commands.{ends-changed, changes-as, stores-as, served, unserved}
 use mathlib.Core.Path.{refl, sym, ap, _∙_}
 use mathlib.Core.Bool.{Bool}
 use Rattle.group.specs.declared.ZeroLength.{ZeroLength}
 use Rattle.base.proofs.Pick.{yes, no, via}
 use Rattle.node.specs.Effect.{lent, ownOutcome, Change}
-use Rattle.node.proofs.Commands.{says-by, answers-by}
 use Rattle.flash.specs.declared.Status.{Status}
 use mathlib.Core.List.{List, [], _∷_}
 use Rattle.base.specs.Words.{laid}
@@ -72,7 +79,8 @@ close-requires c κs = search needs
 
 -- src/files.rt:134:1
 returns : tie.Need-returns
-returns c = let a = c .before .before .before .before .before .args in λ f m. says-by (a .node) ZeroLength.Abort (via (testAt (a .node) (a .flash .now)) (c .before .enum-told .given .1) refl) (c .says .ensures) (lent f m (a .reply .now))
+returns c = let a = c .before .before .before .before .before .args in
+     sets-as (a .node) (a .reply .now) (ends (a .node) ZeroLength.Abort (c .says .ensures) refl) (via (testAt (a .node) (a .flash .now)) (c .before .enum-told .given .1) refl)
 
 -- src/files.rt:134:1
 same-length : tie.Need-same-length
@@ -80,7 +88,14 @@ same-length c = search needs
 
 -- src/files.rt:134:1
 returns-2 : tie.Need-returns-2
-returns-2 c = let a = c .before .before .before .before .before .before .before .before .before .before .before .before .before .before .before .before .before .before .before .args in let n = a .node in let f = a .flash .now in let s = seen n f (c .before .before .before .before .before .before .before .before .before .before .before .before .before .before .before .target .given .0 .0) in answers-by n (isFaulty s) (statusWord (tested s) ∷ []) (a .reply .now) 1 refl (omega (arith, c .before .before .before .before .before .before .before .before .before .before .before .before .before .before .before .before .before .before .before .pre)) (via (testAt n f) (c .before .before .before .before .before .before .before .before .before .before .before .before .before .before .before .target .given .1) refl) (c .before .before .before .before .before .before .before .before .copy .ensures ∙ ap (λ (w : ℕ). laid (a .reply .now) 0 (w ∷ [])) (c .before .before .before .before .before .before .before .before .before .before .before .status-word .ensures ∙ ap (λ (t : Status). statusWord t) (c .before .before .before .before .before .before .before .before .before .before .before .before .tested-as .ensures ∙ ap tested (c .before .before .before .before .before .before .before .before .before .before .before .before .before .status-seen .ensures)))) (c .before .before .before .before .count-fault .ensures ∙ ap (λ (b : Bool). faulted b n) (c .before .before .before .before .before .is-faulty .ensures ∙ ap isFaulty (c .before .before .before .before .before .before .before .before .before .before .before .before .before .status-seen .ensures))) (c .before .before .close .ensures)
+returns-2 c = let a = c .before .before .before .before .before .before .before .before .before .before .before .before .before .before .before .before .before .before .before .args in
+     let s = seen (a .node) (a .flash .now) (c .before .before .before .before .before .before .before .before .before .before .before .before .before .before .before .target .given .0 .0) in
+     let w : List ℕ = statusWord (tested s) ∷ [] in
+     let copied = c .before .before .before .before .before .before .before .before .copy .ensures ∙ ap (λ (x : ℕ). laid (a .reply .now) 0 (x ∷ [])) (c .before .before .before .before .before .before .before .before .before .before .before .status-word .ensures ∙ ap (λ (t : Status). statusWord t) (c .before .before .before .before .before .before .before .before .before .before .before .before .tested-as .ensures ∙ ap tested (c .before .before .before .before .before .before .before .before .before .before .before .before .before .status-seen .ensures))) in
+     let counts = c .before .before .before .before .count-fault .ensures ∙ ap (λ (b : Bool). faulted b (a .node)) (c .before .before .before .before .before .is-faulty .ensures ∙ ap isFaulty (c .before .before .before .before .before .before .before .before .before .before .before .before .before .status-seen .ensures)) in
+     closes (a .node) (isFaulty s) w (a .reply .now)
+     (c .before .before .close .ensures ∙ ap (λ (n : Node). told n (sealed (c .before .before .before .before .before .before .before .before .copy .last .0) 1 (statusIn n))) counts)
+     copied refl (omega (arith, c .before .before .before .before .before .before .before .before .before .before .before .before .before .before .before .before .before .before .before .pre)) (via (testAt (a .node) (a .flash .now)) (c .before .before .before .before .before .before .before .before .before .before .before .before .before .before .before .target .given .1) refl)
 
 pub test-at-spec : {M : Type 1} → statement M
 test-at-spec =
