@@ -1,3 +1,13 @@
+use Rattle.node.specs.Effect.{Did, lent, ownOutcome}
+use borrow.Author.Tests.{eq-eqb, ne-eqb, le-leb, lt-leb, not-true, not-false}
+use Rattle.group.specs.declared.ZeroLength.{ZeroLength}
+use Rattle.node.proofs.Outcomes.{ends}
+use mathlib.Core.Path.{refl, ap, _∙_}
+use Prim.Native.Nat.{ℕ}
+use Rattle.base.proofs.Pick.{yes, no, via}
+use Rattle.node.specs.Effect.{lent, ownOutcome, Change}
+use Rattle.memory.specs.Segment.{memories}
+use Rattle.node.specs.Own.{filesOf}
 use borrow.Author.Needs.{needs}
 use Rattle.node.proofs.filing.files.Statement.{statement}
 use Rattle.node.proofs.filing.files.Tie as tie
@@ -54,7 +64,12 @@ same-length-2 c = search needs
 
 -- src/filing.rt:21:1
 returns : tie.Need-returns
-returns c = ?
+unfolding filesOf
+returns c = let a = c .before .before .before .before .before .before .before .before .before .before .before .before .args in
+     let m = memories (a .pm .now) (a .dm .now) (a .io .now) in
+     let l = lent (a .flash .now) m (a .reply .now) in
+     let by : ℕ → Did = λ id. filesOf id (a .node) l (a .packet .now) in
+     c .before .before .file-read .ensures (a .flash .now) m ∙ ap (ownOutcome (a .node) l) (via by (c .before .before .before .before .before .match .keys1) refl)
 
 -- src/filing.rt:21:1
 same-length-3 : tie.Need-same-length-3
@@ -62,7 +77,12 @@ same-length-3 c = search needs
 
 -- src/filing.rt:21:1
 returns-2 : tie.Need-returns-2
-returns-2 c = ?
+unfolding filesOf
+returns-2 c = let a = c .before .before .before .before .before .before .before .before .before .before .before .args in
+     let m = memories (a .pm .now) (a .dm .now) (a .io .now) in
+     let l = lent (a .flash .now) m (a .reply .now) in
+     let by : ℕ → Did = λ id. filesOf id (a .node) l (a .packet .now) in
+     c .before .before .file-write .ensures m (a .reply .now) ∙ ap (ownOutcome (a .node) l) (via by (c .before .before .before .before .match .keys2) refl)
 
 -- src/filing.rt:21:1
 same-length-4 : tie.Need-same-length-4
@@ -74,7 +94,12 @@ same-length-5 c = search needs
 
 -- src/filing.rt:21:1
 returns-3 : tie.Need-returns-3
-returns-3 c = ?
+unfolding filesOf
+returns-3 c = let a = c .before .before .before .before .before .before .before .before .before .before .before .before .args in
+     let m = memories (a .pm .now) (a .dm .now) (a .io .now) in
+     let l = lent (a .flash .now) m (a .reply .now) in
+     let by : ℕ → Did = λ id. filesOf id (a .node) l (a .packet .now) in
+     c .before .before .file-test .ensures (a .flash .now) m ∙ ap (ownOutcome (a .node) l) (via by (c .before .before .before .before .before .match .keys3) refl)
 
 -- src/filing.rt:21:1
 same-length-6 : tie.Need-same-length-6
@@ -94,7 +119,12 @@ same-length-9 c = search needs
 
 -- src/filing.rt:21:1
 returns-4 : tie.Need-returns-4
-returns-4 c = ?
+unfolding filesOf
+returns-4 c = let a = c .before .before .before .before .before .before .before .before .before .before .before .before .before .before .before .before .before .before .args in
+     let m = memories (a .pm .now) (a .dm .now) (a .io .now) in
+     let l = lent (a .flash .now) m (a .reply .now) in
+     let by : ℕ → Did = λ id. filesOf id (a .node) l (a .packet .now) in
+     c .before .before .before .before .before .before .file-load .ensures (a .flash .now) (a .reply .now) ∙ ap (ownOutcome (a .node) l) (via by (c .before .before .before .before .before .before .before .before .before .before .before .match .keys4) refl)
 
 -- src/filing.rt:21:1
 same-length-10 : tie.Need-same-length-10
@@ -102,7 +132,12 @@ same-length-10 c = search needs
 
 -- src/filing.rt:21:1
 returns-5 : tie.Need-returns-5
-returns-5 c = ?
+unfolding filesOf
+returns-5 c = let a = c .before .before .before .before .before .before .before .before .before .before .before .args in
+     let m = memories (a .pm .now) (a .dm .now) (a .io .now) in
+     let l = lent (a .flash .now) m (a .reply .now) in
+     let by : ℕ → Did = λ id. filesOf id (a .node) l (a .packet .now) in
+     c .before .before .summary .ensures (a .flash .now) m ∙ ap (ownOutcome (a .node) l) (via by (c .before .before .before .before .match .keys5) refl)
 
 -- src/filing.rt:21:1
 same-length-11 : tie.Need-same-length-11
@@ -110,7 +145,12 @@ same-length-11 c = search needs
 
 -- src/filing.rt:21:1
 returns-6 : tie.Need-returns-6
-returns-6 c = ?
+unfolding filesOf
+returns-6 c = let a = c .before .before .before .before .before .before .before .before .before .args in
+     let m = memories (a .pm .now) (a .dm .now) (a .io .now) in
+     let l = lent (a .flash .now) m (a .reply .now) in
+     let by : ℕ → Did = λ id. filesOf id (a .node) l (a .packet .now) in
+     c .erase-start .ensures m (a .reply .now) ∙ ap (ownOutcome (a .node) l) (via by (c .before .before .match .keys6) refl)
 
 -- src/filing.rt:21:1
 same-length-12 : tie.Need-same-length-12
@@ -118,11 +158,20 @@ same-length-12 c = search needs
 
 -- src/filing.rt:21:1
 returns-7 : tie.Need-returns-7
-returns-7 c = ?
+unfolding filesOf
+returns-7 c = let a = c .before .before .before .before .before .before .before .before .before .before .before .args in
+     let m = memories (a .pm .now) (a .dm .now) (a .io .now) in
+     let l = lent (a .flash .now) m (a .reply .now) in
+     let by : ℕ → Did = λ id. filesOf id (a .node) l (a .packet .now) in
+     c .before .before .attribute-set .ensures m (a .reply .now) ∙ ap (ownOutcome (a .node) l) (via by (c .before .before .before .before .match .keys7) refl)
 
 -- src/filing.rt:21:1
 returns-8 : tie.Need-returns-8
-returns-8 c = ?
+unfolding filesOf
+returns-8 c = let a = c .before .before .before .before .before .before .before .before .args in
+     ends (a .node) ZeroLength.Abort (c .says .ensures)
+     (no _ (ne-eqb _ _ (c .before .match .rest .0 .0 .0 .0 .0 .0 .1)) (no _ (ne-eqb _ _ (c .before .match .rest .0 .0 .0 .0 .0 .1)) (no _ (ne-eqb _ _ (c .before .match .rest .0 .0 .0 .0 .1)) (no _ (ne-eqb _ _ (c .before .match .rest .0 .0 .0 .1)) (no _ (ne-eqb _ _ (c .before .match .rest .0 .0 .1)) (no _ (ne-eqb _ _ (c .before .match .rest .0 .1)) (no _ (ne-eqb _ _ (c .before .match .rest .1)) refl)))))))
+     (lent (a .flash .now) (memories (a .pm .now) (a .dm .now) (a .io .now)) (a .reply .now))
 
 pub files-spec : {M : Type 1} → statement M
 files-spec =
