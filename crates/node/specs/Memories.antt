@@ -7,8 +7,14 @@ use lib.Dec.{eqb}
 use Rattle.base.specs.Pick.{pick}
 use Rattle.image.specs.declared.Memory.{Memory}
 use Rattle.group.specs.declared.ZeroLength.{ZeroLength}
+use Rattle.group.specs.Ending.{zeroReply, sealed}
+use Rattle.memory.specs.declared.Answer as memory
 use Rattle.memory.specs.Command.{readable, readAnswer, writable, performable, performAnswer}
-use Rattle.node.specs.Effect.{Did, did, says, stores, answers, Store}
+use Rattle.node.specs.State.{turn}
+use Rattle.node.specs.Effect.{Did, did, says, stores, answers, Store, Said, said, told}
+use Rattle.node.specs.Settings.{statusIn}
+use Rattle.node.specs.declared.Answer.{Answer}
+use Rattle.node.specs.declared.Node.{Node}
 
 -- The words of a read reply before status and FCS: any reply above 12,288 words is ABORT.
 abbrev pub dataRoom : ℕ
@@ -37,3 +43,8 @@ performIoOf status io packet =
     pick (performable (length io) (drop 1 packet) dataRoom)
     (withStore (answers status (performAnswer io (drop 1 packet))) (Store.Segment (drop 1 packet)))
     (says ZeroLength.Abort)
+
+-- What a memory answered, as the node says it: so many words at the front of the reply buffer closed by status and FCS, or ABORT.
+abbrev pub ended : Node → memory.Answer → List ℕ → Said
+ended n (memory.Answer.Words k) reply = told n (sealed reply k (statusIn n))
+ended n memory.Answer.Abort reply = said (turn n (Answer.Reply (zeroReply ZeroLength.Abort))) reply

@@ -48,3 +48,12 @@ withFlash n directory erasing = node (n .masks) directory (n .given) (n .mode) (
 abbrev pub faulted : Bool → Node → Node
 faulted fault n =
     node (n .masks) (n .directory) (n .given) (n .mode) (counts (n .counts .amswire) (counted fault (n .counts .flash))) (n .erasing) (n .pending)
+
+-- The node with one AMSWire error more, where there is one.
+abbrev pub errored : Bool → Node → Node
+errored error n =
+    node (n .masks) (n .directory) (n .given) (n .mode) (counts (counted error (n .counts .amswire)) (n .counts .flash)) (n .erasing) (n .pending)
+
+-- The node with something else pending, or nothing.
+abbrev pub withPending : Node → Pending → Node
+withPending n pending = node (n .masks) (n .directory) (n .given) (n .mode) (n .counts) (n .erasing) pending

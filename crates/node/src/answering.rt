@@ -2,7 +2,7 @@
 ghost use mathlib.Core.Path.{_≡_};
 ghost use Prim.Native.Nat.{_<_};
 ghost use Rattle.group.specs.Ending.{zeroReply, sealed};
-ghost use Rattle.node.specs.State.{turn, counted, faulted};
+ghost use Rattle.node.specs.State.{turn, counted, errored, faulted};
 ghost use Rattle.node.specs.Status.{some, ownStatus};
 ghost use Rattle.node.specs.Settings.{statusIn};
 ghost use Rattle.node.specs.Effect.{said, told};
@@ -32,6 +32,20 @@ pub fn count(error: bool, before: u16) -> u16
         }
     }
     before
+}
+
+// The node with one AMSWire error more, where there is one.
+pub fn count_error(node: Node, error: bool) -> Node
+    ensures { λ r. ⌜ r ≡ errored error node ⌝ }
+{
+    let mut next = node;
+    let counts = node.counts;
+    let raised = Counts {
+        amswire: count(error, counts.amswire),
+        flash: counts.flash,
+    };
+    next.counts = raised;
+    next
 }
 
 // The node with one FLASH error more, where there is one.

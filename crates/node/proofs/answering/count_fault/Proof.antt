@@ -2,7 +2,6 @@
 use mathlib.Core.Path.{ap}
 use Rattle.node.specs.State.{node, counts}
 use Prim.Native.Nat.{ℕ}
-use Prim.Native.Nat.{ℕ}
 use borrow.Author.Needs.{needs}
 use Rattle.node.proofs.answering.count_fault.Statement.{statement}
 use Rattle.node.proofs.answering.count_fault.Tie as tie

@@ -1,17 +1,13 @@
 -- `node::settings::lay_masks` meets its contract: the loop's invariant: what is left of the words, laid from here on, gives what all of them give. The measure is the slaves left. Assumes nothing.
-use Prim.Native.Nat.{suc}
-use lib.ListN.{set}
+use Prim.Native.Nat.{suc, ℕ, _+_, _≤_, _-_}
+use lib.ListN.{set, length, length-set}
 use mathlib.Core.Path.{_≡_, sym, ap, _∙_}
 use native.Mathlib.Omega.{arith}
-use Prim.Native.Nat.{ℕ, _+_, _≤_, _-_}
-use lib.ListN.{length, set}
 use Rattle.node.specs.Status.{maskWords, maskWordsFrom}
 use Rattle.base.specs.Words.{laid}
-use Prim.Native.Nat.{ℕ, _+_, _≤_, _-_}
 use borrow.Author.Needs.{needs}
 use Rattle.node.proofs.Masks.{mask-words-turn}
 use Rattle.base.proofs.Laid.{laid-none}
-use lib.ListN.{length, length-set}
 use Rattle.node.proofs.settings.lay_masks.Statement.{statement}
 use Rattle.node.proofs.settings.lay_masks.Tie as tie
 

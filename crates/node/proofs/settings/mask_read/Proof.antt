@@ -12,7 +12,6 @@ use mathlib.Core.Bool.{false}
 use Rattle.node.specs.Effect.{says, lent}
 use lib.ListN.{length}
 use Rattle.node.specs.Status.{maskWords, maskWordsFrom}
-use Rattle.node.proofs.Outcomes.{ends, closes}
 use Rattle.node.specs.Settings.{maskReadOf}
 use borrow.Author.Needs.{needs}
 use Rattle.node.proofs.settings.mask_read.Statement.{statement}

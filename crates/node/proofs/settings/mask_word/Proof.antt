@@ -1,15 +1,12 @@
 -- `node::settings::mask_word` meets its contract: the loop's invariant: the word is that of the masks from here on. The measure is the masks before here. Assumes nothing.
-use Prim.Native.Nat.{_^_}
+use Prim.Native.Nat.{_^_, ℕ, _+_, _*_, _/_, _%_, _≤_, _-_, _<_}
 use mathlib.Core.Path.{_≡_, sym, ap, _∙_}
 use native.Mathlib.Omega.{arith}
-use Prim.Native.Nat.{ℕ, _+_, _*_, _/_, _%_, _≤_, _-_}
 use mathlib.Core.List.{List}
-use lib.ListN.{length, getD, drop}
+use lib.ListN.{length, getD, drop, drop-of-length-le}
 use Rattle.node.specs.Status.{maskWord}
-use Prim.Native.Nat.{ℕ, _+_, _*_, _/_, _%_, _≤_, _<_, _-_}
 use borrow.Author.Needs.{needs}
 use Rattle.node.proofs.Masks.{mask-word-turn, mask-word-room}
-use lib.ListN.{length, drop-of-length-le, getD, drop}
 use Rattle.node.proofs.settings.mask_word.Statement.{statement}
 use Rattle.node.proofs.settings.mask_word.Tie as tie
 

@@ -3,14 +3,11 @@ use mathlib.Core.Path.{refl, ap, _∙_}
 use borrow.Author.Tests.{eq-eqb, ne-eqb, lt-ltb, le-ltb}
 use Rattle.base.proofs.Pick.{yes, no}
 use Rattle.node.specs.State.{node, withSettings}
-use Rattle.node.proofs.Outcomes.{ends}
+use Rattle.node.proofs.Outcomes.{ends, ends-set}
 use Rattle.group.specs.declared.ZeroLength.{ZeroLength}
 use Prim.Native.Nat.{ℕ, _+_, _*_, _/_, _%_}
 use Rattle.node.specs.Effect.{says, Setup}
 use lib.ListN.{getD, set}
-use Rattle.node.proofs.Outcomes.{ends, ends-set}
-use Prim.Native.Nat.{ℕ, _+_, _*_, _/_, _%_}
-use lib.ListN.{getD}
 use Rattle.node.specs.Settings.{maskWriteOf}
 use borrow.Author.Needs.{needs}
 use Rattle.node.proofs.settings.mask_write.Statement.{statement}

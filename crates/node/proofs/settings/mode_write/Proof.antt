@@ -4,7 +4,6 @@ use mathlib.Core.Path.{refl}
 use borrow.Author.Tests.{eq-eqb, ne-eqb, le-leb, lt-leb}
 use Rattle.base.proofs.Pick.{yes, no}
 use Rattle.node.specs.State.{node}
-use Rattle.node.proofs.Outcomes.{ends}
 use Rattle.group.specs.declared.ZeroLength.{ZeroLength}
 use Rattle.node.specs.Effect.{says, Setup}
 use lib.ListN.{getD}

@@ -2,20 +2,17 @@
 use Rattle.node.proofs.Outcomes.{ends, closes}
 use Rattle.base.specs.Words.{laid}
 use Prim.Native.Nat.{ℕ, _-_}
-use lib.ListN.{length, drop}
+use lib.ListN.{length, drop, length-drop}
 use lib.Seq.{take-all}
 use mathlib.Core.Path.{refl, sym, ap, _∙_}
 use borrow.Author.Tests.{le-leb, lt-leb}
 use Rattle.base.proofs.Pick.{yes, no}
 use Rattle.node.specs.State.{node}
-use Rattle.node.proofs.Outcomes.{ends, closes}
 use native.Mathlib.Omega.{arith}
 use Rattle.group.specs.declared.ZeroLength.{ZeroLength}
-use Prim.Native.Nat.{ℕ, _-_}
 use mathlib.Core.List.{List}
 use mathlib.Core.Bool.{false}
 use Rattle.node.specs.Effect.{says, lent}
-use lib.ListN.{length, drop, length-drop}
 use Rattle.node.specs.Settings.{pingOf}
 use borrow.Author.Needs.{needs}
 use Rattle.node.proofs.settings.ping.Statement.{statement}

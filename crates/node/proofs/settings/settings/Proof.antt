@@ -3,10 +3,9 @@ use mathlib.Core.Path.{refl}
 use borrow.Author.Tests.{eq-eqb, ne-eqb}
 use Rattle.base.proofs.Pick.{yes, no}
 use Rattle.node.specs.State.{node}
-use Rattle.node.proofs.Outcomes.{ends}
+use Rattle.node.proofs.Outcomes.{ends, replies-as, sets-as}
 use Rattle.group.specs.declared.ZeroLength.{ZeroLength}
 use Rattle.node.specs.Effect.{says}
-use Rattle.node.proofs.Outcomes.{ends, replies-as, sets-as}
 use Rattle.node.specs.Own.{settingsOf}
 use borrow.Author.Needs.{needs}
 use Rattle.node.proofs.settings.settings.Statement.{statement}

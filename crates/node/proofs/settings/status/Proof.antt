@@ -11,9 +11,7 @@ use mathlib.Core.List.{List, [], _∷_}
 use mathlib.Core.Bool.{false}
 use Rattle.node.specs.Effect.{says, lent}
 use Rattle.node.specs.Status.{attributes, statusWords}
-use Rattle.node.proofs.Outcomes.{ends, closes}
 use Rattle.base.specs.Words.{laid}
-use Prim.Native.Nat.{ℕ, _/_, _%_}
 use Rattle.node.specs.Settings.{statusOf}
 use borrow.Author.Needs.{needs}
 use Rattle.node.proofs.settings.status.Statement.{statement}

@@ -1,12 +1,9 @@
 -- `node::valid::masks_ok` meets its contract. The loop's invariant: whether the masks from here on are of 24 bits says it of all. The
 -- measure is how many are left. Assumes nothing.
 use mathlib.Core.Path.{_≡_, sym, _∙_}
-use Prim.Native.Nat.{_≤_}
+use Prim.Native.Nat.{_≤_, _-_}
 use lib.ListN.{length, drop}
 use Rattle.node.proofs.States.{masks-turn, masks-stop, masks-end}
-use Prim.Native.Nat.{_≤_, _-_}
-use mathlib.Core.Path.{_≡_}
-use lib.ListN.{length, drop}
 use borrow.Author.Needs.{needs}
 use Rattle.node.specs.Valid.{masksOk}
 use Rattle.node.proofs.valid.masks_ok.Statement.{statement}

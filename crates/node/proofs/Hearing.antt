@@ -1,0 +1,68 @@
+-- What is heard of a slave, as the outcome of the whole call: a reply sent, an answer taken into a group, and an error counted before
+-- either. Assumes nothing.
+use Prim.Native.Nat.{ℕ}
+use mathlib.Core.Path.{_≡_, refl, ap, _∙_}
+use mathlib.Core.Bool.{Bool}
+use mathlib.Core.List.{List}
+use lib.ListN.{length}
+use Rattle.group.specs.Kind.{answer}
+use Rattle.group.specs.Slaves.{above, nextOf}
+use Rattle.group.specs.Fragment.{Assembly, assembly, taken}
+use Rattle.group.specs.Ending.{Sent, sent}
+use Rattle.group.specs.declared.Heard.{Heard}
+use Rattle.group.specs.declared.Next.{Next}
+use Rattle.group.specs.declared.Reply.{Reply}
+use Rattle.node.specs.State.{turn, errored, withPending}
+use Rattle.node.specs.Effect.{Lent, Outcome, outcome, applied}
+use Rattle.node.specs.Slaves.{sends, goesOn, gathers, hears, withAmswire}
+use Rattle.node.specs.Calls.{lentReply}
+use Rattle.node.specs.declared.Answer.{Answer}
+use Rattle.node.specs.declared.Ask.{Ask}
+use Rattle.node.specs.declared.Gathering.{Gathering}
+use Rattle.node.specs.declared.Node.{Node}
+use Rattle.node.specs.declared.Pending.{Pending}
+use Rattle.node.specs.declared.Turn.{Turn}
+
+-- an answer of a node that is another
+pub turned : (l : Lent) {n n′ : Node} {a : Answer} → n ≡ n′ → outcome (turn n a) l ≡ outcome (turn n′ a) l
+turned l {a = a} e = ap (λ (n : Node). outcome (turn n a) l) e
+
+-- a reply is sent, and nothing is pending any more
+pub sends-told : (n : Node) (reply : List ℕ) (s : Sent) {r : Turn} {x : Reply} {after : List ℕ} → r ≡ turn (withPending n Pending.Nothing) (Answer.Reply x)
+    → sent after x ≡ s
+    → outcome r (lentReply after) ≡ applied n (lentReply reply) (sends s)
+sends-told n reply s {after = after} e h =
+    ap (λ (t : Turn). outcome t (lentReply after)) e
+    ∙ ap (λ (x : Sent). outcome (turn (withPending n Pending.Nothing) (Answer.Reply (x .reply))) (lentReply (x .buffer))) h
+
+module _ (n : Node) (a : Ask) (g : Gathering) (clock : ℕ) (h : Heard) (words reply : List ℕ) where
+  -- an answer is taken into a group, with the slaves above its own yet to ask
+  pub gathers-told : {left : ℕ} {next : Next} {m : Assembly} {x : Outcome} → x ≡ applied n (lentReply reply) (goesOn n a g clock m next)
+      → m ≡ taken (assembly reply (g .built)) left (a .slave) (answer h words)
+      → left ≡ length (above (g .set) (a .slave))
+      → next ≡ nextOf (above (g .set) (a .slave))
+      → x ≡ applied n (lentReply reply) (gathers n a g clock h words reply)
+  gathers-told {left} {next} e taken-answer some-left next-slave =
+      let took : ℕ → Assembly = λ k. taken (assembly reply (g .built)) k (a .slave) (answer h words) in
+      e
+      ∙ ap (λ (m : Assembly). applied n (lentReply reply) (goesOn n a g clock m next)) taken-answer
+      ∙ ap (λ (k : ℕ). applied n (lentReply reply) (goesOn n a g clock (took k) next)) some-left
+      ∙ ap (λ (x : Next). applied n (lentReply reply) (goesOn n a g clock (took (length (above (g .set) (a .slave)))) x)) next-slave
+
+-- the count of errors is nothing that decides what is done
+module _ (n : Node) (error : Bool) (clock : ℕ) (h : Heard) (words reply : List ℕ) where
+  goes-on-counted : (a : Ask) (g : Gathering) (m : Assembly) (next : Next) → applied (errored error n) (lentReply reply) (goesOn (errored error n) a g clock m next) ≡ applied n (lentReply reply) (withAmswire error (goesOn n a g clock m next))
+  goes-on-counted a g m (Next.Slave s) = refl
+  goes-on-counted a g m Next.Nobody = refl
+
+  hears-counted : (p : Pending) → applied (errored error n) (lentReply reply) (hears p (errored error n) clock h words reply) ≡ applied n (lentReply reply) (withAmswire error (hears p n clock h words reply))
+  hears-counted Pending.Nothing = refl
+  hears-counted (Pending.Slave a) = refl
+  hears-counted (Pending.Group a g) =
+      goes-on-counted a g
+      (taken (assembly reply (g .built)) (length (above (g .set) (a .slave))) (a .slave) (answer h words))
+      (nextOf (above (g .set) (a .slave)))
+
+  pub hears-told : {m : Node} {x : Outcome} → m ≡ errored error n → x ≡ applied m (lentReply reply) (hears (m .pending) m clock h words reply)
+      → x ≡ applied n (lentReply reply) (withAmswire error (hears (n .pending) n clock h words reply))
+  hears-told e q = q ∙ ap (λ (m : Node). applied m (lentReply reply) (hears (m .pending) m clock h words reply)) e ∙ hears-counted (n .pending)

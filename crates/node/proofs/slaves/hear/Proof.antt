@@ -1,0 +1,88 @@
+-- `node::slaves::hear` meets its contract, by what is pending. Assumes nothing.
+use mathlib.Core.Path.{ap}
+use Rattle.base.proofs.Pick.{via}
+use Rattle.node.specs.State.{turn, withPending}
+use Rattle.node.specs.Effect.{Outcome, outcome, applied}
+use Rattle.node.specs.Slaves.{hears}
+use Rattle.node.specs.Calls.{lentReply}
+use Rattle.node.specs.declared.Answer.{Answer}
+use Rattle.node.specs.declared.Pending.{Pending}
+use Rattle.node.proofs.Hearing.{sends-told, gathers-told}
+use borrow.Author.Needs.{needs}
+use Rattle.node.proofs.slaves.hear.Statement.{statement}
+use Rattle.node.proofs.slaves.hear.Tie as tie
+
+-- what is owed, by what is pending
+abbrev owed : tie.Start → Pending → Outcome
+owed s pending =
+    applied (s .args .node) (lentReply (s .args .reply .now))
+    (hears pending (s .args .node) (s .args .clock) (s .args .heard) (s .args .words .now) (s .args .reply .now))
+
+enum-told : tie.Need-enum-told
+enum-told c = search needs
+
+enum-told-2 : tie.Need-enum-told-2
+enum-told-2 c = search needs
+
+pass-on-requires : tie.Need-pass-on-requires
+pass-on-requires c κs = search needs
+
+send-requires : tie.Need-send-requires
+send-requires c κs = search needs
+
+enum-known-pending : tie.Need-enum-known-pending
+enum-known-pending c = search needs
+
+slaves-above-requires : tie.Need-slaves-above-requires
+slaves-above-requires c κs = search needs
+
+next-slave-requires : tie.Need-next-slave-requires
+next-slave-requires c κs = search needs
+
+take-answer-requires : tie.Need-take-answer-requires
+take-answer-requires c κs = search needs
+
+go-on-requires : tie.Need-go-on-requires
+go-on-requires c κs = search needs
+
+returns : tie.Need-returns
+returns c =
+    let s = c .before .before .before .before in
+    via (owed s) (c .enum-told .given .1)
+    (ap (λ (p : Pending). outcome (turn (withPending (s .args .node) p) Answer.Waiting) (lentReply (s .args .reply .now))) (c .enum-told .given .1))
+
+same-length : tie.Need-same-length
+same-length c = search needs
+
+returns-2 : tie.Need-returns-2
+returns-2 c =
+    let s = c .before .before .before .before .before .before .before .before .before in
+    via (owed s) (c .before .before .before .before .before .enum-told2 .given .1) (sends-told (s .args .node) (s .args .reply .now) _ (c .send .ensures) (c .before .before .before .pass-on .ensures))
+
+same-length-2 : tie.Need-same-length-2
+same-length-2 c = search needs
+
+returns-3 : tie.Need-returns-3
+returns-3 c =
+    let s = c .before .before .before .before .before .before .before .before .before .before .before .before .before .before .before .before in
+    via (owed s) (c .before .before .before .before .before .before .before .before .before .before .before .before .pending .given .1)
+    (gathers-told (s .args .node) _ _ (s .args .clock) (s .args .heard) (s .args .words .now) (s .args .reply .now) (c .before .before .go-on .ensures) (c .before .before .before .before .before .before .take-answer .ensures) (c .before .before .before .before .before .before .before .before .before .before .slaves-above .ensures) (c .before .before .before .before .before .before .before .before .before .next-slave .ensures))
+
+pub hear-spec : {M : Type 1} → statement M
+hear-spec =
+    tie.close
+    (tie.spec
+    enum-told
+    enum-told-2
+    pass-on-requires
+    send-requires
+    enum-known-pending
+    slaves-above-requires
+    next-slave-requires
+    take-answer-requires
+    go-on-requires
+    returns
+    same-length
+    returns-2
+    same-length-2
+    returns-3)
