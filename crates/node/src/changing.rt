@@ -29,7 +29,7 @@ use group::ZeroLength;
 use image::End;
 
 // The node with another directory and another erasure.
-fn with_flash(node: Node, directory: [u16; 32], erasing: Erasing) -> Node
+pub fn with_flash(node: Node, directory: [u16; 32], erasing: Erasing) -> Node
     ensures { λ r. ⌜ r ≡ withFlash node directory erasing ⌝ }
 {
     let masks = node.masks;
