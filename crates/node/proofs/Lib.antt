@@ -5,3 +5,5 @@ pub mod Loads
 pub mod Masks
 pub mod Hearing
 pub mod Access
+pub mod Taken
+pub mod Blanks
