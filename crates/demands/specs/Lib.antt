@@ -1,1 +1,3 @@
 pub mod Machine
+pub mod Events
+pub mod Groups

@@ -1,0 +1,129 @@
+-- Demand 2, of groups: a group's reply is its slaves' fragments in slave order, each slave asked once. 01 'Requests' step 4 and 'Group
+-- assembly'. Assumes nothing.
+use Prim.Native.Nat.{ℕ, _+_, _≤_, _<_}
+use mathlib.Core.Path.{_≡_}
+use mathlib.Core.Bool.{Bool, true, _||_}
+use mathlib.Core.List.{List, []}
+use lib.Dec.{eqb}
+use lib.ListN.{length, getD, take}
+use Rattle.base.specs.Pick.{pick}
+use Rattle.base.specs.Words.{laid, Below}
+use Rattle.group.specs.Kind.{Answer as Said}
+use Rattle.group.specs.Tally.{Every}
+use Rattle.group.specs.Slaves.{slavesOf}
+use Rattle.group.specs.Ending.{replied, zeroReply}
+use Rattle.group.specs.Whole.{kindsOf, assembled, dataReply}
+use Rattle.group.specs.declared.Kind.{Kind}
+use Rattle.group.specs.declared.Reply.{Reply}
+use Rattle.group.specs.declared.Tally.{Tally}
+use Rattle.group.specs.declared.ZeroLength.{ZeroLength}
+use Rattle.node.specs.Refusals.{isAsked}
+use Rattle.node.specs.Route.{firstByte, secondByte, maskIn}
+use Rattle.node.specs.Settings.{statusIn}
+use Rattle.node.specs.Effect.{Lent, Outcome}
+use Rattle.node.specs.declared.Answer.{Answer}
+use Rattle.node.specs.declared.Asking.{Asking}
+use Rattle.node.specs.declared.Node.{Node}
+use Rattle.node.specs.declared.Pending.{Pending}
+use Rattle.demands.specs.Machine.{Machine}
+use Rattle.demands.specs.Events.{Event, Host, host, hosted, Undropped, heards}
+
+-- A request to a group, by its first byte, and the set of slaves that it asks: 40 mask by ID in the second byte, 23 mask in the next
+-- three bytes, 2A all slaves.
+abbrev pub isGroup : List ℕ → Bool
+isGroup packet =
+    eqb (firstByte (getD packet 0 0)) 0x40 || (eqb (firstByte (getD packet 0 0)) 0x23 || eqb (firstByte (getD packet 0 0)) 0x2A)
+
+abbrev pub setAsked : Node → List ℕ → ℕ
+setAsked n packet =
+    pick (eqb (firstByte (getD packet 0 0)) 0x40) (getD (n .masks) (secondByte (getD packet 0 0)) 0)
+    (pick (eqb (firstByte (getD packet 0 0)) 0x23) (maskIn (getD packet 0 0) (getD packet 1 0)) 0xFFFFFF)
+
+-- A request to a group, whatever state, flash, memories and reply buffer it is lent, that is answered by asking a slave; then a run
+-- of calls that do not drop it.
+pub record GroupRun (M : Machine) : Type 0 where
+  pub node : Node
+  pub clock : ℕ
+  pub link : ℕ
+  pub bc : ℕ
+  pub errors : Bool
+  pub packet : List ℕ
+  pub lent : Lent
+  pub words : Below 65536 packet
+  pub group : isGroup packet ≡ true
+  pub asking : Asking
+  pub asks : M .request node clock link bc errors packet lent .turn .answer ≡ Answer.Ask asking
+  pub events : List Event
+  pub kept : Undropped link events
+
+module _ {M : Machine} (r : GroupRun M) where
+  -- Where the request leaves the host, and where the calls after it do.
+  abbrev pub begun : Host
+  begun =
+      let o : Outcome = M .request (r .node) (r .clock) (r .link) (r .bc) (r .errors) (r .packet) (r .lent) in
+      host [] (o .turn) (o .after .flash) (o .after .reply)
+
+  abbrev pub atLast : Host
+  atLast = hosted M (r .events) begun
+
+  -- The slaves of the set, ascending.
+  abbrev pub slaves : List ℕ
+  slaves = slavesOf (setAsked (r .node) (r .packet))
+
+  -- What they are heard to answer.
+  abbrev pub said : List Said
+  said = heards (r .clock) slaves (r .events)
+
+  -- What each of these answers is.
+  abbrev pub kinds : List Kind
+  kinds = kindsOf slaves said 0
+
+  -- The fragments of these answers, one behind the other.
+  abbrev pub fragments : List ℕ
+  fragments = assembled slaves said 0
+
+  -- The reply buffer as it was lent at first, with other words from word 0 on.
+  abbrev pub fronted : List ℕ → List ℕ
+  fronted ws = laid (r .lent .reply) 0 ws
+
+  -- This reply is sent, with the reply buffer so, and nothing is pending.
+  pub record Sends (reply : Reply) (ws : List ℕ) : Type 0 where
+    pub answer : atLast .turn .answer ≡ Answer.Reply reply
+    pub words : atLast .buffer ≡ fronted ws
+    pub nothing : atLast .turn .node .pending ≡ Pending.Nothing
+
+  -- All slaves the same 0-length reply: that reply. Otherwise the data reply: the fragments in slave order, the status word, in which
+  -- bit 9 is set unless every code is 0 with DAT, and the FCS.
+  pub record Ends : Type 0 where
+    pub common : (z : ZeroLength) → Every (Kind.Zero z) kinds → Sends (zeroReply z) fragments
+    pub whole : Every Kind.Whole kinds → Sends (replied 3 (length fragments + 2)) (dataReply fragments Tally.Whole (statusIn (r .node)))
+    pub mixed : ((z : ZeroLength) → Every (Kind.Zero z) kinds → ⊥) → (Every Kind.Whole kinds → ⊥)
+        → Sends (replied 3 (length fragments + 2)) (dataReply fragments Tally.Mixed (statusIn (r .node)))
+
+  -- Every slave has been heard; or there are more to come.
+  abbrev pub AllHeard : Type 0
+  AllHeard = length said ≡ length slaves
+
+  abbrev pub MoreToCome : Type 0
+  MoreToCome = length said < length slaves
+
+-- When every slave of the set has been heard, the reply is the slaves' fragments.
+abbrev pub GroupIsItsFragments : Machine → Type 0
+GroupIsItsFragments M = (r : GroupRun M) → AllHeard r → Ends r
+
+-- The slaves asked are those of the set, in order, each once: those heard, and the next one.
+abbrev pub EachAskedOnce : Machine → Type 0
+EachAskedOnce M = (r : GroupRun M) → atLast r .asked ≡ take (length (said r) + 1) (slaves r)
+
+-- With more to come, the fragments so far stand at the front of the buffer, and the next slave is being asked.
+abbrev pub FragmentsStand : Machine → Type 0
+FragmentsStand M =
+    (r : GroupRun M) → MoreToCome r
+    → (take (length (fragments r)) (atLast r .buffer) ≡ fragments r)
+    × (isAsked (atLast r .turn .node .pending) (getD (slaves r) (length (said r)) 0) ≡ true)
+
+-- With more to come, no word past the words built has been stored.
+abbrev pub NothingPastTheWords : Machine → Type 0
+NothingPastTheWords M =
+    (r : GroupRun M) → MoreToCome r
+    → (i : ℕ) → length (fragments r) ≤ i → getD (atLast r .buffer) i 0 ≡ getD (r .lent .reply) i 0
