@@ -81,7 +81,7 @@ module _ (n : Node) where
   pending-ok e = and-right (givenOk (n .given) && leb (n .mode) 3 && masksOk (n .masks) && erasingOk (n .given .«flash_words») (n .erasing)) _ e
 
 -- an erase step
-erase-quiet : (h : Host) (budget : ℕ) → Quiet h (stepped logodwen (Event.Erased budget) h)
+pub erase-quiet : (h : Host) (budget : ℕ) → Quiet h (stepped logodwen (Event.Erased budget) h)
 unfolding eraseOf eraseVerdict stateOk
 erase-quiet h budget = go (eraseVerdict n (length flash)) refl
   where
@@ -110,7 +110,7 @@ erase-quiet h budget = go (eraseVerdict n (length flash)) refl
     go (Verdict.No r) e = record { pending = refl; ok = λ v. v; buffer = refl; status = refl; asked = append-nil (h .asked) }
 
 -- a request that does not drop the group is refused, or has 0 words
-request-quiet : {link from set own at s : ℕ} {ss : List ℕ} {b : Built} {h : Host} → Going link from set own at s ss b h
+pub request-quiet : {link from set own at s : ℕ} {ss : List ℕ} {b : Built} {h : Host} → Going link from set own at s ss b h
     → (clock l bc : ℕ) (errors : Bool) (packet : List ℕ) (m : Memories) → dropsGroup link (Event.Requested clock l bc errors packet m) ≡ false
     → Quiet h (stepped logodwen (Event.Requested clock l bc errors packet m) h)
 unfolding requestOf requestVerdict routeOf stateOk
@@ -152,11 +152,11 @@ request-quiet {link} {from} {set} {own} {at} {s} {ss} {b} {h} k clock l bc error
     go (Verdict.No r) e = record { pending = refl; ok = λ v. v; buffer = refl; status = refl; asked = append-nil (h .asked) }
 
 -- a reply or a poll as it is taken
-abbrev becomes : Host → Effect → Host
+abbrev pub becomes : Host → Effect → Host
 becomes h e = host (h .asked) (turn (nodeAfter (h .turn .node) [] e) (e .answer)) (h .flash) (e .reply)
 
 -- what it does when slave s is heard with those of ss to follow
-abbrev hearing : Host → (link from set at s : ℕ) → List ℕ → Built → ℕ → Bool → Said → Effect
+abbrev pub hearing : Host → (link from set at s : ℕ) → List ℕ → Built → ℕ → Bool → Said → Effect
 hearing h link from set at s ss b clock errors a =
     withAmswire errors
     (goesOn (h .turn .node) (ask link s at) (gathering set from b) clock (taken (assembly (h .buffer) b) (length ss) s a) (nextOf ss))

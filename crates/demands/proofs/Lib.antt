@@ -1,2 +1,3 @@
 pub mod Pendings
 pub mod Events
+pub mod Groups
