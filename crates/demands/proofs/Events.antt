@@ -1,22 +1,20 @@
 -- One call of a group's host: it is nothing to the group, or a slave is heard and the next one asked, or the last one is heard and the
 -- group ends. By walking what refuses the call and what it does. Assumes nothing.
-use Prim.Native.Nat.{ℕ, suc, _+_, _*_, _/_, _≤_, _<_}
+use Prim.Native.Nat.{ℕ, suc, _+_, _*_, _/_, _≤_}
 use mathlib.Core.Path.{_≡_, refl, sym, ap, _∙_}
 use mathlib.Core.Bool.{Bool, true, false, _&&_, _||_, not, false≢true}
-use mathlib.Core.List.{List, [], _∷_, _++_, append-nil}
+use mathlib.Core.List.{List, [], _∷_, append-nil}
 use native.Mathlib.Omega.{arith}
 use lib.Dec.{eqb, leb, ltb}
-use lib.ListN.{length, getD}
-use borrow.Author.Tests.{eq-eqb, eqb-true, le-leb, leb-false, le-ltb, not-true, not-false}
+use lib.ListN.{length}
+use borrow.Author.Tests.{eq-eqb, eqb-true, leb-false, le-ltb, not-false}
 use Rattle.base.specs.Pick.{pick}
-use Rattle.base.proofs.Pick.{yes, no, pick-case, pick-second, and-left, and-right}
-use Rattle.flash.specs.Geometry.{unitOf}
+use Rattle.base.proofs.Pick.{yes, no, pick-second, and-left, and-right}
 use Rattle.flash.specs.Change.{erasingAfter}
 use Rattle.group.specs.Time.{isLate}
-use Rattle.group.specs.Kind.{answer, Answer as Said}
+use Rattle.group.specs.Kind.{answer, Answer as SlaveAnswer}
 use Rattle.group.specs.Slaves.{above, nextOf}
 use Rattle.group.specs.Fragment.{Assembly, assembly, taken, fragmentOf}
-use Rattle.group.specs.Ending.{Sent, endOf}
 use Rattle.group.specs.declared.Built.{Built}
 use Rattle.group.specs.declared.Heard.{Heard}
 use Rattle.group.specs.declared.Next.{Next}
@@ -26,10 +24,10 @@ use Rattle.group.proofs.Takes.{taken-fits, taken-changes}
 use Rattle.memory.specs.Segment.{Memories}
 use Rattle.node.specs.State.{turn}
 use Rattle.node.specs.Valid.{sizeOk, givenOk, masksOk, erasingOk, pendingOk, stateOk}
-use Rattle.node.specs.Refusals.{Cause, firstOf, isPending, isAsked, flashCause, replyCause, memoryCause, linkCause, slaveCause, stateCause, busyCause, unaskedCause, requestVerdict, replyVerdict, pollVerdict, eraseVerdict}
+use Rattle.node.specs.Refusals.{Cause, firstOf, isPending, isAsked, flashCause, replyCause, memoryCause, linkCause, stateCause, busyCause, requestVerdict, replyVerdict, pollVerdict, eraseVerdict}
 use Rattle.node.specs.Route.{bcOf, drops, routeOf}
 use Rattle.node.specs.Settings.{statusIn}
-use Rattle.node.specs.Effect.{Effect, only, Lent, lent, Outcome, applied, nodeAfter}
+use Rattle.node.specs.Effect.{Effect, only, Lent, lent, Outcome, nodeAfter}
 use Rattle.node.specs.Slaves.{ask, gathering, heard, silent, goesOn, hears, askedAt, withAmswire, errorIn, replyEffect, pollEffect}
 use Rattle.node.specs.Calls.{judged, lentReply, lentFlash, routed, requestOf, replyOf, pollOf, eraseEffect, eraseOf}
 use Rattle.node.specs.declared.Answer.{Answer}
@@ -156,7 +154,7 @@ abbrev pub becomes : Host → Effect → Host
 becomes h e = host (h .asked) (turn (nodeAfter (h .turn .node) [] e) (e .answer)) (h .flash) (e .reply)
 
 -- what it does when slave s is heard with those of ss to follow
-abbrev pub hearing : Host → (link from set at s : ℕ) → List ℕ → Built → ℕ → Bool → Said → Effect
+abbrev pub hearing : Host → (link from set at s : ℕ) → List ℕ → Built → ℕ → Bool → SlaveAnswer → Effect
 hearing h link from set at s ss b clock errors a =
     withAmswire errors
     (goesOn (h .turn .node) (ask link s at) (gathering set from b) clock (taken (assembly (h .buffer) b) (length ss) s a) (nextOf ss))
@@ -239,7 +237,7 @@ module _ {link from set own at s : ℕ} {ss : List ℕ} {b : Built} {h : Host} (
 
 -- with a slave heard, the next one is asked
 pub heard-goes : {link from set own at s s′ : ℕ} {ss : List ℕ} {b : Built} {h : Host} → Going link from set own at s (s′ ∷ ss) b h
-    → (clock : ℕ) (errors : Bool) (a : Said)
+    → (clock : ℕ) (errors : Bool) (a : SlaveAnswer)
     → Going link from set own clock s′ ss (taken (assembly (h .buffer) b) (suc (length ss)) s a .built)
     (becomes h (hearing h link from set at s (s′ ∷ ss) b clock errors a))
 unfolding stateOk

@@ -1,6 +1,6 @@
 -- A group's calls, one after another, lay the fragments of its slaves' answers: by one induction over the calls, which says where the
 -- host stands after any run of them. Assumes nothing.
-use Prim.Native.Nat.{ℕ, zero, suc, _+_, _*_, _≤_, _<_}
+use Prim.Native.Nat.{ℕ, suc, _+_, _*_, _≤_, _<_}
 use mathlib.Core.Path.{_≡_, refl, sym, ap, _∙_}
 use mathlib.Core.Bool.{Bool, true, false, _&&_, _||_, not, false≢true}
 use mathlib.Core.List.{List, [], _∷_, _++_, append-nil, append-assoc}
@@ -8,31 +8,32 @@ use native.Mathlib.Numerals.{add-one}
 use native.Mathlib.Omega.{arith}
 use lib.Dec.{eqb, leb, ltb}
 use lib.ListN.{length, getD, take}
+use lib.Seq.{take-all}
 use borrow.Author.Tests.{eq-eqb, eqb-true, leb-true, leb-false, lt-ltb, ltb-false, not-false}
 use Rattle.base.specs.Pick.{pick}
-use Rattle.base.specs.Words.{laid, Below}
+use Rattle.base.specs.Words.{laid}
 use Rattle.base.proofs.Pick.{yes, no, pick-case, and-left, and-right}
 use Rattle.base.proofs.Laid.{getD-laid-after, part-laid}
 use Rattle.group.specs.Time.{isLate}
-use Rattle.group.specs.Kind.{answer, Answer as Said}
+use Rattle.group.specs.Kind.{answer, Answer as SlaveAnswer}
 use Rattle.group.specs.Tally.{Every, tallyFrom}
 use Rattle.group.specs.Slaves.{slavesOf, nextOf}
 use Rattle.group.specs.Fragment.{Assembly, assembly, built, taken}
 use Rattle.group.specs.Ending.{Sent, replied, groupStatus, endOf}
-use Rattle.group.specs.Whole.{kindsOf, assembled, takenAll, dataReply, groupSent, groupOf}
+use Rattle.group.specs.Whole.{kindsOf, takenAll, dataReply, groupSent, groupOf}
 use Rattle.group.specs.declared.Built.{Built}
 use Rattle.group.specs.declared.Kind.{Kind}
+use Rattle.group.specs.declared.Reply.{Reply}
 use Rattle.group.specs.declared.Tally.{Tally}
 use Rattle.group.specs.declared.ZeroLength.{ZeroLength}
 use Rattle.group.proofs.Sets.{up-tells, length-slaves}
 use Rattle.group.proofs.Groups.{assembled-room, taken-all, group-sent}
 use Rattle.group.proofs.Tallies.{Keeps, zero-keeps, whole-keeps, common-tells, common-told}
-use Rattle.memory.specs.Segment.{Memories}
 use Rattle.node.specs.Valid.{givenOk, masksOk, erasingOk, stateOk}
 use Rattle.node.specs.Refusals.{isPending, isAsked, flashCause, replyCause, memoryCause, linkCause, stateCause, busyCause, requestVerdict}
-use Rattle.node.specs.Route.{asking, firstByte, secondByte, bcOf, drops, forwarded, groupFrom, grouped, maskIn, portOk, addressed, routeOf}
+use Rattle.node.specs.Route.{asking, firstByte, secondByte, bcOf, drops, groupFrom, grouped, maskIn, addressed, routeOf}
 use Rattle.node.specs.Settings.{statusIn}
-use Rattle.node.specs.Effect.{Lent, Outcome}
+use Rattle.node.specs.Effect.{Effect, Lent, Outcome}
 use Rattle.node.specs.Slaves.{heard, silent, errorIn}
 use Rattle.node.specs.Calls.{judged, routed, requestOf}
 use Rattle.node.specs.declared.Answer.{Answer}
@@ -41,10 +42,11 @@ use Rattle.node.specs.declared.Pending.{Pending}
 use Rattle.node.specs.declared.Route.{Route}
 use Rattle.node.specs.declared.Verdict.{Verdict}
 use Rattle.demands.specs.Machine.{logodwen}
-use Rattle.demands.specs.Events.{Event, Host, host, stepped, hosted, dropsGroup, Undropped, heards}
-use Rattle.demands.specs.Groups.{isGroup, setAsked, GroupRun, begun, atLast, slaves, said, kinds, fragments, Sends, GroupIsItsFragments, EachAskedOnce, FragmentsStand, NothingPastTheWords}
+use Rattle.demands.specs.Events.{Event, Host, host, stepped, hosted, Undropped, heards}
+use Rattle.demands.specs.Groups.{setAsked, GroupRun, begun, atLast, slaves, said, kinds, fragments, Sends, GroupIsItsFragments, AskedInOrder, EachAskedOnce, FragmentsStand, NothingPastTheWords}
 use Rattle.demands.proofs.Pendings.{and-both, mask-below, group-told}
-use Rattle.demands.proofs.Events.{Going, Quiet, NoneHolds, fine-tells, becomes, hearing, erase-quiet, request-quiet, stray-quiet, wait-quiet, reply-heard, late-heard, heard-goes, quiet-goes}
+use Rattle.demands.proofs.Slaves.{slaves-exactly}
+use Rattle.demands.proofs.Events.{Going, Quiet, fine-tells, becomes, hearing, erase-quiet, request-quiet, stray-quiet, wait-quiet, reply-heard, late-heard, heard-goes, quiet-goes}
 
 -- a group that has ended
 record Over (h : Host) (x : Sent) : Type 0 where
@@ -53,7 +55,7 @@ record Over (h : Host) (x : Sent) : Type 0 where
   nothing : h .turn .node .pending ≡ Pending.Nothing
 
 -- where the host stands when of slave s, now asked, and those of ss so many have been heard
-record Ran (own : ℕ) (m : Assembly) (s : ℕ) (ss : List ℕ) (hs : List Said) (before : List ℕ) (h : Host) : Type 0 where
+record Ran (own : ℕ) (m : Assembly) (s : ℕ) (ss : List ℕ) (hs : List SlaveAnswer) (before : List ℕ) (h : Host) : Type 0 where
   going : length hs < suc (length ss) → (h .buffer ≡ takenAll m (s ∷ ss) hs .reply) × (isAsked (h .turn .node .pending) (getD (s ∷ ss) (length hs) 0) ≡ true)
   ended : length hs ≡ suc (length ss) → Over h (endOf (takenAll m (s ∷ ss) hs) own)
   asked : h .asked ≡ before ++ take (length hs) ss
@@ -67,11 +69,11 @@ unfolding hosted
 hosted-over [] h p = refl
 hosted-over (e ∷ es) h p = ap (λ (x : Pending). pick (isPending x) (hosted logodwen es (stepped logodwen e h)) h) p
 
-ran-from : {own : ℕ} {b : Built} {s : ℕ} {ss : List ℕ} {hs : List Said} {from from′ before before′ : List ℕ} {x : Host} → from′ ≡ from → before′ ≡ before
+ran-from : {own : ℕ} {b : Built} {s : ℕ} {ss : List ℕ} {hs : List SlaveAnswer} {from from′ before before′ : List ℕ} {x : Host} → from′ ≡ from → before′ ≡ before
     → Ran own (assembly from′ b) s ss hs before′ x → Ran own (assembly from b) s ss hs before x
 ran-from p q r = rw (p, q) at r
 
-ran-quiet : {own : ℕ} {b : Built} {s : ℕ} {ss : List ℕ} {hs : List Said} {h h′ x : Host} → Quiet h h′ → Ran own (assembly (h′ .buffer) b) s ss hs (h′ .asked) x → Ran own (assembly (h .buffer) b) s ss hs (h .asked) x
+ran-quiet : {own : ℕ} {b : Built} {s : ℕ} {ss : List ℕ} {hs : List SlaveAnswer} {h h′ x : Host} → Quiet h h′ → Ran own (assembly (h′ .buffer) b) s ss hs (h′ .asked) x → Ran own (assembly (h .buffer) b) s ss hs (h .asked) x
 ran-quiet q r = ran-from (q .buffer) (q .asked) r
 
 -- a run from the next slave on, whatever slave that is
@@ -81,7 +83,7 @@ Next link from set own clock es =
     → Ran own (assembly (h .buffer) b) s ss (heards clock (s ∷ ss) es) (h .asked) (hosted logodwen es h)
 
 ran-heard : {link from set own at s : ℕ} (ss : List ℕ) {b : Built} {h : Host} → Going link from set own at s ss b h
-    → (clock : ℕ) (errors : Bool) (a : Said) (es : List Event) → Next link from set own clock es
+    → (clock : ℕ) (errors : Bool) (a : SlaveAnswer) (es : List Event) → Next link from set own clock es
     → Ran own (assembly (h .buffer) b) s ss (a ∷ heards clock ss es) (h .asked) (hosted logodwen es (becomes h (hearing h link from set at s ss b clock errors a)))
 unfolding heards takenAll
 ran-heard {link} {from} {set} {own} {at} {s} [] {b} {h} k clock errors a es next =
@@ -143,7 +145,7 @@ module _ (r : GroupRun logodwen) where
   abbrev byte : ℕ
   byte = firstByte (getD (r .packet) 0 0)
 
-  abbrev does : Route → Rattle.node.specs.Effect.Effect
+  abbrev does : Route → Effect
   does x = routed x (r .node) (r .clock) (r .link) (r .packet) (r .lent)
 
   record Found (x : Route) : Type 0 where
@@ -157,7 +159,7 @@ module _ (r : GroupRun logodwen) where
   abbrev Finds : Route → Type 0
   Finds x = does x .answer ≡ Answer.Ask (r .asking) → Found x
 
-  reply-asks : (x : Rattle.group.specs.declared.Reply.Reply) → Answer.Reply x ≡ Answer.Ask (r .asking) → ⊥
+  reply-asks : (x : Reply) → Answer.Reply x ≡ Answer.Ask (r .asking) → ⊥
   reply-asks x e = let z : _≡_ {A = ℕ} 0 1 = cc in omega arith
 
   group-found : (from x : ℕ) → (eqb from 1 || eqb from 2) ≡ true → x ≡ set → Finds (grouped (r .node .given .kind) (length (r .packet)) from x)
@@ -184,7 +186,7 @@ module _ (r : GroupRun logodwen) where
       (λ _. pick-case Finds (eqb (length (r .packet)) 0)
       (λ _. pick-case Finds (drops (r .node .pending) (r .link) (r .bc)) (λ _ a. absurd (reply-asks _ a)) (λ _ a. absurd (reply-asks _ a)))
       (λ _. pick-case Finds (ltb 8192 (length (r .packet)) || not (eqb (bcOf (r .bc)) 3)) (λ _ a. absurd (reply-asks _ a))
-      (λ _. pick-case Finds (eqb byte 0x2E) (λ e. absurd (other 0x2E (eqb-true byte 0x2E e)))
+      (λ _. pick-case Finds (eqb byte 0x2E) (λ e. absurd (other (eqb-true byte 0x2E e)))
       (λ _. pick-case Finds (leb byte 0x17) (λ e. absurd (low (leb-true byte 0x17 e)))
       (λ _. pick-case Finds (eqb byte 0x40)
       (λ e. pick-case Finds (leb (secondByte (getD (r .packet) 0 0)) 15)
@@ -196,8 +198,8 @@ module _ (r : GroupRun logodwen) where
       low : byte ≤ 0x17 → ⊥
       low h = let e = group-byte (λ a. omega arith) (λ a. omega arith) in omega arith
 
-      other : (x : ℕ) → byte ≡ 0x2E → ⊥
-      other x h = let e = group-byte (λ a. omega arith) (λ a. omega arith) in omega arith
+      other : byte ≡ 0x2E → ⊥
+      other h = let e = group-byte (λ a. omega arith) (λ a. omega arith) in omega arith
 
   -- the set of a valid state and of a packet's words has 24 bits
   set-below : stateOk (r .node) ≡ true → set < 16777216
@@ -270,7 +272,7 @@ module _ (r : GroupRun logodwen) where
       go (Verdict.No x) e a = let z : _≡_ {A = ℕ} 0 1 = cc in absurd (omega arith)
 
 -- where the host stands after a run, in the words of the statements
-record Stands (r : GroupRun logodwen) (ss : List ℕ) (hs : List Said) : Type 0 where
+record Stands (r : GroupRun logodwen) (ss : List ℕ) (hs : List SlaveAnswer) : Type 0 where
   going : length hs < length ss
       → (atLast r .buffer ≡ takenAll (assembly (r .lent .reply) (built 0 Tally.Nothing)) ss hs .reply)
       × (isAsked (atLast r .turn .node .pending) (getD ss (length hs) 0) ≡ true)
@@ -307,8 +309,13 @@ module _ (r : GroupRun logodwen) where
   fits : 0 + length (fragments r) ≤ length buffer
   fits = omega (arith, assembled-room (slaves r) (said r) 0 room, stands .space)
 
+pub asked-in-order : AskedInOrder logodwen
+asked-in-order r = stands r .asked
+
 pub each-asked-once : EachAskedOnce logodwen
-each-asked-once r = stands r .asked
+each-asked-once r all =
+    let e : atLast r .asked ≡ slaves r = stands r .asked ∙ take-all (length (said r) + 1) (slaves r) (omega (arith, all)) in
+    rw e (slaves-exactly (setAsked (r .node) (r .packet)))
 
 pub fragments-stand : FragmentsStand logodwen
 fragments-stand r l =
@@ -319,7 +326,7 @@ nothing-past-the-words r l i h =
     ap (λ (x : List ℕ). getD x i 0) (so-far r l) ∙ getD-laid-after (r .lent .reply) 0 (fragments r) (fits r) i (omega (arith, h))
 
 -- there is one kind for each slave heard
-kinds-some : (ss : List ℕ) (hs : List Said) (w : ℕ) → length hs ≡ length ss → 0 < length ss → 0 < length (kindsOf ss hs w)
+kinds-some : (ss : List ℕ) (hs : List SlaveAnswer) (w : ℕ) → length hs ≡ length ss → 0 < length ss → 0 < length (kindsOf ss hs w)
 unfolding kindsOf
 kinds-some [] hs w e l = l
 kinds-some (s ∷ ss) [] w e l = absurd (omega arith)

@@ -1,3 +1,4 @@
 pub mod Pendings
 pub mod Events
+pub mod Slaves
 pub mod Groups

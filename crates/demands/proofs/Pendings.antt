@@ -1,8 +1,8 @@
--- States in which a group is pending: what is known of them, and that a slave's answer and a step of an erasure leave such a state, or
--- one with nothing pending. By the tests of refusal 5, with the room kept from one slave to the next. Assumes nothing.
-use Prim.Native.Nat.{ℕ, zero, suc, _+_, _-_, _*_, _/_, _≤_, _<_}
-use mathlib.Core.Path.{_≡_, refl, sym, ap, _∙_}
-use mathlib.Core.Bool.{Bool, true, false, _&&_, _||_}
+-- States in which a group is pending: what is known of them, what is asked of one, and that a step of an
+-- erasure leaves a state. By the tests of refusal 5. Assumes nothing.
+use Prim.Native.Nat.{ℕ, zero, suc, _+_, _*_, _/_, _≤_, _<_}
+use mathlib.Core.Path.{_≡_, refl, sym, ap}
+use mathlib.Core.Bool.{Bool, true, _&&_, _||_}
 use mathlib.Core.List.{List, [], _∷_}
 use native.Mathlib.Omega.{arith}
 use lib.Dec.{eqb, leb, ltb}
@@ -12,18 +12,11 @@ use Rattle.base.proofs.Pick.{pick-case, and-left, and-right, and-yes}
 use Rattle.flash.specs.Geometry.{isSector, sizeOf}
 use Rattle.flash.specs.Change.{restOf, erasingAfter}
 use Rattle.flash.specs.declared.Erasing.{Erasing}
-use Rattle.group.specs.Kind.{Answer}
 use Rattle.group.specs.Slaves.{hasSlave, slavesUp, above}
-use Rattle.group.specs.Fragment.{Assembly, assembly, taken, fragmentOf}
 use Rattle.group.specs.declared.Built.{Built}
 use Rattle.group.proofs.Sets.{up-tells}
-use Rattle.group.proofs.Rooms.{room-kept}
-use Rattle.group.proofs.Takes.{taken-fits}
-use Rattle.node.specs.Valid.{masksOk, erasingOk, askOk, gatheringOk, pendingOk, givenOk, stateOk}
-use Rattle.node.specs.Slaves.{ask, gathering, goesOn}
-use Rattle.node.specs.declared.Ask.{Ask}
-use Rattle.node.specs.declared.Gathering.{Gathering}
-use Rattle.node.specs.declared.Node.{Node}
+use Rattle.node.specs.Valid.{masksOk, erasingOk, askOk, pendingOk}
+use Rattle.node.specs.Slaves.{ask, gathering}
 use Rattle.node.specs.declared.Pending.{Pending}
 
 pub and-both : {t u : Bool} → t ≡ true → u ≡ true → (t && u) ≡ true

@@ -8,7 +8,7 @@ use lib.Dec.{eqb}
 use lib.ListN.{length}
 use Rattle.base.specs.Pick.{pick}
 use Rattle.group.specs.Time.{isLate}
-use Rattle.group.specs.Kind.{answer, Answer as Said}
+use Rattle.group.specs.Kind.{answer, Answer as SlaveAnswer}
 use Rattle.memory.specs.Segment.{Memories}
 use Rattle.node.specs.Refusals.{isPending}
 use Rattle.node.specs.Route.{bcOf}
@@ -75,7 +75,7 @@ Undropped link (e ∷ es) = (dropsGroup link e ≡ false) × Undropped link es
 
 -- What these slaves are heard to answer, the first asked at a clock, each next one when the one before has ended: the reply of the
 -- slave now being asked, a timeout if it comes too late; and a timeout where a poll finds it too late. Other calls are nothing to it.
-unfoldable pub heards : ℕ → List ℕ → List Event → List Said
+unfoldable pub heards : ℕ → List ℕ → List Event → List SlaveAnswer
 heards at [] es = []
 heards at (s ∷ ss) [] = []
 heards at (s ∷ ss) (Event.Requested clock link bc errors packet m ∷ es) = heards at (s ∷ ss) es

@@ -2,15 +2,15 @@
 -- assembly'. Assumes nothing.
 use Prim.Native.Nat.{ℕ, _+_, _≤_, _<_}
 use mathlib.Core.Path.{_≡_}
-use mathlib.Core.Bool.{Bool, true, _||_}
-use mathlib.Core.List.{List, []}
+use mathlib.Core.Bool.{Bool, true, false, _||_}
+use mathlib.Core.List.{List, [], _∷_}
 use lib.Dec.{eqb}
 use lib.ListN.{length, getD, take}
 use Rattle.base.specs.Pick.{pick}
 use Rattle.base.specs.Words.{laid, Below}
-use Rattle.group.specs.Kind.{Answer as Said}
+use Rattle.group.specs.Kind.{Answer as SlaveAnswer}
 use Rattle.group.specs.Tally.{Every}
-use Rattle.group.specs.Slaves.{slavesOf}
+use Rattle.group.specs.Slaves.{hasSlave, slavesOf}
 use Rattle.group.specs.Ending.{replied, zeroReply}
 use Rattle.group.specs.Whole.{kindsOf, assembled, dataReply}
 use Rattle.group.specs.declared.Kind.{Kind}
@@ -71,7 +71,7 @@ module _ {M : Machine} (r : GroupRun M) where
   slaves = slavesOf (setAsked (r .node) (r .packet))
 
   -- What they are heard to answer.
-  abbrev pub said : List Said
+  abbrev pub said : List SlaveAnswer
   said = heards (r .clock) slaves (r .events)
 
   -- What each of these answers is.
@@ -111,9 +111,33 @@ module _ {M : Machine} (r : GroupRun M) where
 abbrev pub GroupIsItsFragments : Machine → Type 0
 GroupIsItsFragments M = (r : GroupRun M) → AllHeard r → Ends r
 
--- The slaves asked are those of the set, in order, each once: those heard, and the next one.
+-- So far those heard have been asked, in slave order, and the next one.
+abbrev pub AskedInOrder : Machine → Type 0
+AskedInOrder M = (r : GroupRun M) → atLast r .asked ≡ take (length (said r) + 1) (slaves r)
+
+-- Each slave comes before higher ones, so none comes twice.
+abbrev pub ComesBefore : ℕ → List ℕ → Type 0
+ComesBefore s [] = Unit {0}
+ComesBefore s (t ∷ ss) = s < t
+
+abbrev pub Ascending : List ℕ → Type 0
+Ascending [] = Unit {0}
+Ascending (s ∷ ss) = ComesBefore s ss × Ascending ss
+
+-- A slave is among those of a list.
+abbrev pub isAmong : List ℕ → ℕ → Bool
+isAmong [] s = false
+isAmong (t ∷ ss) s = eqb t s || isAmong ss s
+
+-- Exactly the slaves of a set: 0 to 23, those whose bit is set, ascending.
+pub record Exactly (set : ℕ) (ss : List ℕ) : Type 0 where
+  pub ascending : Ascending ss
+  pub members : (s : ℕ) → s < 24 → isAmong ss s ≡ hasSlave set s
+  pub others : (s : ℕ) → 24 ≤ s → isAmong ss s ≡ false
+
+-- When every slave has been heard, the slaves asked are those of the set, ascending, each once.
 abbrev pub EachAskedOnce : Machine → Type 0
-EachAskedOnce M = (r : GroupRun M) → atLast r .asked ≡ take (length (said r) + 1) (slaves r)
+EachAskedOnce M = (r : GroupRun M) → AllHeard r → Exactly (setAsked (r .node) (r .packet)) (atLast r .asked)
 
 -- With more to come, the fragments so far stand at the front of the buffer, and the next slave is being asked.
 abbrev pub FragmentsStand : Machine → Type 0
