@@ -2,3 +2,4 @@ pub mod Pendings
 pub mod Events
 pub mod Slaves
 pub mod Groups
+pub mod Examples

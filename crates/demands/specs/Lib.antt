@@ -1,3 +1,4 @@
 pub mod Machine
 pub mod Events
 pub mod Groups
+pub mod Examples
