@@ -3,3 +3,4 @@ pub mod Events
 pub mod Slaves
 pub mod Groups
 pub mod Examples
+pub mod Settled

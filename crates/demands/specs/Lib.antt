@@ -2,3 +2,4 @@ pub mod Machine
 pub mod Events
 pub mod Groups
 pub mod Examples
+pub mod Settled
