@@ -2,9 +2,9 @@
 -- assembly'. Assumes nothing.
 use Prim.Native.Nat.{ℕ, _+_, _≤_, _<_}
 use mathlib.Core.Path.{_≡_}
-use mathlib.Core.Bool.{Bool, true, false, _||_}
+use mathlib.Core.Bool.{Bool, true, false, _||_, not}
 use mathlib.Core.List.{List, [], _∷_}
-use lib.Dec.{eqb}
+use lib.Dec.{leb, eqb}
 use lib.ListN.{length, getD, take}
 use Rattle.base.specs.Pick.{pick}
 use Rattle.base.specs.Words.{laid, Below}
@@ -18,14 +18,14 @@ use Rattle.group.specs.declared.Reply.{Reply}
 use Rattle.group.specs.declared.Tally.{Tally}
 use Rattle.group.specs.declared.ZeroLength.{ZeroLength}
 use Rattle.node.specs.Refusals.{isAsked}
-use Rattle.node.specs.Route.{firstByte, secondByte, maskIn}
+use Rattle.node.specs.Route.{asking, firstByte, secondByte, bcOf, maskIn}
 use Rattle.node.specs.Settings.{statusIn}
 use Rattle.node.specs.Effect.{Lent, Outcome}
 use Rattle.node.specs.declared.Answer.{Answer}
 use Rattle.node.specs.declared.Asking.{Asking}
 use Rattle.node.specs.declared.Node.{Node}
 use Rattle.node.specs.declared.Pending.{Pending}
-use Rattle.demands.specs.Machine.{Machine}
+use Rattle.demands.specs.Machine.{Machine, isRefused}
 use Rattle.demands.specs.Events.{Event, Host, host, hosted, Undropped, heards}
 
 -- A request to a group, by its first byte, and the set of slaves that it asks: 40 mask by ID in the second byte, 23 mask in the next
@@ -38,6 +38,25 @@ abbrev pub setAsked : Node → List ℕ → ℕ
 setAsked n packet =
     pick (eqb (firstByte (getD packet 0 0)) 0x40) (getD (n .masks) (secondByte (getD packet 0 0)) 0)
     (pick (eqb (firstByte (getD packet 0 0)) 0x23) (maskIn (getD packet 0 0) (getD packet 1 0)) 0xFFFFFF)
+
+-- One word is stripped, two for 23.
+abbrev pub stripped : List ℕ → ℕ
+stripped packet = pick (eqb (firstByte (getD packet 0 0)) 0x23) 2 1
+
+-- The mask ID of 40 is at most 15.
+abbrev pub knowsMask : List ℕ → Bool
+knowsMask packet = not (eqb (firstByte (getD packet 0 0)) 0x40) || leb (secondByte (getD packet 0 0)) 15
+
+-- A request to a group that no refusal and none of steps 1 to 5 answers asks the lowest slave of the set, with the request as it is
+-- behind the words stripped.
+abbrev pub GroupIsAsked : Machine → Type 0
+GroupIsAsked M =
+    (n : Node) (clock link bc : ℕ) (errors : Bool) (packet : List ℕ) (l : Lent)
+    → isRefused (M .request n clock link bc errors packet l .turn .answer) ≡ false
+    → errors ≡ false → length packet ≤ 8192 → bcOf bc ≡ 3 → isGroup packet ≡ true → knowsMask packet ≡ true
+    → n .given .kind ≡ 2 → stripped packet < length packet
+    → (s : ℕ) (ss : List ℕ) → slavesOf (setAsked n packet) ≡ s ∷ ss
+    → M .request n clock link bc errors packet l .turn .answer ≡ Answer.Ask (asking s (stripped packet))
 
 -- A request to a group, whatever state, flash, memories and reply buffer it is lent, that is answered by asking a slave; then a run
 -- of calls that do not drop it.
