@@ -1,6 +1,6 @@
 -- A statement that gives the result as an equation settles it, and so does one that gives it as a record together with what is left in
 -- the lent words: two results equal to one value are equal. Assumes nothing.
-use mathlib.Core.Path.{_≡_, refl, sym, ap, _∙_}
+use mathlib.Core.Path.{refl, sym, ap, _∙_}
 use Rattle.memory.specs.Command.{Read, Written, Performed}
 use Rattle.memory.specs.Load.{Loaded}
 use Rattle.group.specs.Fragment.{Assembly}

@@ -1,7 +1,7 @@
 -- The examples of 01 that are marked with a star: one table, one statement about the definitions. 01 'Examples'. Assumes nothing.
 use Prim.Native.Nat.{ℕ, _+_, _%_}
 use mathlib.Core.Path.{_≡_}
-use mathlib.Core.Bool.{Bool, true, false}
+use mathlib.Core.Bool.{true, false}
 use mathlib.Core.List.{List, [], _∷_, _++_}
 use Rattle.fcs.specs.Fcs.{fcsOf}
 use Rattle.image.specs.Segment.{memoryOf}
