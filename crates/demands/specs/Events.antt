@@ -32,6 +32,7 @@ pub record Host : Type 0 where
   pub buffer : List ℕ
   pub asked : List ℕ
 
+-- The slave that an answer says to ask.
 abbrev pub slaveIn : Answer → List ℕ
 slaveIn (Answer.Refused r) = []
 slaveIn Answer.Started = []
@@ -40,6 +41,7 @@ slaveIn (Answer.Ask a) = a .slave ∷ []
 slaveIn Answer.Waiting = []
 slaveIn (Answer.Erased count) = []
 
+-- After a call: the slave that its answer says to ask comes behind those asked before.
 abbrev pub host : List ℕ → Turn → List ℕ → List ℕ → Host
 host asked t flash buffer = record { turn = t; flash = flash; buffer = buffer; asked = asked ++ slaveIn (t .answer) }
 
@@ -69,6 +71,7 @@ dropsGroup link (Event.Replied clock slave bc errors status address words) = fal
 dropsGroup link (Event.Polled clock) = false
 dropsGroup link (Event.Erased budget) = false
 
+-- No call of a run drops it.
 unfoldable pub Undropped : ℕ → List Event → Type 0
 Undropped link [] = Unit {0}
 Undropped link (e ∷ es) = (dropsGroup link e ≡ false) × Undropped link es
