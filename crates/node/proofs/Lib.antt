@@ -1,1 +1,3 @@
 pub mod States
+pub mod Routes
+pub mod Why
