@@ -1,9 +1,9 @@
--- Why a request changes flash or settings: of each change the command, the sector found or placed, and what it rests on. One walk over
--- all commands; a command that leaves both is told by `none`. Assumes nothing.
+-- Why a call changes flash or settings: of each change the command, the sector found or placed, and what it rests on. One walk over
+-- all commands; a command that leaves both is told by `none`. A slave's answer leaves both. Assumes nothing.
 use Prim.Native.Nat.{ℕ, _+_, _*_, _%_, _≤_, _<_}
 use mathlib.Core.Path.{_≡_, refl, ap, _∙_}
 use mathlib.Core.Bool.{Bool, true, false, false≢true}
-use mathlib.Core.List.{List}
+use mathlib.Core.List.{List, []}
 use native.Mathlib.Omega.{arith}
 use lib.ListN.{length, getD, drop}
 use lib.Dec.{ltb, leb, eqb}
@@ -27,6 +27,12 @@ use Rattle.flash.specs.declared.Target.{Target}
 use Rattle.flash.proofs.Kept.{Place, kept-good, place-tells, target-tells}
 use Rattle.flash.proofs.Searches.{found-tells}
 use Rattle.flash.proofs.Statuses.{good-file, first-word}
+use Rattle.group.specs.Kind.{answer}
+use Rattle.group.specs.Slaves.{above, nextOf}
+use Rattle.group.specs.Fragment.{assembly, taken}
+use Rattle.group.specs.Time.{isLate}
+use Rattle.group.specs.declared.Heard.{Heard}
+use Rattle.group.specs.declared.Next.{Next}
 use Rattle.group.specs.declared.ZeroLength.{ZeroLength}
 use Rattle.memory.specs.Command.{readable, writable, performable}
 use Rattle.memory.specs.Load.{loadable}
@@ -35,9 +41,11 @@ use Rattle.node.specs.Settings.{statusIn as ownStatus, statusOf as statu
 use Rattle.node.specs.Files.{isErasing, unlessErasing, namedBy, seen, readBy, readAt, readOf, testAt, testOf, loadBy, loadAt, loadOf, isExact, isMissing, placedFor, writeAt, writeOf, foundBy, toErase, eraseAt, eraseStartOf, setTo, attributeBy, attributeAt, attributeSetOf, summaryOf}
 use Rattle.node.specs.Memories.{dataRoom, memoryReadOf, memoryWriteOf, performIoOf}
 use Rattle.node.specs.Own.{settingsOf, memoriesOf, filesOf, onFiles, onMemories, ownOf}
+use Rattle.node.specs.Slaves.{heard, silent, goesOn, hears, askedAt, replyEffect, pollEffect}
 use Rattle.node.specs.Calls.{routed}
 use Rattle.node.specs.Route.{routeOf}
 use Rattle.node.specs.declared.Node.{Node}
+use Rattle.node.specs.declared.Pending.{Pending}
 use Rattle.node.proofs.Routes.{Command, route-case}
 
 -- a file is written by 45, to the place that the placing rule finds for it
@@ -316,3 +324,28 @@ module _ (n : Node) (l : Lent) (packet : List ℕ) where
   request-why clock link bc errors =
       route-case (λ r. Because (routed r n clock link packet l)) n link bc errors packet none none none
       (λ id c. own-reason id clock link c) (λ s h. none) (λ set from s named e. none)
+
+-- a slave's answer changes neither flash nor settings
+pub record Quiet (e : Effect) : Type 0 where
+  pub change : e .change ≡ Change.Kept
+  pub setup : e .setup ≡ Setup.Kept
+
+hears-quiet : (p : Pending) (n : Node) (clock : ℕ) (h : Heard) (words reply : List ℕ) → Quiet (hears p n clock h words reply)
+hears-quiet Pending.Nothing n clock h words reply = record { change = refl; setup = refl }
+hears-quiet (Pending.Slave a) n clock h words reply = record { change = refl; setup = refl }
+hears-quiet (Pending.Group a g) n clock h words reply = by (nextOf (above (g .set) (a .slave)))
+  where
+    by : (next : Next) → Quiet (goesOn n a g clock (taken (assembly reply (g .built)) (length (above (g .set) (a .slave))) (a .slave) (answer h words)) next)
+    by Next.Nobody = record { change = refl; setup = refl }
+    by (Next.Slave s) = record { change = refl; setup = refl }
+
+pub reply-quiet : (n : Node) (clock : ℕ) (errors : Bool) (status address bc : ℕ) (words reply : List ℕ) → Quiet (replyEffect n clock errors status address bc words reply)
+unfolding replyEffect
+reply-quiet n clock errors status address bc words reply =
+    let q = hears-quiet (n .pending) n clock (heard (isLate clock (askedAt (n .pending))) errors status address bc) words reply in
+    record { change = q .change; setup = q .setup }
+
+pub poll-quiet : (n : Node) (clock : ℕ) (reply : List ℕ) → Quiet (pollEffect n clock reply)
+unfolding pollEffect
+poll-quiet n clock reply =
+    pick-case Quiet (isLate clock (askedAt (n .pending))) (λ _. hears-quiet (n .pending) n clock silent [] reply) (λ _. record { change = refl; setup = refl })
