@@ -1,0 +1,5 @@
+pub mod Verdicts
+pub mod Sound
+pub mod Anchors
+pub mod Commands
+pub mod NoStaleRecord

@@ -1,1 +1,4 @@
 pub mod Machine
+pub mod Requests
+pub mod Reached
+pub mod Anchors
