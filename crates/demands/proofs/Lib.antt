@@ -3,3 +3,5 @@ pub mod Sound
 pub mod Anchors
 pub mod Commands
 pub mod NoStaleRecord
+pub mod Tests
+pub mod Refusals

@@ -1,8 +1,7 @@
 -- The directory of a reached state is fresh, and Flash Summary answers it. Assumes nothing.
 use Prim.Native.Nat.{ℕ, _+_}
 use mathlib.Core.Path.{_≡_, refl, sym, ap, _∙_}
-use mathlib.Core.Bool.{Bool, true}
-use mathlib.Core.List.{List, _++_}
+use mathlib.Core.List.{List}
 use native.Mathlib.Omega.{arith}
 use lib.ListN.{length, take, length-append}
 use lib.Seq.{take-take, take-at}
@@ -12,15 +11,14 @@ use Rattle.base.proofs.Laid.{part-laid}
 use Rattle.base.proofs.Pick.{yes}
 use Rattle.flash.proofs.Entries.{length-directory}
 use Rattle.group.specs.Ending.{replied, trailer}
-use Rattle.memory.specs.Segment.{Memories}
-use Rattle.node.specs.Effect.{Did, Lent, lent, Outcome, answers, sealedWords, ownOutcome}
+use Rattle.node.specs.Effect.{Lent, lent, Outcome, answers, sealedWords, ownOutcome}
 use Rattle.node.specs.Settings.{statusIn}
 use Rattle.node.specs.Files.{summaryOf}
 use Rattle.node.specs.Own.{filesOf, ownOf}
 use Rattle.node.specs.declared.Answer.{Answer}
 use Rattle.node.specs.declared.Node.{Node}
 use Rattle.demands.specs.Machine.{logodwen}
-use Rattle.demands.specs.Reached.{Reached, NoStaleRecord, SummaryIsTrue}
+use Rattle.demands.specs.Reached.{NoStaleRecord, SummaryIsTrue}
 use Rattle.demands.proofs.Commands.{delivered-own}
 use Rattle.demands.proofs.Sound.{reached-sound}
 

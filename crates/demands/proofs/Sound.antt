@@ -1,11 +1,10 @@
 -- What holds of every state that is reached, with its flash: every part is in its range, the flash is the one of start, and the
 -- directory is fresh. A start gives it and every call keeps it. Assumes nothing.
 use Prim.Native.Nat.{ℕ, _/_, _<_}
-use mathlib.Core.Path.{_≡_, refl, sym, ap, _∙_, subst}
+use mathlib.Core.Path.{_≡_, refl, sym, _∙_, subst}
 use mathlib.Core.Bool.{Bool, true, false, _&&_, false≢true}
 use mathlib.Core.List.{List, [], _∷_}
-use native.Mathlib.Omega.{arith}
-use lib.ListN.{length, replicate}
+use lib.ListN.{length}
 use lib.Dec.{leb, eqb}
 use borrow.Author.Tests.{le-leb}
 use Rattle.base.specs.Pick.{pick}
@@ -18,19 +17,16 @@ use Rattle.flash.proofs.Storing.{stored-only}
 use Rattle.flash.proofs.Erasure.{erased-only}
 use Rattle.memory.specs.Segment.{Memories}
 use Rattle.node.specs.State.{turn}
-use Rattle.node.specs.Refusals.{requestVerdict, replyVerdict, pollVerdict, eraseVerdict, startVerdict}
+use Rattle.node.specs.Refusals.{replyVerdict, pollVerdict, eraseVerdict, startVerdict}
 use Rattle.node.specs.Valid.{sizeOk, kindOk, portsOk, masksOk, erasingOk, pendingOk}
-use Rattle.node.specs.Route.{routeOf}
-use Rattle.node.specs.Effect.{Effect, effect, Lent, lent, nodeAfter, applied, Change, flashAfter, erasingNext, directoryAfter, Setup}
+use Rattle.node.specs.Effect.{Effect, effect, Lent, lent, nodeAfter, Change, flashAfter, erasingNext, Setup}
 use Rattle.node.specs.Slaves.{replyEffect, pollEffect}
-use Rattle.node.specs.Calls.{judged, lentReply, lentFlash, given, started, startBy, startOf, routed, requestOf, replyOf, pollOf, eraseEffect, eraseOf}
-use Rattle.node.specs.declared.Given.{Given}
+use Rattle.node.specs.Calls.{judged, lentReply, lentFlash, given, started, startBy, startOf, requestOf, replyOf, pollOf, eraseEffect, eraseOf}
 use Rattle.node.specs.declared.Node.{Node}
-use Rattle.node.specs.declared.Turn.{Turn}
 use Rattle.node.specs.declared.Verdict.{Verdict}
 use Rattle.node.proofs.Why.{Quiet, request-why, reply-quiet, poll-quiet}
 use Rattle.node.proofs.Directories.{Fresh, why-fresh, step-fresh}
-use Rattle.node.proofs.Ranges.{and-both, Ranges, ranges-told, size-some, why-erasing, step-erasing, sets-mode, sets-masks, request-pending, reply-pending, poll-pending}
+use Rattle.node.proofs.Ranges.{and-both, Ranges, size-some, why-erasing, step-erasing, sets-mode, sets-masks, request-pending, reply-pending, poll-pending}
 use Rattle.demands.specs.Machine.{Call, logodwen, turnOf, flashOf, isRefused}
 use Rattle.demands.specs.Reached.{Lends16, stateAfter, Reached}
 use Rattle.demands.proofs.Verdicts.{verdictOn, requestEffect, request-fine, reply-fine, poll-fine, start-fine, request-taken, reply-taken, poll-taken}
@@ -185,7 +181,7 @@ reply-keeps clock slave bc errors status address words reply n flash s = by (rep
     by : (v : Verdict) → replyVerdict n slave (length reply) ≡ v → Sound (judged v n (lentReply reply) (replyEffect n clock errors status address bc words reply) .turn .node) flash
     by Verdict.Fine e =
         quiet-sound n flash [] (replyEffect n clock errors status address bc words reply) (reply-quiet n clock errors status address bc words reply)
-        (reply-pending n (n .given .ports) clock errors status address bc words reply (reply-fine n slave (length reply) e) (s .valid .ranges .pending)) s
+        (reply-pending n (n .given .ports) clock errors status address bc words reply (reply-fine n slave (length reply) e .buffer) (s .valid .ranges .pending)) s
     by (Verdict.No r) e = s
 
 poll-keeps : (clock : ℕ) (reply : List ℕ) (n : Node) (flash : List ℕ) → Keeps (Call.Poll clock reply) n flash
@@ -195,7 +191,7 @@ poll-keeps clock reply n flash s = by (pollVerdict n (length reply)) refl
     by : (v : Verdict) → pollVerdict n (length reply) ≡ v → Sound (judged v n (lentReply reply) (pollEffect n clock reply) .turn .node) flash
     by Verdict.Fine e =
         quiet-sound n flash [] (pollEffect n clock reply) (poll-quiet n clock reply)
-        (poll-pending n (n .given .ports) clock reply (poll-fine n (length reply) e) (s .valid .ranges .pending)) s
+        (poll-pending n (n .given .ports) clock reply (poll-fine n (length reply) e .buffer) (s .valid .ranges .pending)) s
     by (Verdict.No r) e = s
 
 erase-keeps : (budget : ℕ) (n : Node) (flash : List ℕ) → Keeps (Call.Erase budget) n flash

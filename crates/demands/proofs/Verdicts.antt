@@ -1,7 +1,7 @@
 -- What it tells that a call is not refused, and that a call which is taken answers no refusal. Assumes nothing.
 use Prim.Native.Nat.{ℕ, _≤_, _<_}
-use mathlib.Core.Path.{_≡_, refl, sym, ap, _∙_}
-use mathlib.Core.Bool.{Bool, true, false, _&&_, _||_, not, false≢true}
+use mathlib.Core.Path.{_≡_, refl, sym}
+use mathlib.Core.Bool.{Bool, true, false, _||_, not, false≢true}
 use mathlib.Core.List.{List, []}
 use native.Mathlib.Omega.{arith}
 use lib.ListN.{length}
@@ -16,7 +16,7 @@ use Rattle.group.specs.Time.{isLate}
 use Rattle.group.specs.declared.Heard.{Heard}
 use Rattle.group.specs.declared.Next.{Next}
 use Rattle.node.specs.Effect.{Effect, Lent}
-use Rattle.node.specs.Refusals.{isPending, isAsked, requestVerdict, replyVerdict, pollVerdict, eraseVerdict, startVerdict}
+use Rattle.node.specs.Refusals.{requestVerdict, replyVerdict, pollVerdict, eraseVerdict, startVerdict}
 use Rattle.node.specs.Valid.{sizeOk, kindOk, portsOk, stateOk}
 use Rattle.node.specs.Route.{routeOf}
 use Rattle.node.specs.Slaves.{heard, silent, goesOn, hears, askedAt, replyEffect, pollEffect}
@@ -24,7 +24,6 @@ use Rattle.node.specs.Calls.{judged, routed}
 use Rattle.node.specs.declared.Node.{Node}
 use Rattle.node.specs.declared.Pending.{Pending}
 use Rattle.node.specs.declared.Refusal.{Refusal}
-use Rattle.node.specs.declared.Route.{Route}
 use Rattle.node.specs.declared.Verdict.{Verdict}
 use Rattle.node.proofs.Routes.{route-case}
 use Rattle.demands.specs.Machine.{isRefused}
@@ -81,13 +80,22 @@ request-fine n link packet flash pm dm io reply h =
     let e = fine-then (not (stateOk n)) _ _ (d .1) in
     record { fits = fit n flash (a .0) (e .0); buffer = ltb-false reply 12288 (b .0); below = leb-false (n .given .ports) link (d .0) }
 
-pub reply-fine : (n : Node) (slave reply : ℕ) → replyVerdict n slave reply ≡ Verdict.Fine → 12288 ≤ reply
-unfolding replyVerdict
-reply-fine n slave reply h = ltb-false reply 12288 (fine-then (ltb reply 12288) _ _ h .0)
+pub record AnswerFine (n : Node) (reply : ℕ) : Type 0 where
+  pub buffer : 12288 ≤ reply
+  pub state : stateOk n ≡ true
 
-pub poll-fine : (n : Node) (reply : ℕ) → pollVerdict n reply ≡ Verdict.Fine → 12288 ≤ reply
+pub reply-fine : (n : Node) (slave reply : ℕ) → replyVerdict n slave reply ≡ Verdict.Fine → AnswerFine n reply
+unfolding replyVerdict
+reply-fine n slave reply h =
+    let a = fine-then (ltb reply 12288) _ _ h in
+    let b = fine-then (ltb 23 slave) _ _ (a .1) in
+    record { buffer = ltb-false reply 12288 (a .0); state = not-false (stateOk n) (fine-then (not (stateOk n)) _ _ (b .1) .0) }
+
+pub poll-fine : (n : Node) (reply : ℕ) → pollVerdict n reply ≡ Verdict.Fine → AnswerFine n reply
 unfolding pollVerdict
-poll-fine n reply h = ltb-false reply 12288 (fine-then (ltb reply 12288) _ _ h .0)
+poll-fine n reply h =
+    let a = fine-then (ltb reply 12288) _ _ h in
+    record { buffer = ltb-false reply 12288 (a .0); state = not-false (stateOk n) (fine-then (not (stateOk n)) _ _ (a .1) .0) }
 
 pub erase-fine : (n : Node) (flash : ℕ) → eraseVerdict n flash ≡ Verdict.Fine → Fit n flash
 unfolding eraseVerdict

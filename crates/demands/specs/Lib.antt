@@ -2,3 +2,4 @@ pub mod Machine
 pub mod Requests
 pub mod Reached
 pub mod Anchors
+pub mod Refusals
