@@ -5,3 +5,5 @@ pub mod Commands
 pub mod NoStaleRecord
 pub mod Tests
 pub mod Refusals
+pub mod Flash
+pub mod Erases

@@ -50,7 +50,7 @@ pub record Sound (n : Node) (flash : List ℕ) : Type 0 where
   pub valid : Valid n flash
   pub fresh : Fresh (n .directory) (n .erasing) flash
 
-given-size : (n : Node) → Ranges n → sizeOk (n .given .«flash_words») ≡ true
+pub given-size : (n : Node) → Ranges n → sizeOk (n .given .«flash_words») ≡ true
 given-size n r =
     and-right (kindOk (n .given .kind) && portsOk (n .given .ports) && leb (n .given .subdetector) 7) (sizeOk (n .given .«flash_words»)) (r .given)
 

@@ -126,7 +126,7 @@ start-fine kind ports subdetector flash h =
 -- a call that is taken answers no refusal
 pub request-taken : (n : Node) (clock link bc : ℕ) (errors : Bool) (packet : List ℕ) (l : Lent) → isRefused (requestEffect n clock link bc errors packet l .answer) ≡ false
 request-taken n clock link bc errors packet l =
-    route-case (λ r. isRefused (routed r n clock link packet l .answer) ≡ false) n link bc errors packet refl refl refl
+    route-case (λ r. isRefused (routed r n clock link packet l .answer) ≡ false) n link bc errors packet refl refl (λ _. refl)
     (λ id c. refl) (λ s h. refl) (λ set from s named e. refl)
 
 hears-taken : (p : Pending) (n : Node) (clock : ℕ) (h : Heard) (words reply : List ℕ) → isRefused (hears p n clock h words reply .answer) ≡ false

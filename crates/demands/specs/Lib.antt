@@ -3,3 +3,4 @@ pub mod Requests
 pub mod Reached
 pub mod Anchors
 pub mod Refusals
+pub mod Flash

@@ -137,7 +137,7 @@ next-slave (t ∷ rest) s h = let z : t ≡ s = cc in (rest, ap (λ (x : ℕ). x
 pub request-pending : (n : Node) (clock link bc : ℕ) (errors : Bool) (packet : List ℕ) (l : Lent) → Below 65536 packet → link < n .given .ports → masksOk (n .masks) ≡ true
     → pendingOk (n .given .ports) (n .pending) ≡ true → pendingOk (n .given .ports) (routed (routeOf n link bc errors packet) n clock link packet l .pending) ≡ true
 request-pending n clock link bc errors packet l b k m h =
-    route-case (λ r. pendingOk (n .given .ports) (routed r n clock link packet l .pending) ≡ true) n link bc errors packet h h refl
+    route-case (λ r. pendingOk (n .given .ports) (routed r n clock link packet l .pending) ≡ true) n link bc errors packet h h (λ _. refl)
     (λ id c. h)
     (λ s q. and-both (lt-ltb link (n .given .ports) k) (le-leb s 23 q))
     (λ set from s named e. and-both (and-both (lt-ltb link (n .given .ports) k) (slave set s e)) (and-both (and-both (and-both (member set s e) (lt-ltb set 16777216 (named-below m b named))) (room set s e)) (named-from named)))

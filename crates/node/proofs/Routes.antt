@@ -24,7 +24,7 @@ pub data Named (masks packet : List ℕ) : ℕ → ℕ → Type 0 where
   sent : Named masks packet (maskIn (getD packet 0 0) (getD packet 1 0)) 2
   all : Named masks packet 0xFFFFFF 1
 
-module _ (P : Route → Type 0) (n : Node) (link bc : ℕ) (errors : Bool) (packet : List ℕ) (wrong : P Route.Wrong) (unserved : P Route.Unserved) (dropped : P Route.Dropped)
+module _ (P : Route → Type 0) (n : Node) (link bc : ℕ) (errors : Bool) (packet : List ℕ) (wrong : P Route.Wrong) (unserved : P Route.Unserved) (dropped : length packet ≡ 0 → P Route.Dropped)
     (own : (id : ℕ) → Command packet id → P (Route.Own id))
     (slave : (s : ℕ) → s ≤ 23 → P (Route.Slave (asking s 1)))
     (group : (set from s : ℕ) → Named (n .masks) packet set from → nextOf (slavesOf set) ≡ Next.Slave s → P (Route.Group (asking s from) set)) where
@@ -56,5 +56,5 @@ module _ (P : Route → Type 0) (n : Node) (link bc : ℕ) (errors : Bool) (pack
   unfolding routeOf
   route-case =
       pick-case P errors (λ _. wrong)
-      (λ _. pick-case P (eqb (length packet) 0) (λ _. pick-case P (drops (n .pending) link bc) (λ _. dropped) (λ _. unserved))
+      (λ _. pick-case P (eqb (length packet) 0) (λ e. pick-case P (drops (n .pending) link bc) (λ _. dropped (eqb-true (length packet) 0 e)) (λ _. unserved))
       (λ _. pick-case P (ltb 8192 (length packet) || not (eqb (bcOf bc) 3)) (λ _. wrong) (λ _. addressed-case)))

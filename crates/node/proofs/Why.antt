@@ -196,7 +196,7 @@ module _ (n : Node) (l : Lent) (packet : List ℕ) where
       by e (Found.At s) h = (placed-tells (drop 1 packet) s c e refl h, tt)
 
   -- a sector named to 47 is a file sector
-  erase-sector : (word s : ℕ) → toErase n word ≡ Found.At s → isSector s ≡ true
+  pub erase-sector : (word s : ℕ) → toErase n word ≡ Found.At s → isSector s ≡ true
   unfolding addressed
   erase-sector word s h = by (eqb (word % 16) 0) h
     where
@@ -322,7 +322,7 @@ module _ (n : Node) (l : Lent) (packet : List ℕ) where
   pub request-why : (clock link bc : ℕ) (errors : Bool) → Because (routed (routeOf n link bc errors packet) n clock link packet l)
   unfolding none
   request-why clock link bc errors =
-      route-case (λ r. Because (routed r n clock link packet l)) n link bc errors packet none none none
+      route-case (λ r. Because (routed r n clock link packet l)) n link bc errors packet none none (λ _. none)
       (λ id c. own-reason id clock link c) (λ s h. none) (λ set from s named e. none)
 
 -- a slave's answer changes neither flash nor settings
