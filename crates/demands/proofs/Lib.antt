@@ -5,3 +5,12 @@ pub mod Asks
 pub mod Groups
 pub mod Examples
 pub mod Settled
+pub mod Verdicts
+pub mod Sound
+pub mod Anchors
+pub mod Commands
+pub mod NoStaleRecord
+pub mod Tests
+pub mod Refusals
+pub mod Flash
+pub mod Erases

@@ -90,6 +90,17 @@ module _ (directory flash : List ℕ) (erasing : Erasing) (s : ℕ) where
       by true = refl
       by false = refl
 
+  -- a status that is good is the sector's own
+  pub kept-good : (end : ℕ) → keptStatus directory flash erasing s ≡ Status.Good end → statusOf words ≡ Status.Good end
+  unfolding keptStatus statusIn
+  kept-good end h = by (isErasing erasing s) (entryIs directory s (firstOf words) (statusIn erasing s words)) h
+    where
+      by : (t u : Bool) → pick u (pick t Status.Erasing (statusOf words)) Status.Bad ≡ Status.Good end → statusOf words ≡ Status.Good end
+      by true true e = let z : _≡_ {A = ℕ} 0 1 = cc in absurd (omega arith)
+      by false true e = e
+      by true false e = let z : _≡_ {A = ℕ} 0 1 = cc in absurd (omega arith)
+      by false false e = let z : _≡_ {A = ℕ} 0 1 = cc in absurd (omega arith)
+
 -- the directory that is worked out afresh differs nowhere: each sector is what the flash makes it
 pub kept-true : (flash : List ℕ) (erasing : Erasing) (s : ℕ) → isSector s ≡ true → keptStatus (directoryOf flash erasing) flash erasing s ≡ statusIn erasing s (sectorOf flash s)
 unfolding keptStatus entrySays entryIs entryFor entryOf

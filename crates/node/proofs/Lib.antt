@@ -1,1 +1,5 @@
 pub mod States
+pub mod Routes
+pub mod Why
+pub mod Directories
+pub mod Ranges
