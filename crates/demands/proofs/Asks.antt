@@ -53,16 +53,13 @@ module _ (n : Node) (packet : List ℕ) (s : ℕ) (ss : List ℕ) (cddc : n .giv
 
 pub group-is-asked : GroupIsAsked logodwen
 unfolding requestOf routeOf
-group-is-asked n clock link bc errors packet l taken clean most whole g m cddc long s ss these =
-    go (requestVerdict n link (length packet) (length (l .flash)) (length (l .memories .pm)) (length (l .memories .dm)) (length (l .memories .io)) (length (l .reply))) taken
+group-is-asked n clock link bc errors packet l d g m cddc long s ss these =
+    go (requestVerdict n link (length packet) (length (l .flash)) (length (l .memories .pm)) (length (l .memories .dm)) (length (l .memories .io)) (length (l .reply))) (d .taken)
   where
-    some : 0 < length packet
-    some = omega (arith, long)
-
     route : Route.Group (asking s (stripped packet)) (setAsked n packet) ≡ routeOf n link bc errors packet
     route =
-        no _ clean (no _ (ne-eqb (length packet) 0 (λ x. omega (arith, some, x)))
-        (no _ (ap (λ (x : Bool). x || not (eqb (bcOf bc) 3)) (le-ltb 8192 (length packet) most) ∙ ap not (eq-eqb (bcOf bc) 3 whole))
+        no _ (d .clean) (no _ (ne-eqb (length packet) 0 (λ x. omega (arith, d .least, x)))
+        (no _ (ap (λ (x : Bool). x || not (eqb (bcOf bc) 3)) (le-ltb 8192 (length packet) (d .most)) ∙ ap not (eq-eqb (bcOf bc) 3 (d .whole)))
         (addressed-is n packet s ss cddc these g m long)))
 
     go : (v : Verdict) → isRefused (judged v n l (routed (routeOf n link bc errors packet) n clock link packet l) .turn .answer) ≡ false

@@ -2,14 +2,14 @@
 -- group ends. By walking what refuses the call and what it does. Assumes nothing.
 use Prim.Native.Nat.{ℕ, suc, _+_, _*_, _/_, _≤_}
 use mathlib.Core.Path.{_≡_, refl, sym, ap, _∙_}
-use mathlib.Core.Bool.{Bool, true, false, _&&_, _||_, not, false≢true}
+use mathlib.Core.Bool.{Bool, true, false, _&&_, not, false≢true}
 use mathlib.Core.List.{List, [], _∷_, append-nil}
 use native.Mathlib.Omega.{arith}
 use lib.Dec.{eqb, leb, ltb}
 use lib.ListN.{length}
-use borrow.Author.Tests.{eq-eqb, eqb-true, leb-false, le-ltb, not-false}
+use borrow.Author.Tests.{eq-eqb, eqb-true, leb-false, le-ltb}
 use Rattle.base.specs.Pick.{pick}
-use Rattle.base.proofs.Pick.{yes, no, pick-second, and-left, and-right}
+use Rattle.base.proofs.Pick.{yes, no, pick-second}
 use Rattle.flash.specs.Change.{erasingAfter}
 use Rattle.group.specs.Time.{isLate}
 use Rattle.group.specs.Kind.{answer, Answer as SlaveAnswer}
@@ -23,7 +23,7 @@ use Rattle.group.proofs.Rooms.{room-kept}
 use Rattle.group.proofs.Takes.{taken-fits, taken-changes}
 use Rattle.memory.specs.Segment.{Memories}
 use Rattle.node.specs.State.{turn}
-use Rattle.node.specs.Valid.{sizeOk, givenOk, masksOk, erasingOk, pendingOk, stateOk}
+use Rattle.node.specs.Valid.{erasingOk, pendingOk, stateOk}
 use Rattle.node.specs.Refusals.{Cause, firstOf, isPending, isAsked, flashCause, replyCause, memoryCause, linkCause, stateCause, busyCause, requestVerdict, replyVerdict, pollVerdict, eraseVerdict}
 use Rattle.node.specs.Route.{bcOf, drops, routeOf}
 use Rattle.node.specs.Settings.{statusIn}
@@ -36,9 +36,11 @@ use Rattle.node.specs.declared.Pending.{Pending}
 use Rattle.node.specs.declared.Refusal.{Refusal}
 use Rattle.node.specs.declared.Route.{Route}
 use Rattle.node.specs.declared.Verdict.{Verdict}
+use Rattle.node.proofs.Ranges.{ranges-tell, ranges-told, step-erasing}
 use Rattle.demands.specs.Machine.{logodwen}
 use Rattle.demands.specs.Events.{Event, Host, host, stepped, dropsGroup}
-use Rattle.demands.proofs.Pendings.{and-both, erasing-kept, GroupOk, group-tells, group-told}
+use Rattle.demands.proofs.Pendings.{GroupOk, group-tells, group-told}
+use Rattle.demands.proofs.Verdicts.{erase-fine}
 
 -- a group in progress: slave s asked at a clock for a link, those of ss to follow, so much built in the buffer
 pub record Going (link from set own at s : ℕ) (ss : List ℕ) (b : Built) (h : Host) : Type 0 where
@@ -68,19 +70,9 @@ pub fine-tells : (cs : List Cause) → firstOf cs ≡ Verdict.Fine → NoneHolds
 fine-tells [] e = tt
 fine-tells (c ∷ cs) e = let r = pick-second (c .holds) (no-fine (c .refusal)) e in (r .0, fine-tells cs (r .1))
 
-or-false : (t u : Bool) → (t || u) ≡ false → (t ≡ false) × (u ≡ false)
-or-false true u e = absurd (false≢true (sym e))
-or-false false u e = (refl, e)
-
--- the pending group's part of the state
-module _ (n : Node) where
-  pub pending-ok : stateOk n ≡ true → pendingOk (n .given .ports) (n .pending) ≡ true
-  unfolding stateOk
-  pending-ok e = and-right (givenOk (n .given) && leb (n .mode) 3 && masksOk (n .masks) && erasingOk (n .given .«flash_words») (n .erasing)) _ e
-
 -- an erase step
 pub erase-quiet : (h : Host) (budget : ℕ) → Quiet h (stepped logodwen (Event.Erased budget) h)
-unfolding eraseOf eraseVerdict stateOk
+unfolding eraseOf
 erase-quiet h budget = go (eraseVerdict n (length flash)) refl
   where
     n : Node
@@ -89,17 +81,19 @@ erase-quiet h budget = go (eraseVerdict n (length flash)) refl
     flash : List ℕ
     flash = h .flash
 
-    kept : firstOf (flashCause n (length flash) ∷ stateCause n ∷ []) ≡ Verdict.Fine → stateOk n ≡ true → stateOk (nodeAfter n flash (eraseEffect n budget flash)) ≡ true
+    kept : eraseVerdict n (length flash) ≡ Verdict.Fine → stateOk n ≡ true → stateOk (nodeAfter n flash (eraseEffect n budget flash)) ≡ true
     kept e v =
-        let w = or-false (not (sizeOk (length flash))) _ (fine-tells (flashCause n (length flash) ∷ stateCause n ∷ []) e .0) .1 in
-        let l : length flash ≡ n .given .«flash_words» = eqb-true (length flash) (n .given .«flash_words») (not-false _ w) in
-        let p : Bool = givenOk (n .given) && leb (n .mode) 3 && masksOk (n .masks) in
-        let a = and-left (p && erasingOk (n .given .«flash_words») (n .erasing)) _ v in
-        and-both
-        (and-both (and-left p _ a)
-        (ap (λ (k : ℕ). erasingOk (n .given .«flash_words») (erasingAfter (k / 16) (n .erasing) budget)) l
-        ∙ erasing-kept (n .given .«flash_words») (n .erasing) budget (and-right p _ a)))
-        (and-right (p && erasingOk (n .given .«flash_words») (n .erasing)) _ v)
+        let r = ranges-tell n v in
+        ranges-told (nodeAfter n flash (eraseEffect n budget flash))
+        (record {
+          given = r .given;
+          mode = r .mode;
+          masks = r .masks;
+          erasing =
+              ap (λ (k : ℕ). erasingOk (n .given .«flash_words») (erasingAfter (k / 16) (n .erasing) budget)) (sym (erase-fine n (length flash) e .size))
+              ∙ step-erasing (n .given .«flash_words») (n .erasing) budget (r .erasing);
+          pending = r .pending;
+        })
 
     go : (v : Verdict) → eraseVerdict n (length flash) ≡ v
         → let o : Outcome = judged v n (lentFlash flash) (eraseEffect n budget flash) in
@@ -163,7 +157,7 @@ module _ {link from set own at s : ℕ} {ss : List ℕ} {b : Built} {h : Host} (
   known : GroupOk (h .turn .node .given .ports) link s from set b
   known =
       group-tells (h .turn .node .given .ports) link s at set from b
-      (ap (pendingOk (h .turn .node .given .ports)) (sym (k .pending)) ∙ pending-ok (h .turn .node) (k .ok))
+      (ap (pendingOk (h .turn .node .given .ports)) (sym (k .pending)) ∙ ranges-tell (h .turn .node) (k .ok) .pending)
 
   module _ (slave bc : ℕ) (errors : Bool) (status address : ℕ) (words : List ℕ) where
     abbrev reply : Event
@@ -240,7 +234,6 @@ pub heard-goes : {link from set own at s s′ : ℕ} {ss : List ℕ} {b : Built}
     → (clock : ℕ) (errors : Bool) (a : SlaveAnswer)
     → Going link from set own clock s′ ss (taken (assembly (h .buffer) b) (suc (length ss)) s a .built)
     (becomes h (hearing h link from set at s (s′ ∷ ss) b clock errors a))
-unfolding stateOk
 heard-goes {link} {from} {set} {own} {at} {s} {s′} {ss} {b} {h} k clock errors a =
     let n : Node = h .turn .node in
     let m : Assembly = taken (assembly (h .buffer) b) (suc (length ss)) s a in
@@ -248,14 +241,21 @@ heard-goes {link} {from} {set} {own} {at} {s} {s′} {ss} {b} {h} k clock errors
     let l = ap length (k .rest) in
     let r : b .words + 5 * (suc (length ss) + 1) + 2 ≤ 12288 = omega (arith, q .room, l) in
     let w : m .built .words ≡ b .words + length (fragmentOf s a (b .words) (suc (length ss))) = ap (λ (x : Assembly). x .built .words) (taken-fits (assembly (h .buffer) b) (suc (length ss)) s a r (k .space)) in
-    let p : Bool = givenOk (n .given) && leb (n .mode) 3 && masksOk (n .masks) && erasingOk (n .given .«flash_words») (n .erasing) in
+    let v = ranges-tell n (k .ok) in
     record {
       pending = refl;
       rest = sym (up-tells set (s + 1) s′ ss (k .rest) .rest);
       ok =
-          and-both (and-left p _ (k .ok))
-          (group-told (n .given .ports) link clock set from (s + 1) s′ ss (m .built) (q .linked) (q .bits) (q .sent) (k .rest)
-          (omega (arith, w, room-kept s a (b .words) (suc (length ss)) r)));
+          ranges-told (becomes h (hearing h link from set at s (s′ ∷ ss) b clock errors a) .turn .node)
+          (record {
+            given = v .given;
+            mode = v .mode;
+            masks = v .masks;
+            erasing = v .erasing;
+            pending =
+                group-told (n .given .ports) link clock set from (s + 1) s′ ss (m .built) (q .linked) (q .bits) (q .sent) (k .rest)
+                (omega (arith, w, room-kept s a (b .words) (suc (length ss)) r));
+          });
       space = omega (arith, k .space, taken-changes (assembly (h .buffer) b) (suc (length ss)) s a .size);
       status = k .status;
     }

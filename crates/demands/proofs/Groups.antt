@@ -12,7 +12,7 @@ use lib.Seq.{take-all}
 use borrow.Author.Tests.{eq-eqb, eqb-true, leb-true, leb-false, lt-ltb, ltb-false, not-false}
 use Rattle.base.specs.Pick.{pick}
 use Rattle.base.specs.Words.{laid}
-use Rattle.base.proofs.Pick.{yes, no, pick-case, and-left, and-right}
+use Rattle.base.proofs.Pick.{yes, no, pick-case}
 use Rattle.base.proofs.Laid.{getD-laid-after, part-laid}
 use Rattle.group.specs.Time.{isLate}
 use Rattle.group.specs.Kind.{answer, Answer as SlaveAnswer}
@@ -29,7 +29,7 @@ use Rattle.group.specs.declared.ZeroLength.{ZeroLength}
 use Rattle.group.proofs.Sets.{up-tells, length-slaves}
 use Rattle.group.proofs.Groups.{assembled-room, taken-all, group-sent}
 use Rattle.group.proofs.Tallies.{Keeps, zero-keeps, whole-keeps, common-tells, common-told}
-use Rattle.node.specs.Valid.{givenOk, masksOk, erasingOk, stateOk}
+use Rattle.node.specs.Valid.{stateOk}
 use Rattle.node.specs.Refusals.{isPending, isAsked, flashCause, replyCause, memoryCause, linkCause, stateCause, busyCause, requestVerdict}
 use Rattle.node.specs.Route.{asking, firstByte, secondByte, bcOf, drops, groupFrom, grouped, maskIn, addressed, routeOf}
 use Rattle.node.specs.Settings.{statusIn}
@@ -41,10 +41,11 @@ use Rattle.node.specs.declared.Node.{Node}
 use Rattle.node.specs.declared.Pending.{Pending}
 use Rattle.node.specs.declared.Route.{Route}
 use Rattle.node.specs.declared.Verdict.{Verdict}
+use Rattle.node.proofs.Ranges.{ranges-tell, ranges-told, mask-below}
 use Rattle.demands.specs.Machine.{logodwen}
 use Rattle.demands.specs.Events.{Event, Host, host, stepped, hosted, Undropped, heards}
 use Rattle.demands.specs.Groups.{setAsked, GroupRun, begun, atLast, slaves, said, kinds, fragments, Sends, GroupIsItsFragments, AskedInOrder, EachAskedOnce, FragmentsStand, NothingPastTheWords}
-use Rattle.demands.proofs.Pendings.{and-both, mask-below, group-told}
+use Rattle.demands.proofs.Pendings.{group-told}
 use Rattle.demands.proofs.Slaves.{slaves-exactly}
 use Rattle.demands.proofs.Events.{Going, Quiet, fine-tells, becomes, hearing, erase-quiet, request-quiet, stray-quiet, wait-quiet, reply-heard, late-heard, heard-goes, quiet-goes}
 
@@ -203,13 +204,10 @@ module _ (r : GroupRun logodwen) where
 
   -- the set of a valid state and of a packet's words has 24 bits
   set-below : stateOk (r .node) ≡ true → set < 16777216
-  unfolding stateOk
   set-below v =
       let n : Node = r .node in
-      let p : Bool = givenOk (n .given) && leb (n .mode) 3 in
-      let w = and-left (p && masksOk (n .masks)) _ (and-left (p && masksOk (n .masks) && erasingOk (n .given .«flash_words») (n .erasing)) _ v) in
       let second = r .words 1 in
-      pick-case (λ (x : ℕ). x < 16777216) (eqb byte 0x40) (λ _. mask-below (n .masks) (secondByte (getD (r .packet) 0 0)) (and-right p _ w))
+      pick-case (λ (x : ℕ). x < 16777216) (eqb byte 0x40) (λ _. mask-below (n .masks) (secondByte (getD (r .packet) 0 0)) (ranges-tell n v .masks))
       (λ _. pick-case (λ (x : ℕ). x < 16777216) (eqb byte 0x23) (λ _. omega (arith, second)) (λ _. omega arith))
 
   record Begins (h : Host) : Type 0 where
@@ -241,7 +239,7 @@ module _ (r : GroupRun logodwen) where
       taken′ e x f =
           let free = fine-tells (flashCause n (length (l .flash)) ∷ replyCause (length (l .reply)) ∷ memoryCause (length (l .memories .pm)) (length (l .memories .dm)) (length (l .memories .io)) ∷ linkCause n (r .link) ∷ stateCause n ∷ busyCause n (length (r .packet)) ∷ []) e in
           let ok : stateOk n ≡ true = not-false (stateOk n) (free .1 .1 .1 .1 .0) in
-          let p : Bool = givenOk (n .given) && leb (n .mode) 3 && masksOk (n .masks) && erasingOk (n .given .«flash_words») (n .erasing) in
+          let v = ranges-tell n ok in
           let u = up-tells set 0 (f .first) (f .others) (f .these) in
           let many = length-slaves set in
           let count = ap length (f .these) in
@@ -255,10 +253,17 @@ module _ (r : GroupRun logodwen) where
               pending = refl;
               rest = sym (u .rest);
               ok =
-                  and-both (and-left p _ ok)
-                  (group-told (n .given .ports) (r .link) (r .clock) set (f .from) 0 (f .first) (f .others) (built 0 Tally.Nothing)
-                  (lt-ltb (r .link) (n .given .ports) (leb-false (n .given .ports) (r .link) (free .1 .1 .1 .0)))
-                  (lt-ltb set 16777216 (set-below ok)) (f .sent) (f .these) (omega (arith, many, count)));
+                  ranges-told (after Verdict.Fine (Route.Group (asking (f .first) (f .from)) set) .turn .node)
+                  (record {
+                    given = v .given;
+                    mode = v .mode;
+                    masks = v .masks;
+                    erasing = v .erasing;
+                    pending =
+                        group-told (n .given .ports) (r .link) (r .clock) set (f .from) 0 (f .first) (f .others) (built 0 Tally.Nothing)
+                        (lt-ltb (r .link) (n .given .ports) (leb-false (n .given .ports) (r .link) (free .1 .1 .1 .0)))
+                        (lt-ltb set 16777216 (set-below ok)) (f .sent) (f .these) (omega (arith, many, count));
+                  });
               space = ltb-false (length (l .reply)) 12288 (free .1 .0);
               status = refl;
             };

@@ -1,43 +1,20 @@
--- States in which a group is pending: what is known of them, what is asked of one, and that a step of an
--- erasure leaves a state. By the tests of refusal 5. Assumes nothing.
-use Prim.Native.Nat.{ℕ, zero, suc, _+_, _*_, _/_, _≤_, _<_}
-use mathlib.Core.Path.{_≡_, refl, sym, ap}
+-- A group that is pending in a state: what is known of it, and what is asked of one, by the tests of refusal 5. Assumes nothing.
+use Prim.Native.Nat.{ℕ, suc, _+_, _*_, _≤_}
+use mathlib.Core.Path.{_≡_, ap}
 use mathlib.Core.Bool.{Bool, true, _&&_, _||_}
-use mathlib.Core.List.{List, [], _∷_}
+use mathlib.Core.List.{List, _∷_}
 use native.Mathlib.Omega.{arith}
 use lib.Dec.{eqb, leb, ltb}
-use lib.ListN.{length, getD}
-use borrow.Author.Tests.{leb-true, le-leb, ltb-true, lt-ltb, leb-false}
-use Rattle.base.proofs.Pick.{pick-case, and-left, and-right, and-yes}
-use Rattle.flash.specs.Geometry.{isSector, sizeOf}
-use Rattle.flash.specs.Change.{restOf, erasingAfter}
-use Rattle.flash.specs.declared.Erasing.{Erasing}
+use lib.ListN.{length}
+use borrow.Author.Tests.{leb-true, le-leb}
+use Rattle.base.proofs.Pick.{and-left, and-right}
 use Rattle.group.specs.Slaves.{hasSlave, slavesUp, above}
 use Rattle.group.specs.declared.Built.{Built}
 use Rattle.group.proofs.Sets.{up-tells}
-use Rattle.node.specs.Valid.{masksOk, erasingOk, askOk, pendingOk}
+use Rattle.node.specs.Valid.{askOk, pendingOk}
 use Rattle.node.specs.Slaves.{ask, gathering}
 use Rattle.node.specs.declared.Pending.{Pending}
-
-pub and-both : {t u : Bool} → t ≡ true → u ≡ true → (t && u) ≡ true
-and-both e h = sym (and-yes e (sym h))
-
--- a mask of a state has 24 bits
-pub mask-below : (masks : List ℕ) (i : ℕ) → masksOk masks ≡ true → getD masks i 0 < 16777216
-unfolding masksOk
-mask-below [] i e = omega arith
-mask-below (m ∷ masks) zero e = ltb-true m 16777216 (and-left (ltb m 16777216) (masksOk masks) e)
-mask-below (m ∷ masks) (suc i) e = mask-below masks i (and-right (ltb m 16777216) (masksOk masks) e)
-
--- a step of an erasure leaves one whose progress is below its sector's size, or none
-pub erasing-kept : (words : ℕ) (e : Erasing) (budget : ℕ) → erasingOk words e ≡ true → erasingOk words (erasingAfter (words / 16) e budget) ≡ true
-unfolding erasingAfter
-erasing-kept words Erasing.Nothing budget h = refl
-erasing-kept words (Erasing.Sector p) budget h =
-    pick-case (λ (x : Erasing). erasingOk words x ≡ true) (leb (restOf (words / 16) p) budget) (λ t. refl)
-    (λ t. and-both (and-left (isSector (p .sector)) _ h)
-    (lt-ltb (p .done + budget) (sizeOf (words / 16) (p .sector))
-    (omega (arith, leb-false (restOf (words / 16) p) budget t))))
+use Rattle.node.proofs.Ranges.{and-both}
 
 -- what a state says of a group that is pending in it
 pub record GroupOk (ports link slave from : ℕ) (set : ℕ) (b : Built) : Type 0 where

@@ -18,14 +18,15 @@ use Rattle.group.specs.declared.Reply.{Reply}
 use Rattle.group.specs.declared.Tally.{Tally}
 use Rattle.group.specs.declared.ZeroLength.{ZeroLength}
 use Rattle.node.specs.Refusals.{isAsked}
-use Rattle.node.specs.Route.{asking, firstByte, secondByte, bcOf, maskIn}
+use Rattle.node.specs.Route.{asking, firstByte, secondByte, maskIn}
 use Rattle.node.specs.Settings.{statusIn}
 use Rattle.node.specs.Effect.{Lent, Outcome}
 use Rattle.node.specs.declared.Answer.{Answer}
 use Rattle.node.specs.declared.Asking.{Asking}
 use Rattle.node.specs.declared.Node.{Node}
 use Rattle.node.specs.declared.Pending.{Pending}
-use Rattle.demands.specs.Machine.{Machine, isRefused}
+use Rattle.demands.specs.Machine.{Machine}
+use Rattle.demands.specs.Requests.{Delivered}
 use Rattle.demands.specs.Events.{Event, Host, host, hosted, Undropped, heards}
 
 -- A request to a group, by its first byte, and the set of slaves that it asks: 40 mask by ID in the second byte, 23 mask in the next
@@ -51,10 +52,8 @@ knowsMask packet = not (eqb (firstByte (getD packet 0 0)) 0x40) || leb (secondBy
 -- behind the words stripped.
 abbrev pub GroupIsAsked : Machine → Type 0
 GroupIsAsked M =
-    (n : Node) (clock link bc : ℕ) (errors : Bool) (packet : List ℕ) (l : Lent)
-    → isRefused (M .request n clock link bc errors packet l .turn .answer) ≡ false
-    → errors ≡ false → length packet ≤ 8192 → bcOf bc ≡ 3 → isGroup packet ≡ true → knowsMask packet ≡ true
-    → n .given .kind ≡ 2 → stripped packet < length packet
+    (n : Node) (clock link bc : ℕ) (errors : Bool) (packet : List ℕ) (l : Lent) → Delivered M n clock link bc errors packet l
+    → isGroup packet ≡ true → knowsMask packet ≡ true → n .given .kind ≡ 2 → stripped packet < length packet
     → (s : ℕ) (ss : List ℕ) → slavesOf (setAsked n packet) ≡ s ∷ ss
     → M .request n clock link bc errors packet l .turn .answer ≡ Answer.Ask (asking s (stripped packet))
 
