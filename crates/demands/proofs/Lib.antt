@@ -1,0 +1,16 @@
+pub mod Pendings
+pub mod Events
+pub mod Slaves
+pub mod Asks
+pub mod Groups
+pub mod Examples
+pub mod Settled
+pub mod Verdicts
+pub mod Sound
+pub mod Anchors
+pub mod Commands
+pub mod NoStaleRecord
+pub mod Tests
+pub mod Refusals
+pub mod Flash
+pub mod Erases

@@ -7,3 +7,7 @@ pub mod Hearing
 pub mod Access
 pub mod Taken
 pub mod Blanks
+pub mod Routes
+pub mod Why
+pub mod Directories
+pub mod Ranges
