@@ -7,3 +7,4 @@ pub mod Tests
 pub mod Refusals
 pub mod Flash
 pub mod Erases
+pub mod Held

@@ -4,3 +4,4 @@ pub mod Reached
 pub mod Anchors
 pub mod Refusals
 pub mod Flash
+pub mod Files
