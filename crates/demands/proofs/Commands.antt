@@ -1,7 +1,7 @@
 -- A request comes to the own command that it names: one that is delivered, and one that is answered neither by a refusal nor by ERROR.
 -- Assumes nothing.
 use Prim.Native.Nat.{ℕ}
-use mathlib.Core.Path.{_≡_, refl, sym, ap}
+use mathlib.Core.Path.{_≡_, refl, sym, ap, _∙_}
 use mathlib.Core.Logic.{_⊎_, inl, inr, ⊎-elim}
 use mathlib.Core.Bool.{Bool, true, false, _||_, not, false≢true}
 use mathlib.Core.List.{List, [], _∷_}
@@ -13,7 +13,7 @@ use Rattle.base.specs.Pick.{pick}
 use Rattle.base.proofs.Pick.{yes, no, and-left, and-right}
 use Rattle.group.specs.Ending.{zeroReply}
 use Rattle.group.specs.declared.ZeroLength.{ZeroLength}
-use Rattle.node.specs.Effect.{Lent, ownOutcome}
+use Rattle.node.specs.Effect.{Lent, Outcome, ownOutcome}
 use Rattle.node.specs.Route.{firstByte, secondByte, bcOf, drops, addressed, routeOf}
 use Rattle.node.specs.Own.{ownOf}
 use Rattle.node.specs.Calls.{judged, routed, requestOf}
@@ -40,6 +40,18 @@ command-told id packet c =
 some-words : (id : ℕ) (packet : List ℕ) → isCommand id packet ≡ true → eqb (length packet) 0 ≡ false
 some-words id [] c = absurd (false≢true c)
 some-words id (w ∷ packet) c = ne-eqb (length (w ∷ packet)) 0 (omega arith)
+
+-- the BC of a reply, by which END is told from ABORT and ERROR
+abbrev bcIn : Answer → ℕ
+bcIn (Answer.Refused r) = 0
+bcIn Answer.Started = 0
+bcIn (Answer.Reply r) = r .bc
+bcIn (Answer.Ask a) = 0
+bcIn Answer.Waiting = 0
+bcIn (Answer.Erased count) = 0
+
+pub not-end : {A : Type 0} (k : ℕ) → eqb k 3 ≡ false → k ≡ 3 → A
+not-end k h e = absurd (false≢true (sym h ∙ eq-eqb k 3 e))
 
 module _ (n : Node) (clock link bc : ℕ) (errors : Bool) (packet : List ℕ) (l : Lent) (id : ℕ) (c : isCommand id packet ≡ true) where
   own-route : Route.Own id ≡ addressed (n .given .kind) (n .masks) (length packet) (getD packet 0 0) (getD packet 1 0)
@@ -80,6 +92,11 @@ module _ (n : Node) (clock link bc : ℕ) (errors : Bool) (packet : List ℕ) (l
   answered-own t e =
       let v = judged-fine (verdictOn n link packet l) n l (requestEffect n clock link bc errors packet l) t in
       ⊎-elim (own-is v) (λ r. absurd (e (λ i. judged (v i) n l (routed (r i) n clock link packet l) .turn .answer))) command-route
+
+  pub ended-own : requestOf n clock link bc errors packet l .turn .answer ≡ Answer.Reply (zeroReply ZeroLength.End) → Own × (ownOf id n clock link packet l .reply .bc ≡ 3)
+  ended-own h =
+      let own = answered-own (ap isRefused h) (λ e. not-end 1 refl (ap bcIn (sym e ∙ h))) in
+      (own, ap (λ (o : Outcome). bcIn (o .turn .answer)) (sym (own .is)) ∙ ap bcIn h)
 
   pub delivered-own : Delivered logodwen n clock link bc errors packet l → Own
   unfolding requestOf routeOf

@@ -2,13 +2,13 @@
 -- valid. Assumes nothing.
 use Prim.Native.Nat.{ℕ, min, _+_, _/_, _≤_, _<_}
 use mathlib.Core.Path.{_≡_, refl, sym, ap, _∙_, subst}
-use mathlib.Core.Bool.{Bool, true, false, _||_, not, false≢true}
+use mathlib.Core.Bool.{Bool, true, false, _||_, not}
 use mathlib.Core.List.{List, [], _∷_}
 use native.Mathlib.Nat.{zero-add}
 use native.Mathlib.Omega.{arith}
 use lib.ListN.{length, getD, length-replicate}
 use lib.Dec.{eqb}
-use borrow.Author.Tests.{eqb-true, eq-eqb, lt-leb, lt-ltb}
+use borrow.Author.Tests.{eq-eqb, lt-leb, lt-ltb}
 use Rattle.base.specs.Words.{laid, blanks}
 use Rattle.base.proofs.Laid.{laid-whole}
 use Rattle.base.proofs.Pick.{yes, no, pick-case}
@@ -22,26 +22,24 @@ use Rattle.flash.proofs.Statuses.{empty-blanks}
 use Rattle.flash.proofs.Erasure.{erasing-by, erased-from-start, counted-from-start, ended-from-start}
 use Rattle.group.specs.Ending.{zeroReply}
 use Rattle.group.specs.declared.ZeroLength.{ZeroLength}
-use Rattle.node.specs.Effect.{ownOutcome, Effect, Did, changes, owns, Lent, Outcome, applied, nodeAfter, Change}
+use Rattle.node.specs.Effect.{ownOutcome, Did, changes, owns, Lent, Outcome, applied, nodeAfter, Change}
 use Rattle.node.specs.Files.{isErasing, toErase, eraseAt, eraseStartOf}
 use Rattle.node.specs.Own.{filesOf, ownOf}
 use Rattle.node.specs.Refusals.{eraseVerdict}
 use Rattle.node.specs.Valid.{sizeOk, stateOk}
-use Rattle.node.specs.Calls.{judged, lentFlash, routed, requestOf, eraseEffect, eraseOf}
+use Rattle.node.specs.Calls.{judged, lentFlash, requestOf, eraseEffect, eraseOf}
 use Rattle.node.specs.declared.Answer.{Answer}
 use Rattle.node.specs.declared.Node.{Node}
 use Rattle.node.specs.declared.Verdict.{Verdict}
-use Rattle.node.proofs.Routes.{route-case}
 use Rattle.node.proofs.Why.{erase-sector}
 use Rattle.node.proofs.Directories.{some-words}
 use Rattle.node.proofs.Ranges.{and-both, ranges-tell, ranges-told}
-use Rattle.demands.specs.Machine.{logodwen, isRefused}
+use Rattle.demands.specs.Machine.{logodwen}
 use Rattle.demands.specs.Requests.{Delivered, isCommand}
 use Rattle.demands.specs.Flash.{Row, counting, rowOf, Sets, Begins, Erases}
-use Rattle.demands.proofs.Verdicts.{Fit, verdictOn, requestEffect, request-fine}
-use Rattle.demands.proofs.Commands.{answered-own, delivered-own}
+use Rattle.demands.proofs.Verdicts.{Fit, request-fine}
+use Rattle.demands.proofs.Commands.{not-end, ended-own, delivered-own}
 use Rattle.demands.proofs.Sound.{Valid, change-size, given-size, some-unit, step-valid}
-use Rattle.demands.proofs.Flash.{command-is}
 
 -- a step on a valid state is taken
 erase-taken : (n : Node) (flash : List ℕ) (budget : ℕ) → Valid n flash → eraseOf n budget flash ≡ applied n (lentFlash flash) (eraseEffect n budget flash)
@@ -122,18 +120,6 @@ module _ (n : Node) (flash : List ℕ) (s : ℕ) (v : Valid n flash) (sector : i
         empty = set-empty;
       }
 
--- BC of a 0-length reply, by which END is told from ABORT and ERROR
-abbrev bcIn : Answer → ℕ
-bcIn (Answer.Refused r) = 0
-bcIn Answer.Started = 0
-bcIn (Answer.Reply r) = r .bc
-bcIn (Answer.Ask a) = 0
-bcIn Answer.Waiting = 0
-bcIn (Answer.Erased count) = 0
-
-not-end : {A : Type 0} (k : ℕ) → eqb k 3 ≡ false → k ≡ 3 → A
-not-end k h e = absurd (false≢true (sym h ∙ eq-eqb k 3 e))
-
 -- an Erase answered END began an erasure
 record Began (n : Node) (packet : List ℕ) (d : Did) : Type 0 where
   sector : ℕ
@@ -166,8 +152,9 @@ begun-valid n l s fit sector =
 erase-begins : (n : Node) (clock link bc : ℕ) (errors : Bool) (packet : List ℕ) (l : Lent) → isCommand 0x47 packet ≡ true
     → requestOf n clock link bc errors packet l .turn .answer ≡ Answer.Reply (zeroReply ZeroLength.End) → Begins logodwen n (l .flash) packet (requestOf n clock link bc errors packet l)
 erase-begins n clock link bc errors packet l c h =
-    let own = answered-own n clock link bc errors packet l 0x47 c (ap isRefused h) (λ e. not-end 1 refl (ap bcIn (sym e ∙ h))) in
-    let b = began n clock link packet l (ap (λ (o : Outcome). bcIn (o .turn .answer)) (sym (own .is)) ∙ ap bcIn h) in
+    let ended = ended-own n clock link bc errors packet l 0x47 c h in
+    let own = ended .0 in
+    let b = began n clock link packet l (ended .1) in
     let fit = request-fine n link _ _ _ _ _ _ (own .fine) .fits in
     let sector = erase-sector n l packet (getD packet 1 0) (b .sector) (b .named) in
     subst (λ (o : Outcome). Begins logodwen n (l .flash) packet o) (sym (own .is ∙ ap (ownOutcome n l) (b .is)))

@@ -1,6 +1,6 @@
 -- A file that stands at the start of a sector, alone of its name, stays so over every change that is not made to it. Assumes nothing.
-use Prim.Native.Nat.{ℕ, _+_, _/_, _≤_, _<_}
-use mathlib.Core.Path.{_≡_, refl, sym, ap, _∙_, subst}
+use Prim.Native.Nat.{ℕ, _+_, _/_, _≤_}
+use mathlib.Core.Path.{_≡_, refl, sym, ap, _∙_}
 use mathlib.Core.Logic.{_⊎_, inl, inr}
 use mathlib.Core.Bool.{Bool, true, false, _&&_, false≢true}
 use mathlib.Core.List.{List, [], _∷_}
@@ -18,12 +18,10 @@ use Rattle.image.proofs.File.{file-tells, file-front}
 use Rattle.flash.specs.Geometry.{isSector, unitOf, sizeOf, startOf, sectorOf, entryPlace}
 use Rattle.flash.specs.Status.{isEmpty, firstOf}
 use Rattle.flash.specs.Directory.{directoryOf}
-use Rattle.flash.specs.Search.{isNamed, namedAt}
+use Rattle.flash.specs.Search.{isNamed}
 use Rattle.flash.specs.Change.{erased, OnlySector}
 use Rattle.flash.specs.declared.Erasing.{Erasing}
 use Rattle.flash.specs.declared.Found.{Found}
-use Rattle.flash.specs.declared.Progress.{Progress}
-use Rattle.flash.specs.declared.Target.{Target}
 use Rattle.flash.proofs.Geometry.{length-sector, other-kept}
 use Rattle.flash.proofs.Statuses.{first-word, file-not-empty, good-file}
 use Rattle.flash.proofs.Entries.{directory-first}
@@ -32,10 +30,9 @@ use Rattle.flash.proofs.Storing.{stored-only, stored-reads-back, stored-first, 
 use Rattle.flash.proofs.Attribute.{setting-tells, cleared-name, headed-first}
 use Rattle.flash.proofs.Erasure.{erased-only, erased-or-blank}
 use Rattle.node.specs.Effect.{Change, flashAfter}
-use Rattle.node.specs.Files.{namedBy}
 use Rattle.node.specs.declared.Node.{Node}
 use Rattle.node.proofs.Why.{Why, Written}
-use Rattle.node.proofs.Directories.{Fresh, Erases}
+use Rattle.node.proofs.Directories.{Erases}
 use Rattle.node.proofs.Ranges.{and-both}
 use Rattle.demands.specs.Requests.{isCommand}
 use Rattle.demands.specs.Flash.{erasingSite}

@@ -8,3 +8,5 @@ pub mod Refusals
 pub mod Flash
 pub mod Erases
 pub mod Held
+pub mod Writes
+pub mod ReadsBack

@@ -173,7 +173,7 @@ module _ (n : Node) (l : Lent) (packet : List ℕ) where
   unfolding summaryOf none
   summary-reason = pick-case Reason (eqb (length packet) 1) (λ _. none) (λ _. none)
 
-  placed-tells : (file : List ℕ) (s : ℕ) → Command packet 0x45 → n .erasing ≡ Erasing.Nothing → drop 1 packet ≡ file → placedFor n flash file ≡ Found.At s → Written n flash packet s file
+  pub placed-tells : (file : List ℕ) (s : ℕ) → Command packet 0x45 → n .erasing ≡ Erasing.Nothing → drop 1 packet ≡ file → placedFor n flash file ≡ Found.At s → Written n flash packet s file
   placed-tells file s c e w h =
       let p = pick-first (isExact (fileEnd file) (length file)) (no-place s) h in
       let q = pick-first (isMissing (namedBy n (getD file 0 0))) (no-place s) (p .1) in
