@@ -10,3 +10,4 @@ pub mod Erases
 pub mod Held
 pub mod Writes
 pub mod ReadsBack
+pub mod NeverCorrupted

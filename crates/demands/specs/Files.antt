@@ -112,11 +112,15 @@ ReadsBack M =
     → let r : Outcome = M .request n′ clock′ link′ bc′ errors′ packet′ (lent flash′ m′ reply′) in
     (r .turn .answer ≡ Answer.Reply (replied 3 (length (drop 1 packet) + 2))) × (take (length (drop 1 packet)) (r .after .reply) ≡ drop 1 packet)
 
--- A sector that isn't good: no valid file starts it, or a word of its kept entry isn't the one worked out afresh.
+-- A word of a sector's kept entry isn't the one worked out afresh.
+pub record Differs (n : Node) (flash : List ℕ) (s : ℕ) : Type 0 where
+  pub word : ℕ
+  pub below : word < 4
+  pub differs : getD (n .directory) (entryPlace s + word) 0 ≡ getD (entryFor (n .erasing) s (sectorOf flash s)) word 0 → ⊥
+
+-- A sector isn't good: no valid file starts it, or its entry differs.
 abbrev pub NotGood : Node → List ℕ → ℕ → Type 0
-NotGood n flash s =
-    ((end : ℕ) → fileEnd (sectorOf flash s) ≡ End.At end → ⊥)
-    ⊎ ((r : ℕ) × (r < 4) × (getD (n .directory) (entryPlace s + r) 0 ≡ getD (entryFor (n .erasing) s (sectorOf flash s)) r 0 → ⊥))
+NotGood n flash s = ((end : ℕ) → fileEnd (sectorOf flash s) ≡ End.At end → ⊥) ⊎ Differs n flash s
 
 -- What File Read hands out: the valid file that stands at the start of the sector of that name, whole.
 pub record HandsOut (n : Node) (flash packet : List ℕ) (r : Reply) (reply : List ℕ) : Type 0 where
