@@ -11,3 +11,4 @@ pub mod Held
 pub mod Writes
 pub mod ReadsBack
 pub mod NeverCorrupted
+pub mod ClosedRun

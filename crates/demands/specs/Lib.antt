@@ -5,3 +5,4 @@ pub mod Anchors
 pub mod Refusals
 pub mod Flash
 pub mod Files
+pub mod ClosedRun
