@@ -37,9 +37,9 @@ command-told id packet c =
     }
 
 -- a packet of no words names none
-some-words : (id : ℕ) (packet : List ℕ) → isCommand id packet ≡ true → eqb (length packet) 0 ≡ false
-some-words id [] c = absurd (false≢true c)
-some-words id (w ∷ packet) c = ne-eqb (length (w ∷ packet)) 0 (omega arith)
+not-empty : (id : ℕ) (packet : List ℕ) → isCommand id packet ≡ true → eqb (length packet) 0 ≡ false
+not-empty id [] c = absurd (false≢true c)
+not-empty id (w ∷ packet) c = ne-eqb (length (w ∷ packet)) 0 (omega arith)
 
 -- the BC of a reply, by which END is told from ABORT and ERROR
 abbrev bcIn : Answer → ℕ
@@ -63,7 +63,7 @@ module _ (n : Node) (clock link bc : ℕ) (errors : Bool) (packet : List ℕ) (l
   -- steps 1 to 3 let it pass, or answer ERROR
   command-route : (routeOf n link bc errors packet ≡ Route.Own id) ⊎ (routeOf n link bc errors packet ≡ Route.Wrong)
   unfolding routeOf
-  command-route = by errors (eqb (length packet) 0) (some-words id packet c) (ltb 8192 (length packet) || not (eqb (bcOf bc) 3))
+  command-route = by errors (eqb (length packet) 0) (not-empty id packet c) (ltb 8192 (length packet) || not (eqb (bcOf bc) 3))
     where
       route : Bool → Bool → Bool → Route
       route s t u =
@@ -102,7 +102,7 @@ module _ (n : Node) (clock link bc : ℕ) (errors : Bool) (packet : List ℕ) (l
   unfolding requestOf routeOf
   delivered-own d =
       own-is (judged-fine (verdictOn n link packet l) n l (requestEffect n clock link bc errors packet l) (d .taken))
-      (sym (no _ (d .clean) (no _ (some-words id packet c) (no _ step3 own-route))))
+      (sym (no _ (d .clean) (no _ (not-empty id packet c) (no _ step3 own-route))))
     where
       step3 : (ltb 8192 (length packet) || not (eqb (bcOf bc) 3)) ≡ false
       step3 =

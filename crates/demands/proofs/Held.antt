@@ -44,7 +44,7 @@ pub named-own : (word : ℕ) → headerOk word ≡ true → isNamed (nameOf word
 unfolding isNamed
 named-own word h = and-both h (eq-eqb (nameOf word) (nameOf word) refl)
 
-pub named-tells : (name word : ℕ) → isNamed name word ≡ true → nameOf word ≡ name
+named-tells : (name word : ℕ) → isNamed name word ≡ true → nameOf word ≡ name
 unfolding isNamed
 named-tells name word h = eqb-true (nameOf word) name (and-right (headerOk word) (eqb (nameOf word) name) h)
 

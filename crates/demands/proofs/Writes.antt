@@ -1,7 +1,7 @@
 -- A file that fits is written: in a directory that is fresh the searches find what the flash has. Assumes nothing.
 use Prim.Native.Nat.{ℕ, _<_}
 use mathlib.Core.Path.{_≡_, refl, sym, ap, _∙_}
-use mathlib.Core.Bool.{Bool, true, false, _&&_, false≢true}
+use mathlib.Core.Bool.{true, false, _&&_, false≢true}
 use mathlib.Core.List.{List}
 use lib.ListN.{length, getD, take, drop}
 use borrow.Author.Tests.{eq-eqb, le-leb}
@@ -70,9 +70,6 @@ module _ (n : Node) (flash : List ℕ) (fresh : n .directory ≡ directoryOf fla
   unfolding placeOf
   place-told file valid unused s t = by (placeOf (n .directory) flash (n .erasing) (length file)) refl
     where
-      test : ℕ → Bool
-      test = takes (n .directory) flash (n .erasing) (length file)
-
       exact : isExact (fileEnd file) (length file) ≡ true
       exact = ap (λ (e : End). isExact e (length file)) valid ∙ eq-eqb (length file) (length file) refl
 
