@@ -22,7 +22,7 @@ use Rattle.flash.specs.declared.Erasing.{Erasing}
 use Rattle.flash.specs.declared.Status.{Status}
 use Rattle.flash.specs.declared.Target.{Target}
 use Rattle.flash.proofs.Statuses.{good-file}
-use Rattle.flash.proofs.Kept.{kept-good}
+use Rattle.flash.proofs.Kept.{kept-words}
 use Rattle.group.specs.Ending.{zeroReply}
 use Rattle.group.specs.declared.Reply.{Reply}
 use Rattle.group.specs.declared.ZeroLength.{ZeroLength}
@@ -70,7 +70,7 @@ entry-same directory erasing s words h r l =
 -- so a sector that isn't good is not seen as good
 not-good : (n : Node) (flash : List ℕ) (s : ℕ) → NotGood n flash s → (end : ℕ) → seen n flash s ≡ Status.Good end → ⊥
 unfolding keptStatus
-not-good n flash s (inl bad) end h = bad end (good-file (sectorOf flash s) end (kept-good (n .directory) flash (n .erasing) s end h))
+not-good n flash s (inl bad) end h = bad end (good-file (sectorOf flash s) end (kept-words (n .directory) flash (n .erasing) s end h))
 not-good n flash s (inr d) end h =
     let p = pick-first (entryIs (n .directory) s (firstOf (sectorOf flash s)) (statusIn (n .erasing) s (sectorOf flash s))) (bad end) h in
     d .differs (entry-same (n .directory) (n .erasing) s (sectorOf flash s) (p .0) (d .word) (d .below))
@@ -135,7 +135,7 @@ module _ (n : Node) (packet : List ℕ) (l : Lent) (r : Reply) (some : 0 < r .wo
       by : (s : ℕ) → namedBy n (getD packet 1 0) ≡ Target.At s → (x : Status) → seen n (l .flash) s ≡ x → Hands (readBy (ownStatus n) (sectorOf (l .flash) s) x)
       by s named (Status.Good end) e =
           let words : List ℕ = sectorOf (l .flash) s in
-          let valid = good-file words end (kept-good (n .directory) (l .flash) (n .erasing) s end e) in
+          let valid = good-file words end (kept-words (n .directory) (l .flash) (n .erasing) s end e) in
           let size = length-take-le end words (file-tells words end valid .fits) in
           pick-case Hands (leb end 12286)
           (λ _ q. record {
