@@ -2,13 +2,13 @@
 -- valid. Assumes nothing.
 use Prim.Native.Nat.{ℕ, min, _+_, _/_, _≤_, _<_}
 use mathlib.Core.Path.{_≡_, refl, sym, ap, _∙_, subst}
-use mathlib.Core.Bool.{Bool, true, false, _||_, not, false≢true}
+use mathlib.Core.Bool.{Bool, true, false, _||_, not}
 use mathlib.Core.List.{List, [], _∷_}
 use native.Mathlib.Nat.{zero-add}
 use native.Mathlib.Omega.{arith}
 use lib.ListN.{length, getD, length-replicate}
 use lib.Dec.{eqb}
-use borrow.Author.Tests.{eqb-true, eq-eqb, lt-leb, lt-ltb}
+use borrow.Author.Tests.{eq-eqb, lt-leb, lt-ltb}
 use Rattle.base.specs.Words.{laid, blanks}
 use Rattle.base.proofs.Laid.{laid-whole}
 use Rattle.base.proofs.Pick.{yes, no, pick-case}
@@ -22,26 +22,24 @@ use Rattle.flash.proofs.Statuses.{empty-blanks}
 use Rattle.flash.proofs.Erasure.{erasing-by, erased-from-start, counted-from-start, ended-from-start}
 use Rattle.group.specs.Ending.{zeroReply}
 use Rattle.group.specs.declared.ZeroLength.{ZeroLength}
-use Rattle.node.specs.Effect.{Effect, Did, changes, owns, Lent, Outcome, applied, nodeAfter, Change}
+use Rattle.node.specs.Effect.{ownOutcome, Did, changes, owns, Lent, Outcome, applied, nodeAfter, Change}
 use Rattle.node.specs.Files.{isErasing, toErase, eraseAt, eraseStartOf}
 use Rattle.node.specs.Own.{filesOf, ownOf}
 use Rattle.node.specs.Refusals.{eraseVerdict}
 use Rattle.node.specs.Valid.{sizeOk, stateOk}
-use Rattle.node.specs.Calls.{judged, lentFlash, routed, requestOf, eraseEffect, eraseOf}
+use Rattle.node.specs.Calls.{judged, lentFlash, requestOf, eraseEffect, eraseOf}
 use Rattle.node.specs.declared.Answer.{Answer}
 use Rattle.node.specs.declared.Node.{Node}
 use Rattle.node.specs.declared.Verdict.{Verdict}
-use Rattle.node.proofs.Routes.{route-case}
 use Rattle.node.proofs.Why.{erase-sector}
 use Rattle.node.proofs.Directories.{some-words}
 use Rattle.node.proofs.Ranges.{and-both, ranges-tell, ranges-told}
 use Rattle.demands.specs.Machine.{logodwen}
 use Rattle.demands.specs.Requests.{Delivered, isCommand}
 use Rattle.demands.specs.Flash.{Row, counting, rowOf, Sets, Begins, Erases}
-use Rattle.demands.proofs.Verdicts.{Fit, verdictOn, requestEffect, request-fine}
-use Rattle.demands.proofs.Commands.{delivered-own}
+use Rattle.demands.proofs.Verdicts.{Fit, request-fine}
+use Rattle.demands.proofs.Commands.{not-end, ended-own, delivered-own}
 use Rattle.demands.proofs.Sound.{Valid, change-size, given-size, some-unit, step-valid}
-use Rattle.demands.proofs.Flash.{command-is}
 
 -- a step on a valid state is taken
 erase-taken : (n : Node) (flash : List ℕ) (budget : ℕ) → Valid n flash → eraseOf n budget flash ≡ applied n (lentFlash flash) (eraseEffect n budget flash)
@@ -122,55 +120,22 @@ module _ (n : Node) (flash : List ℕ) (s : ℕ) (v : Valid n flash) (sector : i
         empty = set-empty;
       }
 
--- BC of a reply, by which END is told from all other answers
-abbrev bcIn : Answer → ℕ
-bcIn (Answer.Refused r) = 0
-bcIn Answer.Started = 0
-bcIn (Answer.Reply r) = r .bc
-bcIn (Answer.Ask a) = 0
-bcIn Answer.Waiting = 0
-bcIn (Answer.Erased count) = 0
-
-abbrev Ends : Answer → Type 0
-Ends a = bcIn a ≡ 3
-
-not-end : {A : Type 0} (k : ℕ) → eqb k 3 ≡ false → k ≡ 3 → A
-not-end k h e = absurd (false≢true (sym h ∙ eq-eqb k 3 e))
-
 -- an Erase answered END began an erasure
-module _ (n : Node) (packet : List ℕ) (l : Lent) where
-  record Began (e : Effect) : Type 0 where
-    sector : ℕ
-    named : toErase n (getD packet 1 0) ≡ Found.At sector
-    is : e ≡ owns n l (changes (Change.Begun sector))
+record Began (n : Node) (packet : List ℕ) (d : Did) : Type 0 where
+  sector : ℕ
+  named : toErase n (getD packet 1 0) ≡ Found.At sector
+  is : d ≡ changes (Change.Begun sector)
 
-  abbrev OnEnd : Did → Type 0
-  OnEnd d = Ends (Answer.Reply (d .reply)) → Began (owns n l d)
-
-  own-began : (clock link : ℕ) → Ends (Answer.Reply (ownOf 0x47 n clock link packet l .reply)) → Began (owns n l (ownOf 0x47 n clock link packet l))
-  unfolding ownOf filesOf eraseStartOf
-  own-began clock link =
-      pick-case OnEnd (isErasing (n .erasing)) (λ _. not-end 2 refl)
-      (λ _. pick-case OnEnd (eqb (length packet) 2) (λ _. by (toErase n (getD packet 1 0)) refl) (λ _. not-end 2 refl))
-    where
-      by : (f : Found) → toErase n (getD packet 1 0) ≡ f → OnEnd (eraseAt f)
-      by Found.Nothing e = not-end 2 refl
-      by (Found.At s) e = λ _. record { sector = s; named = e; is = refl }
-
-  -- a request of no words is no command
-  no-words : isCommand 0x47 packet ≡ true → length packet ≡ 0 → ⊥
-  no-words c h = by packet c h
-    where
-      by : (ws : List ℕ) → isCommand 0x47 ws ≡ true → length ws ≡ 0 → ⊥
-      by [] q e = false≢true q
-      by (w ∷ ws) q e = omega arith
-
-  request-began : (clock link bc : ℕ) (errors : Bool) → isCommand 0x47 packet ≡ true → Ends (requestEffect n clock link bc errors packet l .answer) → Began (requestEffect n clock link bc errors packet l)
-  request-began clock link bc errors c =
-      route-case (λ r. Ends (routed r n clock link packet l .answer) → Began (routed r n clock link packet l)) n link bc errors packet
-      (not-end 1 refl) (not-end 2 refl) (λ h. absurd (no-words c h))
-      (λ id k. subst (λ (x : ℕ). Ends (Answer.Reply (ownOf x n clock link packet l .reply)) → Began (owns n l (ownOf x n clock link packet l))) (sym (eqb-true id 0x47 (sym (command-is 0x47 k) ∙ c))) (own-began clock link))
-      (λ s h. not-end 0 refl) (λ set from s named e. not-end 0 refl)
+began : (n : Node) (clock link : ℕ) (packet : List ℕ) (l : Lent) → ownOf 0x47 n clock link packet l .reply .bc ≡ 3 → Began n packet (ownOf 0x47 n clock link packet l)
+unfolding ownOf filesOf eraseStartOf
+began n clock link packet l =
+    let P : Did → Type 0 = λ d. d .reply .bc ≡ 3 → Began n packet d in
+    pick-case P (isErasing (n .erasing)) (λ _. not-end 2 refl)
+    (λ _. pick-case P (eqb (length packet) 2) (λ _. by (toErase n (getD packet 1 0)) refl) (λ _. not-end 2 refl))
+  where
+    by : (f : Found) → toErase n (getD packet 1 0) ≡ f → eraseAt f .reply .bc ≡ 3 → Began n packet (eraseAt f)
+    by Found.Nothing e = not-end 2 refl
+    by (Found.At s) e = λ _. record { sector = s; named = e; is = refl }
 
 -- the state in which an erasure has begun is valid
 begun-valid : (n : Node) (l : Lent) (s : ℕ) → Fit n (length (l .flash)) → isSector s ≡ true → Valid (nodeAfter n (l .flash) (owns n l (changes (Change.Begun s)))) (l .flash)
@@ -186,30 +151,26 @@ begun-valid n l s fit sector =
 
 erase-begins : (n : Node) (clock link bc : ℕ) (errors : Bool) (packet : List ℕ) (l : Lent) → isCommand 0x47 packet ≡ true
     → requestOf n clock link bc errors packet l .turn .answer ≡ Answer.Reply (zeroReply ZeroLength.End) → Begins logodwen n (l .flash) packet (requestOf n clock link bc errors packet l)
-unfolding requestOf
-erase-begins n clock link bc errors packet l c h = by (verdictOn n link packet l) refl (ap bcIn h)
-  where
-    by : (v : Verdict) → verdictOn n link packet l ≡ v → Ends (judged v n l (requestEffect n clock link bc errors packet l) .turn .answer)
-        → Begins logodwen n (l .flash) packet (judged v n l (requestEffect n clock link bc errors packet l))
-    by (Verdict.No r) e q = not-end 0 refl q
-    by Verdict.Fine e q =
-        let b = request-began n packet l clock link bc errors c q in
-        let fit = request-fine n link _ _ _ _ _ _ e .fits in
-        let sector = erase-sector n l packet (getD packet 1 0) (b .sector) (b .named) in
-        subst (λ (x : Effect). Begins logodwen n (l .flash) packet (applied n l x)) (sym (b .is))
-        (record {
-          sector = b .sector;
-          named = b .named;
-          kept = refl;
-          sets = sets (nodeAfter n (l .flash) (owns n l (changes (Change.Begun (b .sector))))) (l .flash) (b .sector) (begun-valid n l (b .sector) fit sector) sector refl;
-        })
+erase-begins n clock link bc errors packet l c h =
+    let ended = ended-own n clock link bc errors packet l 0x47 c h in
+    let own = ended .0 in
+    let b = began n clock link packet l (ended .1) in
+    let fit = request-fine n link _ _ _ _ _ _ (own .fine) .fits in
+    let sector = erase-sector n l packet (getD packet 1 0) (b .sector) (b .named) in
+    subst (λ (o : Outcome). Begins logodwen n (l .flash) packet o) (sym (own .is ∙ ap (ownOutcome n l) (b .is)))
+    (record {
+      sector = b .sector;
+      named = b .named;
+      kept = refl;
+      sets = sets (nodeAfter n (l .flash) (owns n l (changes (Change.Begun (b .sector))))) (l .flash) (b .sector) (begun-valid n l (b .sector) fit sector) sector refl;
+    })
 
 erase-starts : (n : Node) (clock link bc : ℕ) (errors : Bool) (packet : List ℕ) (l : Lent) (s : ℕ) → isCommand 0x47 packet ≡ true
     → Delivered logodwen n clock link bc errors packet l → length packet ≡ 2 → n .erasing ≡ Erasing.Nothing → toErase n (getD packet 1 0) ≡ Found.At s
     → requestOf n clock link bc errors packet l .turn .answer ≡ Answer.Reply (zeroReply ZeroLength.End)
 unfolding ownOf filesOf eraseStartOf
 erase-starts n clock link bc errors packet l s c d h idle named =
-    ap (λ (o : Outcome). o .turn .answer) (delivered-own n clock link bc errors packet l d 0x47 c)
+    ap (λ (o : Outcome). o .turn .answer) (delivered-own n clock link bc errors packet l 0x47 c d .is)
     ∙ ap (λ (x : Did). Answer.Reply (x .reply)) (sym (no _ (ap isErasing idle) (yes _ (eq-eqb (length packet) 2 h) (ap eraseAt (sym named)))))
 
 pub erases : Erases logodwen

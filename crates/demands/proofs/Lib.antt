@@ -14,3 +14,8 @@ pub mod Tests
 pub mod Refusals
 pub mod Flash
 pub mod Erases
+pub mod Held
+pub mod Writes
+pub mod ReadsBack
+pub mod NeverCorrupted
+pub mod ClosedRun

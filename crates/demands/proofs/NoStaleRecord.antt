@@ -41,7 +41,7 @@ pub summary-is-true : SummaryIsTrue logodwen
 summary-is-true n flash r clock link bc errors packet m reply d c h =
     let fresh = no-stale-record n flash r in
     let size = ap length fresh ∙ length-directory flash (n .erasing) in
-    let o = delivered-own n clock link bc errors packet (lent flash m reply) d 0x07 c ∙ ap (ownOutcome n (lent flash m reply)) (summary-did n clock link packet (lent flash m reply) h) in (
+    let o = delivered-own n clock link bc errors packet (lent flash m reply) 0x07 c d .is ∙ ap (ownOutcome n (lent flash m reply)) (summary-did n clock link packet (lent flash m reply) h) in (
       ap (λ (x : Outcome). x .turn .answer) o ∙ ap (λ (k : ℕ). Answer.Reply (replied 3 (k + 2))) size,
       ap (λ (x : Outcome). take 32 (x .after .reply)) o ∙ data-front reply (statusIn n) (n .directory) 32 size ∙ fresh,
     )

@@ -66,7 +66,7 @@ module _ (n : Node) (clock link bc : ℕ) (errors : Bool) (packet : List ℕ) (l
   abbrev after : List ℕ
   after = flashAfter (asked .change) (n .erasing) (l .flash)
 
-  pub request-valid : Below 65536 packet → link < n .given .ports → Valid n (l .flash) → Valid (nodeAfter n (l .flash) asked) after
+  request-valid : Below 65536 packet → link < n .given .ports → Valid n (l .flash) → Valid (nodeAfter n (l .flash) asked) after
   request-valid b k v =
       let words : ℕ = n .given .«flash_words» in
       let why = request-why n l packet clock link bc errors in
@@ -84,7 +84,7 @@ module _ (n : Node) (clock link bc : ℕ) (errors : Bool) (packet : List ℕ) (l
         size = v .size ∙ sym (change-size (asked .change) (n .erasing) (l .flash));
       }
 
-  pub request-sound : Below 65536 packet → link < n .given .ports → Sound n (l .flash) → Sound (nodeAfter n (l .flash) asked) after
+  request-sound : Below 65536 packet → link < n .given .ports → Sound n (l .flash) → Sound (nodeAfter n (l .flash) asked) after
   request-sound b k s =
       record {
         valid = request-valid b k (s .valid);

@@ -42,11 +42,11 @@ judged-fine Verdict.Fine n l e h = refl
 judged-fine (Verdict.No r) n l e h = absurd (false≢true (sym h))
 
 -- where the verdict is fine no cause held
-pub fine-then : (t : Bool) (r : Refusal) (v : Verdict) → pick t (Verdict.No r) v ≡ Verdict.Fine → (t ≡ false) × (v ≡ Verdict.Fine)
+fine-then : (t : Bool) (r : Refusal) (v : Verdict) → pick t (Verdict.No r) v ≡ Verdict.Fine → (t ≡ false) × (v ≡ Verdict.Fine)
 fine-then true r v e = let z : _≡_ {A = ℕ} 0 1 = cc in absurd (omega arith)
 fine-then false r v e = (refl, e)
 
-pub or-neither : (t u : Bool) → (t || u) ≡ false → (t ≡ false) × (u ≡ false)
+or-neither : (t u : Bool) → (t || u) ≡ false → (t ≡ false) × (u ≡ false)
 or-neither true u e = absurd (false≢true (sym e))
 or-neither false u e = (refl, e)
 

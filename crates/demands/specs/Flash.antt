@@ -61,17 +61,18 @@ InStep (Erasing.Sector p) flash budget i =
     (startOf (unitOf flash) (p .sector) + p .done ≤ i)
     × (i < startOf (unitOf flash) (p .sector) + p .done + min budget (restOf (unitOf flash) p))
 
-abbrev pub Erased : Call → Node → List ℕ → ℕ → Type 0
-Erased (Call.Start kind ports subdetector program version tests clock) n flash i = ⊥
-Erased (Call.Request clock link bc errors packet m reply) n flash i = ⊥
-Erased (Call.Reply clock slave bc errors status address words reply) n flash i = ⊥
-Erased (Call.Poll clock reply) n flash i = ⊥
-Erased (Call.Erase budget) n flash i = InStep (n .erasing) flash budget i
+-- Of a call, those of its step; no other call sets any.
+abbrev pub SetByErasing : Call → Node → List ℕ → ℕ → Type 0
+SetByErasing (Call.Start kind ports subdetector program version tests clock) n flash i = ⊥
+SetByErasing (Call.Request clock link bc errors packet m reply) n flash i = ⊥
+SetByErasing (Call.Reply clock slave bc errors status address words reply) n flash i = ⊥
+SetByErasing (Call.Poll clock reply) n flash i = ⊥
+SetByErasing (Call.Erase budget) n flash i = InStep (n .erasing) flash budget i
 
 -- A bit that was 0 is 0, but in the words that a step of an erasure sets. Any call, on any state and any flash.
 abbrev pub NoBitRises : Machine → Type 0
 NoBitRises M =
-    (c : Call) (n : Node) (flash : List ℕ) (i k : ℕ) → k < 16 → (Erased c n flash i → ⊥)
+    (c : Call) (n : Node) (flash : List ℕ) (i k : ℕ) → k < 16 → (SetByErasing c n flash i → ⊥)
     → bitOf (getD flash i 0) k ≡ 0 → bitOf (getD (flashOf M c n flash) i 0) k ≡ 0
 
 -- A row of erase-progress calls with these budgets, each lent the state and the flash that the one before left: the state and the

@@ -8,3 +8,5 @@ pub mod Reached
 pub mod Anchors
 pub mod Refusals
 pub mod Flash
+pub mod Files
+pub mod ClosedRun

@@ -24,7 +24,7 @@ use Rattle.flash.specs.declared.Found.{Found}
 use Rattle.flash.specs.declared.Setting.{Setting}
 use Rattle.flash.specs.declared.Status.{Status}
 use Rattle.flash.specs.declared.Target.{Target}
-use Rattle.flash.proofs.Kept.{Place, kept-good, place-tells, target-tells}
+use Rattle.flash.proofs.Kept.{Place, kept-words, place-tells, target-tells}
 use Rattle.flash.proofs.Searches.{found-tells}
 use Rattle.flash.proofs.Statuses.{good-file, first-word}
 use Rattle.group.specs.Kind.{answer}
@@ -173,7 +173,7 @@ module _ (n : Node) (l : Lent) (packet : List ℕ) where
   unfolding summaryOf none
   summary-reason = pick-case Reason (eqb (length packet) 1) (λ _. none) (λ _. none)
 
-  placed-tells : (file : List ℕ) (s : ℕ) → Command packet 0x45 → n .erasing ≡ Erasing.Nothing → drop 1 packet ≡ file → placedFor n flash file ≡ Found.At s → Written n flash packet s file
+  pub placed-tells : (file : List ℕ) (s : ℕ) → Command packet 0x45 → n .erasing ≡ Erasing.Nothing → drop 1 packet ≡ file → placedFor n flash file ≡ Found.At s → Written n flash packet s file
   placed-tells file s c e w h =
       let p = pick-first (isExact (fileEnd file) (length file)) (no-place s) h in
       let q = pick-first (isMissing (namedBy n (getD file 0 0))) (no-place s) (p .1) in
@@ -241,7 +241,7 @@ module _ (n : Node) (l : Lent) (packet : List ℕ) where
           )
 
       by : n .erasing ≡ Erasing.Nothing → (s : ℕ) → namedBy n (getD packet 1 0) ≡ Target.At s → (x : Status) → seen n flash s ≡ x → Reason (attributeBy s (sectorOf flash s) (getD packet 2 0) x)
-      by e s t (Status.Good end) q = set e s end t (kept-good (n .directory) flash (n .erasing) s end q) (settingOf (getD (sectorOf flash s) 0 0) (getD packet 2 0)) refl
+      by e s t (Status.Good end) q = set e s end t (kept-words (n .directory) flash (n .erasing) s end q) (settingOf (getD (sectorOf flash s) 0 0) (getD packet 2 0)) refl
       by e s t Status.Empty q = none
       by e s t Status.Bad q = none
       by e s t Status.Erasing q = none
