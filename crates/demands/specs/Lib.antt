@@ -1,1 +1,12 @@
 pub mod Machine
+pub mod Events
+pub mod Groups
+pub mod Examples
+pub mod Settled
+pub mod Requests
+pub mod Reached
+pub mod Anchors
+pub mod Refusals
+pub mod Flash
+pub mod Files
+pub mod ClosedRun

@@ -162,7 +162,7 @@ module _ (flash : List ℕ) (s n value new : ℕ) (sector : isSector s ≡ true)
   pub attributed-good : statusOf (sectorOf (headed flash s new) s) ≡ Status.Good n
   attributed-good = ap statusOf headed-sector ∙ headed-words-good (sectorOf flash s) n new good cleared
 
-  headed-first : firstOf (sectorOf (headed flash s new) s) ≡ new
+  pub headed-first : firstOf (sectorOf (headed flash s new) s) ≡ new
   headed-first =
       let h = some in
       let l = length-sector flash s in

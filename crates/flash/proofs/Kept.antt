@@ -57,6 +57,21 @@ module _ (directory flash : List ℕ) (erasing : Erasing) (s : ℕ) where
       by false End.Invalid =
           same (entryIs directory s (firstOf words) Status.Bad) ∙ sym (same (entryIs directory s (firstOf words) Status.Empty))
 
+  -- a status that is good is what the words are
+  pub kept-words : (end : ℕ) → keptStatus directory flash erasing s ≡ Status.Good end → statusOf words ≡ Status.Good end
+  unfolding keptStatus statusIn
+  kept-words end h = by (isErasing erasing s) (entryIs directory s (firstOf words) (statusIn erasing s words)) h
+    where
+      by : (t u : Bool) → pick u (pick t Status.Erasing (statusOf words)) Status.Bad ≡ Status.Good end → statusOf words ≡ Status.Good end
+      by true true e = let z : _≡_ {A = ℕ} 0 1 = cc in absurd (omega arith)
+      by false true e = e
+      by true false e = let z : _≡_ {A = ℕ} 0 1 = cc in absurd (omega arith)
+      by false false e = let z : _≡_ {A = ℕ} 0 1 = cc in absurd (omega arith)
+
+  -- .. and its file ends inside it
+  pub kept-good : (end : ℕ) → keptStatus directory flash erasing s ≡ Status.Good end → FileTo words end
+  kept-good end h = file-tells words end (good-file words end (kept-words end h))
+
   -- it is empty just where the entry says so, first word included, and all its words are FFFF
   pub kept-empty : isErasing erasing s ≡ false
       → isEmptyStatus (keptStatus directory flash erasing s) ≡ (entryIs directory s 0xFFFF Status.Empty && isEmpty words)
@@ -90,14 +105,6 @@ module _ (directory flash : List ℕ) (erasing : Erasing) (s : ℕ) where
       by : (t : Bool) → isEmptyStatus (pick t Status.Erasing Status.Bad) ≡ false
       by true = refl
       by false = refl
-
-  -- one that is good is good by its words, and its file ends inside it
-  pub kept-good : (end : ℕ) → keptStatus directory flash erasing s ≡ Status.Good end → FileTo words end
-  unfolding keptStatus statusIn
-  kept-good end h =
-      let p = pick-first (entryIs directory s (firstOf words) (statusIn erasing s words)) (λ e. let z : _≡_ {A = ℕ} 0 1 = cc in omega arith) h in
-      let q = pick-second (isErasing erasing s) (λ e. let z : _≡_ {A = ℕ} 0 1 = cc in omega arith) (p .1) in
-      file-tells words end (good-file words end (q .1))
 
 -- the directory that is worked out afresh differs nowhere: each sector is what the flash makes it
 pub kept-true : (flash : List ℕ) (erasing : Erasing) (s : ℕ) → isSector s ≡ true → keptStatus (directoryOf flash erasing) flash erasing s ≡ statusIn erasing s (sectorOf flash s)

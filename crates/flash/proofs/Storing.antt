@@ -114,7 +114,7 @@ module _ (flash : List ℕ) (s : ℕ) (file : List ℕ) (sector : isSector s ≡
         status-good (sectorOf (stored flash s file) s) (length file)
         (file-front (sectorOf (stored flash s file) s) (length file) (omega arith) (ap fileEnd stored-reads-back ∙ valid))
 
-    stored-first : firstOf (sectorOf (stored flash s file) s) ≡ firstOf file
+    pub stored-first : firstOf (sectorOf (stored flash s file) s) ≡ firstOf file
     stored-first =
         let f = file-tells file (length file) valid in
         let k = f .least in

@@ -9,4 +9,3 @@ pub mod Takes
 pub mod Tallies
 pub mod Seals
 pub mod Groups
-pub mod Examples

@@ -6,4 +6,3 @@ pub mod Slaves
 pub mod Ending
 pub mod Single
 pub mod Whole
-pub mod Examples

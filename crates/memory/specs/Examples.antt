@@ -1,21 +1,13 @@
--- The examples of 01 that are about memories, and the largest reads of PM and DM, as one statement that computes. Assumes nothing.
+-- Runs across the halves of the address map, and the largest reads of PM and DM, as one statement that computes. Assumes nothing.
 use mathlib.Core.Path.{_≡_}
 use mathlib.Core.Bool.{true, false}
 use mathlib.Core.List.{[], _∷_}
-use Rattle.image.specs.Segment.{memoryOf}
 use Rattle.image.specs.declared.Memory.{Memory}
 use Rattle.image.specs.declared.Page.{Page}
-use Rattle.memory.specs.Map.{indexOf}
 use Rattle.memory.specs.Run.{runOf, runFits}
-use Rattle.memory.specs.Segment.{headerRun}
 use Rattle.memory.specs.Command.{readWords}
 
 pub record Examples : Type 0 where
-  -- DM page 0 address 2000: index 0
-  pub dm-fixed : indexOf Memory.Dm Page.Zero 0x2000 ≡ 0
-  -- header words 4003 9000: two memory words from DM index 20,480
-  pub dm-header : memoryOf 0x4003 ≡ Memory.Dm
-  pub dm-run : headerRun Memory.Dm 0x4003 0x9000 ≡ 20480 ∷ 20481 ∷ []
   -- four DM words from 1FFE of page 4 cross into fixed memory; four PM words out of it, into page 5's own
   pub dm-across : runOf Memory.Dm Page.Four 0x1FFE 4 ≡ 0x5FFE ∷ 0x5FFF ∷ 0x0000 ∷ 0x0001 ∷ []
   pub pm-across : runOf Memory.Pm Page.Five 0x1FFE 4 ≡ 0x1FFE ∷ 0x1FFF ∷ 0x6000 ∷ 0x6001 ∷ []

@@ -5,3 +5,9 @@ pub mod Loads
 pub mod Masks
 pub mod Hearing
 pub mod Access
+pub mod Taken
+pub mod Blanks
+pub mod Routes
+pub mod Why
+pub mod Directories
+pub mod Ranges

@@ -18,7 +18,7 @@ use Rattle.node.specs.Files.{isFaulty, loadBy}
 use Rattle.node.specs.declared.Answer.{Answer}
 use Rattle.node.specs.declared.Node.{Node}
 use Rattle.node.specs.declared.Turn.{Turn}
-use Rattle.node.proofs.Commands.{says-by}
+use Rattle.node.proofs.Outcomes.{ends}
 
 module _ (words : List ℕ) (m : Memories) where
   abbrev fits : Bool
@@ -67,4 +67,4 @@ module _ (words : List ℕ) (m : Memories) where
         let p = load-tells done left e in
         let t : fits ≡ false = sym (p .0) ∙ h in
         ap (λ (x : Memories). outcome r (lent flash x reply)) (p .1 ∙ sym (no after t refl))
-        ∙ says-by n ZeroLength.Abort (no (stores (Store.File words)) t refl ∙ load-good status good) q (lent flash m reply)
+        ∙ ends n ZeroLength.Abort q (no (stores (Store.File words)) t refl ∙ load-good status good) (lent flash m reply)

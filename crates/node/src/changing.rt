@@ -106,7 +106,7 @@ fn write_at(node: Node, flash: &mut [u16], found: Found, file: &[u16]) -> Turn
     }
 }
 
-// 45, Write.
+// File Write, 45.
 pub fn file_write(node: Node, packet: &[u16], flash: &mut [u16]) -> Turn
     requires { ⌜ 1 ≤ length (now packet) ⌝ }
     ensures { λ r. ⌜ Changes node (writeOf node (now (flash .entry)) (now (packet .entry))) (now (flash .entry)) r (now (flash .exit)) ⌝ }
@@ -146,7 +146,7 @@ fn erase_at(node: Node, flash: &[u16], found: Found) -> Turn
     }
 }
 
-// 47, Erase: it only starts.
+// Erase, 47: it only starts.
 pub fn erase_start(node: Node, packet: &[u16], flash: &[u16]) -> Turn
     ensures { λ r. ⌜ Changes node (eraseStartOf node (now (packet .entry))) (now (flash .entry)) r (now (flash .entry)) ⌝ }
 {
@@ -204,7 +204,7 @@ fn attribute_at(node: Node, flash: &mut [u16], value: u16, target: Target) -> Tu
     }
 }
 
-// 48, Attribute Set.
+// Attribute Set, 48.
 pub fn attribute_set(node: Node, packet: &[u16], flash: &mut [u16]) -> Turn
     ensures { λ r. ⌜ Changes node (attributeSetOf node (now (flash .entry)) (now (packet .entry))) (now (flash .entry)) r (now (flash .exit)) ⌝ }
 {

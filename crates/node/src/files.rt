@@ -94,7 +94,7 @@ fn read_at(node: Node, flash: &[u16], target: Target, reply: &mut [u16]) -> Turn
     }
 }
 
-// 05, Read.
+// File Read, 05.
 pub fn file_read(node: Node, packet: &[u16], flash: &[u16], reply: &mut [u16]) -> Turn
     requires { ⌜ 12288 ≤ length (now reply) ⌝ }
     ensures { λ r. ⌜ Replies node (readOf node (now (flash .entry)) (now (packet .entry))) (now (reply .entry)) r (now (reply .exit)) ⌝ }
@@ -146,7 +146,7 @@ fn test_at(node: Node, flash: &[u16], target: Target, reply: &mut [u16]) -> Turn
     }
 }
 
-// 06, Test.
+// File Test, 06.
 pub fn file_test(node: Node, packet: &[u16], flash: &[u16], reply: &mut [u16]) -> Turn
     requires { ⌜ 12288 ≤ length (now reply) ⌝ }
     ensures { λ r. ⌜ Replies node (testOf node (now (flash .entry)) (now (packet .entry))) (now (reply .entry)) r (now (reply .exit)) ⌝ }
@@ -195,7 +195,7 @@ fn load_at(
     }
 }
 
-// 46, Load.
+// File Load, 46.
 pub fn file_load(
     node: Node,
     packet: &[u16],
@@ -213,7 +213,7 @@ pub fn file_load(
     load_at(node, flash, named_by(node, word_at(packet, 1)), pm, dm, io)
 }
 
-// 07, Summary.
+// Flash Summary, 07.
 pub fn summary(node: Node, packet: &[u16], reply: &mut [u16]) -> Turn
     requires { ⌜ 12288 ≤ length (now reply) ⌝ }
     ensures { λ r. ⌜ Replies node (summaryOf node (now (packet .entry))) (now (reply .entry)) r (now (reply .exit)) ⌝ }

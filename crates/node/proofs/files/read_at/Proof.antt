@@ -1,44 +1,37 @@
-use mathlib.Core.Path.{refl, sym, ap, _∙_}
+-- `node::files::read_at` meets its contract: by the target. Assumes nothing.
+use mathlib.Core.Path.{refl}
+use Rattle.node.proofs.Outcomes.{ends, replies-as, sets-as}
 use Rattle.group.specs.declared.ZeroLength.{ZeroLength}
-use Rattle.node.specs.Effect.{lent, ownOutcome, Change}
-use Rattle.node.proofs.Commands.{says-by, changes-by, served, unserved}
-use Rattle.base.proofs.Pick.{yes, no, via}
+use Rattle.base.proofs.Pick.{via}
 use Rattle.node.specs.Files.{readAt}
 use borrow.Author.Needs.{needs}
 use Rattle.node.proofs.files.read_at.Statement.{statement}
 use Rattle.node.proofs.files.read_at.Tie as tie
-use Rattle.node.proofs.files.read_at.Reads as reads
-use Rattle.node.proofs.files.read_at.Lts as lts
-use Rattle.node.proofs.answering.says.Reads as says-reads
-use Rattle.node.proofs.files.read_sector.Reads as read-sector-reads
 
--- src/files.rt:92:39
 enum-told : tie.Need-enum-told
 enum-told c = search needs
 
--- src/files.rt:92:28
 says-requires : tie.Need-says-requires
 says-requires c κs = search needs
 
--- src/files.rt:93:20
 enum-known-target : tie.Need-enum-known-target
 enum-known-target c = search needs
 
--- src/files.rt:93:31
 read-sector-requires : tie.Need-read-sector-requires
 read-sector-requires c κs = search needs
 
--- src/files.rt:87:1
 returns : tie.Need-returns
-returns c = let a = c .before .before .before .before .before .args in λ f m. says-by (a .node) ZeroLength.End (via (readAt (a .node) (a .flash .now)) (c .before .enum-told .given .1) refl) (c .says .ensures) (lent f m (a .reply .now))
+returns c =
+    let a = c .before .before .before .before .before .args in
+    sets-as (a .node) (a .reply .now) (ends (a .node) ZeroLength.End (c .says .ensures) refl) (via (readAt (a .node) (a .flash .now)) (c .before .enum-told .given .1) refl)
 
--- src/files.rt:87:1
 same-length : tie.Need-same-length
 same-length c = search needs
 
--- src/files.rt:87:1
 returns-2 : tie.Need-returns-2
-returns-2 c = let a = c .before .before .before .before .before .before .before .before .before .args in λ f m. c .before .before .read-sector .ensures f m ∙ ap (ownOutcome (a .node) (lent f m (a .reply .now))) (via (readAt (a .node) (a .flash .now)) (c .before .before .before .before .before .target .given .1) refl)
+returns-2 c =
+    let a = c .before .before .before .before .before .before .before .before .before .args in
+    replies-as (a .node) (a .reply .now) (c .before .before .read-sector .ensures) (via (readAt (a .node) (a .flash .now)) (c .before .before .before .before .before .target .given .1) refl)
 
 pub read-at-spec : {M : Type 1} → statement M
 read-at-spec =

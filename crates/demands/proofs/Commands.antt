@@ -1,0 +1,111 @@
+-- A request comes to the own command that it names: one that is delivered, and one that is answered neither by a refusal nor by ERROR.
+-- Assumes nothing.
+use Prim.Native.Nat.{ℕ}
+use mathlib.Core.Path.{_≡_, refl, sym, ap, _∙_}
+use mathlib.Core.Logic.{_⊎_, inl, inr, ⊎-elim}
+use mathlib.Core.Bool.{Bool, true, false, _||_, not, false≢true}
+use mathlib.Core.List.{List, [], _∷_}
+use native.Mathlib.Omega.{arith}
+use lib.ListN.{length, getD}
+use lib.Dec.{ltb, eqb}
+use borrow.Author.Tests.{eqb-true, eq-eqb, ne-eqb, le-ltb}
+use Rattle.base.specs.Pick.{pick}
+use Rattle.base.proofs.Pick.{yes, no, and-left, and-right}
+use Rattle.group.specs.Ending.{zeroReply}
+use Rattle.group.specs.declared.ZeroLength.{ZeroLength}
+use Rattle.node.specs.Effect.{Lent, Outcome, ownOutcome}
+use Rattle.node.specs.Route.{firstByte, secondByte, bcOf, drops, addressed, routeOf}
+use Rattle.node.specs.Own.{ownOf}
+use Rattle.node.specs.Calls.{judged, routed, requestOf}
+use Rattle.node.specs.declared.Answer.{Answer}
+use Rattle.node.specs.declared.Node.{Node}
+use Rattle.node.specs.declared.Route.{Route}
+use Rattle.node.specs.declared.Verdict.{Verdict}
+use Rattle.node.proofs.Routes.{Command}
+use Rattle.demands.specs.Machine.{logodwen, isRefused}
+use Rattle.demands.specs.Requests.{Delivered, isCommand}
+use Rattle.demands.proofs.Verdicts.{verdictOn, requestEffect, judged-fine}
+
+-- the command that a packet names
+pub command-told : (id : ℕ) (packet : List ℕ) → isCommand id packet ≡ true → Command packet id
+command-told id packet c =
+    let first = eqb (firstByte (getD packet 0 0)) 0x2E in
+    let second = eqb (secondByte (getD packet 0 0)) id in
+    record {
+      own = eqb-true (firstByte (getD packet 0 0)) 0x2E (and-left first second c);
+      number = eqb-true (secondByte (getD packet 0 0)) id (and-right first second c);
+    }
+
+-- a packet of no words names none
+not-empty : (id : ℕ) (packet : List ℕ) → isCommand id packet ≡ true → eqb (length packet) 0 ≡ false
+not-empty id [] c = absurd (false≢true c)
+not-empty id (w ∷ packet) c = ne-eqb (length (w ∷ packet)) 0 (omega arith)
+
+-- the BC of a reply, by which END is told from ABORT and ERROR
+abbrev bcIn : Answer → ℕ
+bcIn (Answer.Refused r) = 0
+bcIn Answer.Started = 0
+bcIn (Answer.Reply r) = r .bc
+bcIn (Answer.Ask a) = 0
+bcIn Answer.Waiting = 0
+bcIn (Answer.Erased count) = 0
+
+pub not-end : {A : Type 0} (k : ℕ) → eqb k 3 ≡ false → k ≡ 3 → A
+not-end k h e = absurd (false≢true (sym h ∙ eq-eqb k 3 e))
+
+module _ (n : Node) (clock link bc : ℕ) (errors : Bool) (packet : List ℕ) (l : Lent) (id : ℕ) (c : isCommand id packet ≡ true) where
+  own-route : Route.Own id ≡ addressed (n .given .kind) (n .masks) (length packet) (getD packet 0 0) (getD packet 1 0)
+  unfolding addressed
+  own-route =
+      let k = command-told id packet c in
+      yes _ (eq-eqb (firstByte (getD packet 0 0)) 0x2E (k .own)) (ap Route.Own (sym (k .number)))
+
+  -- steps 1 to 3 let it pass, or answer ERROR
+  command-route : (routeOf n link bc errors packet ≡ Route.Own id) ⊎ (routeOf n link bc errors packet ≡ Route.Wrong)
+  unfolding routeOf
+  command-route = by errors (eqb (length packet) 0) (not-empty id packet c) (ltb 8192 (length packet) || not (eqb (bcOf bc) 3))
+    where
+      route : Bool → Bool → Bool → Route
+      route s t u =
+          pick s Route.Wrong
+          (pick t (pick (drops (n .pending) link bc) Route.Dropped Route.Unserved)
+          (pick u Route.Wrong
+          (addressed (n .given .kind) (n .masks) (length packet) (getD packet 0 0) (getD packet 1 0))))
+
+      by : (s t : Bool) → t ≡ false → (u : Bool) → (route s t u ≡ Route.Own id) ⊎ (route s t u ≡ Route.Wrong)
+      by true t e u = inr refl
+      by false true e u = absurd (false≢true (sym e))
+      by false false e true = inr refl
+      by false false e false = inl (sym own-route)
+
+  pub record Own : Type 0 where
+    pub fine : verdictOn n link packet l ≡ Verdict.Fine
+    pub is : requestOf n clock link bc errors packet l ≡ ownOutcome n l (ownOf id n clock link packet l)
+
+  own-is : verdictOn n link packet l ≡ Verdict.Fine → routeOf n link bc errors packet ≡ Route.Own id → Own
+  unfolding requestOf
+  own-is v r = record { fine = v; is = λ i. judged (v i) n l (routed (r i) n clock link packet l) }
+
+  pub answered-own : isRefused (requestOf n clock link bc errors packet l .turn .answer) ≡ false
+      → (requestOf n clock link bc errors packet l .turn .answer ≡ Answer.Reply (zeroReply ZeroLength.Error) → ⊥) → Own
+  unfolding requestOf
+  answered-own t e =
+      let v = judged-fine (verdictOn n link packet l) n l (requestEffect n clock link bc errors packet l) t in
+      ⊎-elim (own-is v) (λ r. absurd (e (λ i. judged (v i) n l (routed (r i) n clock link packet l) .turn .answer))) command-route
+
+  pub ended-own : requestOf n clock link bc errors packet l .turn .answer ≡ Answer.Reply (zeroReply ZeroLength.End) → Own × (ownOf id n clock link packet l .reply .bc ≡ 3)
+  ended-own h =
+      let own = answered-own (ap isRefused h) (λ e. not-end 1 refl (ap bcIn (sym e ∙ h))) in
+      (own, ap (λ (o : Outcome). bcIn (o .turn .answer)) (sym (own .is)) ∙ ap bcIn h)
+
+  pub delivered-own : Delivered logodwen n clock link bc errors packet l → Own
+  unfolding requestOf routeOf
+  delivered-own d =
+      own-is (judged-fine (verdictOn n link packet l) n l (requestEffect n clock link bc errors packet l) (d .taken))
+      (sym (no _ (d .clean) (no _ (not-empty id packet c) (no _ step3 own-route))))
+    where
+      step3 : (ltb 8192 (length packet) || not (eqb (bcOf bc) 3)) ≡ false
+      step3 =
+          let m = d .most in
+          let b = d .whole in
+          λ i. le-ltb 8192 (length packet) m i || not (eq-eqb (bcOf bc) 3 b i)

@@ -1,0 +1,272 @@
+-- One call of a group's host: it is nothing to the group, or a slave is heard and the next one asked, or the last one is heard and the
+-- group ends. By walking what refuses the call and what it does. Assumes nothing.
+use Prim.Native.Nat.{ℕ, suc, _+_, _*_, _/_, _≤_}
+use mathlib.Core.Path.{_≡_, refl, sym, ap, _∙_}
+use mathlib.Core.Bool.{Bool, true, false, _&&_, not, false≢true}
+use mathlib.Core.List.{List, [], _∷_, append-nil}
+use native.Mathlib.Omega.{arith}
+use lib.Dec.{eqb, leb, ltb}
+use lib.ListN.{length}
+use borrow.Author.Tests.{eq-eqb, eqb-true, leb-false, le-ltb}
+use Rattle.base.specs.Pick.{pick}
+use Rattle.base.proofs.Pick.{yes, no, pick-second}
+use Rattle.flash.specs.Change.{erasingAfter}
+use Rattle.group.specs.Time.{isLate}
+use Rattle.group.specs.Kind.{answer, Answer as SlaveAnswer}
+use Rattle.group.specs.Slaves.{above, nextOf}
+use Rattle.group.specs.Fragment.{Assembly, assembly, taken, fragmentOf}
+use Rattle.group.specs.declared.Built.{Built}
+use Rattle.group.specs.declared.Heard.{Heard}
+use Rattle.group.specs.declared.Next.{Next}
+use Rattle.group.proofs.Sets.{up-tells}
+use Rattle.group.proofs.Rooms.{room-kept}
+use Rattle.group.proofs.Takes.{taken-fits, taken-changes}
+use Rattle.memory.specs.Segment.{Memories}
+use Rattle.node.specs.State.{turn}
+use Rattle.node.specs.Valid.{erasingOk, pendingOk, stateOk}
+use Rattle.node.specs.Refusals.{Cause, firstOf, isPending, isAsked, flashCause, replyCause, memoryCause, linkCause, stateCause, busyCause, requestVerdict, replyVerdict, pollVerdict, eraseVerdict}
+use Rattle.node.specs.Route.{bcOf, drops, routeOf}
+use Rattle.node.specs.Settings.{statusIn}
+use Rattle.node.specs.Effect.{Effect, only, Lent, lent, Outcome, nodeAfter}
+use Rattle.node.specs.Slaves.{ask, gathering, heard, silent, goesOn, hears, askedAt, withAmswire, errorIn, replyEffect, pollEffect}
+use Rattle.node.specs.Calls.{judged, lentReply, lentFlash, routed, requestOf, replyOf, pollOf, eraseEffect, eraseOf}
+use Rattle.node.specs.declared.Answer.{Answer}
+use Rattle.node.specs.declared.Node.{Node}
+use Rattle.node.specs.declared.Pending.{Pending}
+use Rattle.node.specs.declared.Refusal.{Refusal}
+use Rattle.node.specs.declared.Route.{Route}
+use Rattle.node.specs.declared.Verdict.{Verdict}
+use Rattle.node.proofs.Ranges.{ranges-tell, ranges-told, step-erasing}
+use Rattle.demands.specs.Machine.{logodwen}
+use Rattle.demands.specs.Events.{Event, Host, host, stepped, dropsGroup}
+use Rattle.demands.proofs.Pendings.{GroupOk, group-tells, group-told}
+use Rattle.demands.proofs.Verdicts.{erase-fine}
+
+-- a group in progress: slave s asked at a clock for a link, those of ss to follow, so much built in the buffer
+pub record Going (link from set own at s : ℕ) (ss : List ℕ) (b : Built) (h : Host) : Type 0 where
+  pub pending : h .turn .node .pending ≡ Pending.Group (ask link s at) (gathering set from b)
+  pub rest : above set s ≡ ss
+  pub ok : stateOk (h .turn .node) ≡ true
+  pub space : 12288 ≤ length (h .buffer)
+  pub status : statusIn (h .turn .node) ≡ own
+
+-- a call that is nothing to the group
+pub record Quiet (h h′ : Host) : Type 0 where
+  pub pending : h′ .turn .node .pending ≡ h .turn .node .pending
+  pub ok : stateOk (h .turn .node) ≡ true → stateOk (h′ .turn .node) ≡ true
+  pub buffer : h′ .buffer ≡ h .buffer
+  pub status : statusIn (h′ .turn .node) ≡ statusIn (h .turn .node)
+  pub asked : h′ .asked ≡ h .asked
+
+-- a call that is taken has no cause of refusal
+no-fine : (r : Refusal) → Verdict.No r ≡ Verdict.Fine → ⊥
+no-fine r e = let z : _≡_ {A = ℕ} 0 1 = cc in omega arith
+
+abbrev pub NoneHolds : List Cause → Type 0
+NoneHolds [] = Unit {0}
+NoneHolds (c ∷ cs) = (c .holds ≡ false) × NoneHolds cs
+
+pub fine-tells : (cs : List Cause) → firstOf cs ≡ Verdict.Fine → NoneHolds cs
+fine-tells [] e = tt
+fine-tells (c ∷ cs) e = let r = pick-second (c .holds) (no-fine (c .refusal)) e in (r .0, fine-tells cs (r .1))
+
+-- an erase step
+pub erase-quiet : (h : Host) (budget : ℕ) → Quiet h (stepped logodwen (Event.Erased budget) h)
+unfolding eraseOf
+erase-quiet h budget = go (eraseVerdict n (length flash)) refl
+  where
+    n : Node
+    n = h .turn .node
+
+    flash : List ℕ
+    flash = h .flash
+
+    kept : eraseVerdict n (length flash) ≡ Verdict.Fine → stateOk n ≡ true → stateOk (nodeAfter n flash (eraseEffect n budget flash)) ≡ true
+    kept e v =
+        let r = ranges-tell n v in
+        ranges-told (nodeAfter n flash (eraseEffect n budget flash))
+        (record {
+          given = r .given;
+          mode = r .mode;
+          masks = r .masks;
+          erasing =
+              ap (λ (k : ℕ). erasingOk (n .given .«flash_words») (erasingAfter (k / 16) (n .erasing) budget)) (sym (erase-fine n (length flash) e .size))
+              ∙ step-erasing (n .given .«flash_words») (n .erasing) budget (r .erasing);
+          pending = r .pending;
+        })
+
+    go : (v : Verdict) → eraseVerdict n (length flash) ≡ v
+        → let o : Outcome = judged v n (lentFlash flash) (eraseEffect n budget flash) in
+        Quiet h (host (h .asked) (o .turn) (o .after .flash) (h .buffer))
+    go Verdict.Fine e = record { pending = refl; ok = kept e; buffer = refl; status = refl; asked = append-nil (h .asked) }
+    go (Verdict.No r) e = record { pending = refl; ok = λ v. v; buffer = refl; status = refl; asked = append-nil (h .asked) }
+
+-- a request that does not drop the group is refused, or has 0 words
+pub request-quiet : {link from set own at s : ℕ} {ss : List ℕ} {b : Built} {h : Host} → Going link from set own at s ss b h
+    → (clock l bc : ℕ) (errors : Bool) (packet : List ℕ) (m : Memories) → dropsGroup link (Event.Requested clock l bc errors packet m) ≡ false
+    → Quiet h (stepped logodwen (Event.Requested clock l bc errors packet m) h)
+unfolding requestOf requestVerdict routeOf stateOk
+request-quiet {link} {from} {set} {own} {at} {s} {ss} {b} {h} k clock l bc errors packet m d = go verdict refl
+  where
+    n : Node
+    n = h .turn .node
+
+    L : Lent
+    L = lent (h .flash) m (h .buffer)
+
+    verdict : Verdict
+    verdict = requestVerdict n l (length packet) (length (h .flash)) (length (m .pm)) (length (m .dm)) (length (m .io)) (length (h .buffer))
+
+    empty : verdict ≡ Verdict.Fine → eqb (length packet) 0 ≡ true
+    empty e =
+        let busy : (isPending (n .pending) && leb 1 (length packet)) ≡ false =
+        fine-tells
+        (flashCause n (length (h .flash)) ∷ replyCause (length (h .buffer)) ∷ memoryCause (length (m .pm)) (length (m .dm)) (length (m .io)) ∷ linkCause n l ∷ stateCause n ∷ busyCause n (length packet) ∷ []) e .1 .1 .1 .1 .1 .0 in
+        let free : leb 1 (length packet) ≡ false = ap (λ (x : Pending). isPending x && leb 1 (length packet)) (sym (k .pending)) ∙ busy in
+        eq-eqb (length packet) 0 (omega (arith, leb-false 1 (length packet) free))
+
+    after : Verdict → Route → Host
+    after v r = let o : Outcome = judged v n L (routed r n clock l packet L) in host (h .asked) (o .turn) (o .after .flash) (o .after .reply)
+
+    by : (t : Bool) → t ≡ false → Quiet h (after Verdict.Fine (pick t Route.Dropped Route.Unserved))
+    by true e = absurd (false≢true (sym e))
+    by false e = record { pending = refl; ok = λ v. v; buffer = refl; status = refl; asked = append-nil (h .asked) }
+
+    at-errors : (x : Bool) (rest : Route) → eqb (length packet) 0 ≡ true → (not x && (eqb (length packet) 0 && (eqb link l && eqb (bcOf bc) 2))) ≡ false
+        → Quiet h (after Verdict.Fine (pick x Route.Wrong (pick (eqb (length packet) 0) (pick (drops (n .pending) l bc) Route.Dropped Route.Unserved) rest)))
+    at-errors true rest z f = record { pending = refl; ok = λ v. v; buffer = refl; status = refl; asked = append-nil (h .asked) }
+    at-errors false rest z f =
+        let g : drops (n .pending) l bc ≡ false = ap (λ (x : Pending). drops x l bc) (k .pending) ∙ ap (λ (x : Bool). x && (eqb link l && eqb (bcOf bc) 2)) (sym z) ∙ f in
+        rw z (by (drops (n .pending) l bc) g)
+
+    go : (v : Verdict) → verdict ≡ v → Quiet h (after v (routeOf n l bc errors packet))
+    go Verdict.Fine e = at-errors errors _ (empty e) d
+    go (Verdict.No r) e = record { pending = refl; ok = λ v. v; buffer = refl; status = refl; asked = append-nil (h .asked) }
+
+-- a reply or a poll as it is taken
+abbrev pub becomes : Host → Effect → Host
+becomes h e = host (h .asked) (turn (nodeAfter (h .turn .node) [] e) (e .answer)) (h .flash) (e .reply)
+
+-- what it does when slave s is heard with those of ss to follow
+abbrev pub hearing : Host → (link from set at s : ℕ) → List ℕ → Built → ℕ → Bool → SlaveAnswer → Effect
+hearing h link from set at s ss b clock errors a =
+    withAmswire errors
+    (goesOn (h .turn .node) (ask link s at) (gathering set from b) clock (taken (assembly (h .buffer) b) (length ss) s a) (nextOf ss))
+
+module _ {link from set own at s : ℕ} {ss : List ℕ} {b : Built} {h : Host} (k : Going link from set own at s ss b h) (clock : ℕ) where
+  known : GroupOk (h .turn .node .given .ports) link s from set b
+  known =
+      group-tells (h .turn .node .given .ports) link s at set from b
+      (ap (pendingOk (h .turn .node .given .ports)) (sym (k .pending)) ∙ ranges-tell (h .turn .node) (k .ok) .pending)
+
+  module _ (slave bc : ℕ) (errors : Bool) (status address : ℕ) (words : List ℕ) where
+    abbrev reply : Event
+    reply = Event.Replied clock slave bc errors status address words
+
+    abbrev hears′ : Heard
+    hears′ = heard (isLate clock at) errors status address bc
+
+    -- the asked slave's reply is taken
+    reply-fine : eqb s slave ≡ true → replyVerdict (h .turn .node) slave (length (h .buffer)) ≡ Verdict.Fine
+    unfolding replyVerdict
+    reply-fine e =
+        let q : s ≡ slave = eqb-true s slave e in
+        sym (no _ (le-ltb (length (h .buffer)) 12288 (k .space)) (no _ (le-ltb 23 slave (omega (arith, q, known .slave′))) (no _ (ap not (k .ok))
+        (no _ (ap not (ap (λ (x : Pending). isAsked x slave) (k .pending) ∙ e)) refl))))
+
+    pub reply-heard : eqb s slave ≡ true → stepped logodwen reply h ≡ becomes h (hearing h link from set at s ss b clock (errorIn hears′) (answer hears′ words))
+    unfolding replyOf replyEffect
+    reply-heard e =
+        ap (λ (v : Verdict). let o : Outcome = judged v (h .turn .node) (lentReply (h .buffer)) (replyEffect (h .turn .node) clock errors status address bc words (h .buffer)) in host (h .asked) (o .turn) (h .flash) (o .after .reply)) (reply-fine e)
+        ∙ ap (λ (p : Pending). becomes h (withAmswire (errorIn (heard (isLate clock (askedAt p)) errors status address bc)) (hears p (h .turn .node) clock (heard (isLate clock (askedAt p)) errors status address bc) words (h .buffer)))) (k .pending)
+        ∙ ap (λ (x : List ℕ). becomes h (hearing h link from set at s x b clock (errorIn hears′) (answer hears′ words))) (k .rest)
+
+    -- any other slave's is refused
+    pub stray-quiet : eqb s slave ≡ false → Quiet h (stepped logodwen reply h)
+    unfolding replyOf replyVerdict
+    stray-quiet e =
+        let v : replyVerdict (h .turn .node) slave (length (h .buffer)) ≡ pick (ltb 23 slave) (Verdict.No Refusal.Number) (Verdict.No Refusal.Unasked) =
+        sym (no _ (le-ltb (length (h .buffer)) 12288 (k .space)) (ap (pick (ltb 23 slave) (Verdict.No Refusal.Number))
+        (no _ (ap not (k .ok)) (yes _ (ap not (ap (λ (x : Pending). isAsked x slave) (k .pending) ∙ e)) refl)))) in
+        rw v (go (ltb 23 slave))
+      where
+        go : (t : Bool) → let o : Outcome = judged (pick t (Verdict.No Refusal.Number) (Verdict.No Refusal.Unasked)) (h .turn .node) (lentReply (h .buffer)) (replyEffect (h .turn .node) clock errors status address bc words (h .buffer)) in
+            Quiet h (host (h .asked) (o .turn) (h .flash) (o .after .reply))
+        go true = record { pending = refl; ok = λ v. v; buffer = refl; status = refl; asked = append-nil (h .asked) }
+        go false = record { pending = refl; ok = λ v. v; buffer = refl; status = refl; asked = append-nil (h .asked) }
+
+  -- a poll
+  poll-fine : pollVerdict (h .turn .node) (length (h .buffer)) ≡ Verdict.Fine
+  unfolding pollVerdict
+  poll-fine =
+      sym (no _ (le-ltb (length (h .buffer)) 12288 (k .space)) (no _ (ap not (k .ok)) (no _ (ap not (ap isPending (k .pending))) refl)))
+
+  polled : stepped logodwen (Event.Polled clock) h
+      ≡ becomes h
+      (pick (isLate clock at) (hears (Pending.Group (ask link s at) (gathering set from b)) (h .turn .node) clock silent [] (h .buffer))
+      (only Answer.Waiting (Pending.Group (ask link s at) (gathering set from b)) (h .buffer)))
+  unfolding pollOf pollEffect
+  polled =
+      ap (λ (v : Verdict). let o : Outcome = judged v (h .turn .node) (lentReply (h .buffer)) (pollEffect (h .turn .node) clock (h .buffer)) in host (h .asked) (o .turn) (h .flash) (o .after .reply)) poll-fine
+      ∙ ap (λ (p : Pending). becomes h (pick (isLate clock (askedAt p)) (hears p (h .turn .node) clock silent [] (h .buffer)) (only Answer.Waiting p (h .buffer)))) (k .pending)
+
+  -- before the timeout nothing is heard
+  pub wait-quiet : isLate clock at ≡ false → Quiet h (stepped logodwen (Event.Polled clock) h)
+  unfolding stateOk
+  wait-quiet e =
+      rw (polled, e)
+      (record { pending = sym (k .pending); ok = λ v. ap (λ (p : Pending). stateOk (nodeAfter (h .turn .node) [] (only Answer.Waiting p (h .buffer)))) (sym (k .pending)) ∙ v; buffer = refl; status = refl; asked = append-nil (h .asked) })
+
+  -- from then on it is one
+  counts-none : (m : Assembly) (x : Next) → goesOn (h .turn .node) (ask link s at) (gathering set from b) clock m x ≡ withAmswire false (goesOn (h .turn .node) (ask link s at) (gathering set from b) clock m x)
+  counts-none m Next.Nobody = refl
+  counts-none m (Next.Slave t) = refl
+
+  pub late-heard : isLate clock at ≡ true → stepped logodwen (Event.Polled clock) h ≡ becomes h (hearing h link from set at s ss b clock false (answer silent []))
+  late-heard e =
+      polled
+      ∙ ap (λ (t : Bool). becomes h (pick t (hears (Pending.Group (ask link s at) (gathering set from b)) (h .turn .node) clock silent [] (h .buffer)) (only Answer.Waiting (Pending.Group (ask link s at) (gathering set from b)) (h .buffer)))) e
+      ∙ ap (λ (x : List ℕ). becomes h (goesOn (h .turn .node) (ask link s at) (gathering set from b) clock (taken (assembly (h .buffer) b) (length x) s (answer silent [])) (nextOf x))) (k .rest)
+      ∙ ap (becomes h) (counts-none (taken (assembly (h .buffer) b) (length ss) s (answer silent [])) (nextOf ss))
+
+-- with a slave heard, the next one is asked
+pub heard-goes : {link from set own at s s′ : ℕ} {ss : List ℕ} {b : Built} {h : Host} → Going link from set own at s (s′ ∷ ss) b h
+    → (clock : ℕ) (errors : Bool) (a : SlaveAnswer)
+    → Going link from set own clock s′ ss (taken (assembly (h .buffer) b) (suc (length ss)) s a .built)
+    (becomes h (hearing h link from set at s (s′ ∷ ss) b clock errors a))
+heard-goes {link} {from} {set} {own} {at} {s} {s′} {ss} {b} {h} k clock errors a =
+    let n : Node = h .turn .node in
+    let m : Assembly = taken (assembly (h .buffer) b) (suc (length ss)) s a in
+    let q = known k clock in
+    let l = ap length (k .rest) in
+    let r : b .words + 5 * (suc (length ss) + 1) + 2 ≤ 12288 = omega (arith, q .room, l) in
+    let w : m .built .words ≡ b .words + length (fragmentOf s a (b .words) (suc (length ss))) = ap (λ (x : Assembly). x .built .words) (taken-fits (assembly (h .buffer) b) (suc (length ss)) s a r (k .space)) in
+    let v = ranges-tell n (k .ok) in
+    record {
+      pending = refl;
+      rest = sym (up-tells set (s + 1) s′ ss (k .rest) .rest);
+      ok =
+          ranges-told (becomes h (hearing h link from set at s (s′ ∷ ss) b clock errors a) .turn .node)
+          (record {
+            given = v .given;
+            mode = v .mode;
+            masks = v .masks;
+            erasing = v .erasing;
+            pending =
+                group-told (n .given .ports) link clock set from (s + 1) s′ ss (m .built) (q .linked) (q .bits) (q .sent) (k .rest)
+                (omega (arith, w, room-kept s a (b .words) (suc (length ss)) r));
+          });
+      space = omega (arith, k .space, taken-changes (assembly (h .buffer) b) (suc (length ss)) s a .size);
+      status = k .status;
+    }
+
+-- what is nothing to a group leaves it in progress
+pub quiet-goes : {link from set own at s : ℕ} {ss : List ℕ} {b : Built} {h h′ : Host} → Going link from set own at s ss b h → Quiet h h′ → Going link from set own at s ss b h′
+quiet-goes k q =
+    record {
+      pending = q .pending ∙ k .pending;
+      rest = k .rest;
+      ok = q .ok (k .ok);
+      space = rw (q .buffer) (k .space);
+      status = q .status ∙ k .status;
+    }

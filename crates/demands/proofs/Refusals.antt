@@ -1,0 +1,304 @@
+-- Each test of a refusal decides its cause, and a list of tests gives the number of the first cause that holds. Assumes nothing.
+use Prim.Native.Nat.{ℕ, suc, _+_, _*_, _/_, _%_, _^_, _≤_, _<_}
+use mathlib.Core.Path.{_≡_, refl, sym, _∙_}
+use mathlib.Core.Logic.{_⊎_, _↔_, inl, inr}
+use mathlib.Core.Bool.{Bool, true, false, _||_, not, false≢true}
+use mathlib.Core.List.{List, [], _∷_}
+use native.Mathlib.Omega.{arith}
+use lib.ListN.{length, getD}
+use lib.Dec.{ltb, leb, eqb}
+use borrow.Author.Tests.{lt-ltb, eq-eqb}
+use Rattle.base.specs.Pick.{pick}
+use Rattle.flash.specs.Geometry.{isSector, sizeOf}
+use Rattle.flash.specs.declared.Erasing.{Erasing}
+use Rattle.group.specs.Slaves.{above}
+use Rattle.node.specs.State.{refusalNumber, turn}
+use Rattle.node.specs.Valid.{sizeOk, kindOk, portsOk, masksOk, erasingOk, askOk, gatheringOk, pendingOk, stateOk}
+use Rattle.node.specs.Refusals.{firstOf, isPending, isAsked, requestVerdict, replyVerdict, pollVerdict, eraseVerdict, startVerdict}
+use Rattle.node.specs.Refusals.{Cause as Test, cause as test, flashCause as flashTest, replyCause as replyTest, memoryCause as memoryTest, linkCause as linkTest, slaveCause as slaveTest, stateCause as stateTest, busyCause as busyTest, pollCause as pollTest, unaskedCause as unaskedTest}
+use Rattle.node.specs.Effect.{Effect, Lent, lent}
+use Rattle.node.specs.Calls.{judged, lentReply, lentFlash, given, nobody, startBy, startOf, requestOf, replyOf, pollOf, eraseEffect, eraseOf}
+use Rattle.node.specs.Slaves.{replyEffect, pollEffect}
+use Rattle.node.specs.declared.Answer.{Answer}
+use Rattle.node.specs.declared.Ask.{Ask}
+use Rattle.node.specs.declared.Gathering.{Gathering}
+use Rattle.node.specs.declared.Given.{Given}
+use Rattle.node.specs.declared.Node.{Node}
+use Rattle.node.specs.declared.Pending.{Pending}
+use Rattle.node.specs.declared.Refusal.{Refusal}
+use Rattle.node.specs.declared.Verdict.{Verdict}
+use Rattle.node.proofs.Ranges.{and-both, mask-below, ranges-told}
+use Rattle.demands.specs.Machine.{logodwen, Call, turnOf, isRefused}
+use Rattle.demands.specs.Reached.{Reached}
+use Rattle.demands.specs.Refusals.{numberOf, Cause, FirstOf, FlashSize, ErasingIn, AskIn, GatheringIn, PendingIn, IsState, IsPending, IsAsked, startCauses, requestCauses, replyCauses, pollCauses, eraseCauses, Exactly, Unchanged, RefusedExactly, NeverRefusedBy5, ZerosRefused}
+use Rattle.demands.proofs.Tests.{Tells, leb-tells, ltb-tells, eqb-tells, yes-tells, no-tells, and-tells, or-tells, not-tells, same-tells}
+use Rattle.demands.proofs.Verdicts.{verdictOn, requestEffect, request-fine, reply-fine, poll-fine, erase-fine, request-taken, reply-taken, poll-taken}
+use Rattle.demands.proofs.Sound.{reached-sound}
+
+-- the tests of a state
+size-tells : (words : ℕ) → Tells (sizeOk words) (FlashSize words)
+size-tells words = or-tells (eqb-tells words 32768) (eqb-tells words 262144)
+
+kind-tells : (kind : ℕ) → Tells (kindOk kind) ((kind ≡ 1) ⊎ (kind ≡ 2))
+kind-tells kind = or-tells (eqb-tells kind 1) (eqb-tells kind 2)
+
+ports-tells : (ports : ℕ) → Tells (portsOk ports) ((1 ≤ ports) × (ports ≤ 4))
+ports-tells ports = and-tells (leb-tells 1 ports) (leb-tells ports 4)
+
+all-masks : (masks : List ℕ) → ((i : ℕ) → getD masks i 0 < 16777216) → masksOk masks ≡ true
+unfolding masksOk
+all-masks [] h = refl
+all-masks (mask ∷ masks) h = and-both (lt-ltb mask 16777216 (h 0)) (all-masks masks (λ i. h (suc i)))
+
+masks-tells : (masks : List ℕ) → Tells (masksOk masks) ((i : ℕ) → getD masks i 0 < 16777216)
+masks-tells masks = record { told = λ e i. mask-below masks i e; tells = all-masks masks }
+
+erasing-tells : (words : ℕ) (e : Erasing) → Tells (erasingOk words e) (ErasingIn words e)
+unfolding isSector
+erasing-tells words Erasing.Nothing = yes-tells
+erasing-tells words (Erasing.Sector p) = and-tells (and-tells (leb-tells 3 (p .sector)) (leb-tells (p .sector) 10)) (ltb-tells (p .done) (sizeOf (words / 16) (p .sector)))
+
+ask-tells : (ports : ℕ) (a : Ask) → Tells (askOk ports a) (AskIn ports a)
+ask-tells ports a = and-tells (ltb-tells (a .link) ports) (leb-tells (a .slave) 23)
+
+gathering-tells : (slave : ℕ) (g : Gathering) → Tells (gatheringOk slave g) (GatheringIn slave g)
+gathering-tells slave g =
+    same-tells (λ x. record { member = x .0 .0 .0; short = x .0 .0 .1; room = x .0 .1; sent = x .1 }) (λ x. (((x .member, x .short), x .room), x .sent))
+    (and-tells (and-tells (and-tells (eqb-tells (g .set / 2 ^ slave % 2) 1) (ltb-tells (g .set) 16777216)) (leb-tells (g .built .words + 5 * (length (above (g .set) slave) + 1) + 2) 12288)) (or-tells (eqb-tells (g .from) 1) (eqb-tells (g .from) 2)))
+
+pending-tells : (ports : ℕ) (p : Pending) → Tells (pendingOk ports p) (PendingIn ports p)
+pending-tells ports Pending.Nothing = yes-tells
+pending-tells ports (Pending.Slave a) = ask-tells ports a
+pending-tells ports (Pending.Group a g) = and-tells (ask-tells ports a) (gathering-tells (a .slave) g)
+
+pub state-tells : (n : Node) → Tells (stateOk n) (IsState n)
+unfolding stateOk
+state-tells n =
+    let g : Given = n .given in
+    same-tells
+    (λ x. record {
+      kind = x .0 .0 .0 .0 .0 .0 .0;
+      ports = x .0 .0 .0 .0 .0 .0 .1;
+      subdetector = x .0 .0 .0 .0 .0 .1;
+      size = x .0 .0 .0 .0 .1;
+      mode = x .0 .0 .0 .1;
+      masks = x .0 .0 .1;
+      erasing = x .0 .1;
+      pending = x .1;
+    })
+    (λ x. (((((((x .kind, x .ports), x .subdetector), x .size), x .mode), x .masks), x .erasing), x .pending))
+    (and-tells (and-tells (and-tells (and-tells
+    (and-tells (and-tells (and-tells (kind-tells (g .kind)) (ports-tells (g .ports))) (leb-tells (g .subdetector) 7)) (size-tells (g .«flash_words»)))
+    (leb-tells (n .mode) 3)) (masks-tells (n .masks))) (erasing-tells (g .«flash_words») (n .erasing))) (pending-tells (g .ports) (n .pending)))
+
+-- the tests of the other causes
+busy-tells : (p : Pending) → Tells (isPending p) (IsPending p)
+busy-tells Pending.Nothing = no-tells
+busy-tells (Pending.Slave a) = yes-tells
+busy-tells (Pending.Group a g) = yes-tells
+
+asked-tells : (p : Pending) (slave : ℕ) → Tells (isAsked p slave) (IsAsked p slave)
+asked-tells Pending.Nothing slave = no-tells
+asked-tells (Pending.Slave a) slave = eqb-tells (a .slave) slave
+asked-tells (Pending.Group a g) slave = eqb-tells (a .slave) slave
+
+flash-tells : (n : Node) (flash : ℕ) → Tells (not (sizeOk flash) || not (eqb flash (n .given .«flash_words»))) ((FlashSize flash → ⊥) ⊎ (flash ≡ n .given .«flash_words» → ⊥))
+flash-tells n flash = or-tells (not-tells (size-tells flash)) (not-tells (eqb-tells flash (n .given .«flash_words»)))
+
+-- at least is not below
+link-tells : (ports link : ℕ) → Tells (leb ports link) (link < ports → ⊥)
+link-tells ports link = same-tells (λ h l. absurd (omega arith)) (λ h. omega (arith, h)) (leb-tells ports link)
+
+-- a list of tests decides a list of causes, one by one
+abbrev Decides : List Test → List Cause → Type 0
+Decides [] [] = Unit {0}
+Decides [] (c ∷ causes) = ⊥
+Decides (t ∷ tests) [] = ⊥
+Decides (t ∷ tests) (c ∷ causes) = ((refusalNumber (t .refusal) ≡ c .number) × Tells (t .holds) (c .holds)) × Decides tests causes
+
+abbrev verdictNumber : Verdict → ℕ
+verdictNumber Verdict.Fine = 0
+verdictNumber (Verdict.No r) = refusalNumber r
+
+-- then the verdict's number is that of the first cause that holds
+first-is : (tests : List Test) (causes : List Cause) → Decides tests causes → (i : ℕ) → (verdictNumber (firstOf tests) ≡ i) ↔ FirstOf causes i
+first-is [] [] d i = (λ e. e, λ e. e)
+first-is [] (c ∷ causes) d i = absurd d
+first-is (t ∷ tests) [] d i = absurd d
+first-is (t ∷ tests) (c ∷ causes) d i = by (t .holds) (d .0 .1) (first-is tests causes (d .1) i)
+  where
+    by : (b : Bool) → Tells b (c .holds) → (verdictNumber (firstOf tests) ≡ i) ↔ FirstOf causes i
+        → (verdictNumber (pick b (Verdict.No (t .refusal)) (firstOf tests)) ≡ i) ↔ FirstOf (c ∷ causes) i
+    by true p q = (λ e. inl (sym (d .0 .0) ∙ e, p .told refl), λ x. one x)
+      where
+        one : FirstOf (c ∷ causes) i → refusalNumber (t .refusal) ≡ i
+        one (inl h) = d .0 .0 ∙ h .0
+        one (inr h) = absurd (h .0 (p .told refl))
+    by false p q = (λ e. inr (λ h. false≢true (p .tells h), q .0 e), λ x. one x)
+      where
+        one : FirstOf (c ∷ causes) i → verdictNumber (firstOf tests) ≡ i
+        one (inl h) = absurd (false≢true (p .tells (h .1)))
+        one (inr h) = q .1 (h .1)
+
+-- a call answers its verdict's number, and a refused one leaves all as it was
+done-number : (a : Answer) → isRefused a ≡ false → numberOf a ≡ 0
+done-number (Answer.Refused r) h = absurd (false≢true (sym h))
+done-number Answer.Started h = refl
+done-number (Answer.Reply r) h = refl
+done-number (Answer.Ask a) h = refl
+done-number Answer.Waiting h = refl
+done-number (Answer.Erased count) h = refl
+
+judged-number : (v : Verdict) (n : Node) (l : Lent) (e : Effect) → isRefused (e .answer) ≡ false → numberOf (judged v n l e .turn .answer) ≡ verdictNumber v
+judged-number Verdict.Fine n l e h = done-number (e .answer) h
+judged-number (Verdict.No r) n l e h = refl
+
+judged-unchanged : (v : Verdict) (n : Node) (l : Lent) (e : Effect) → isRefused (e .answer) ≡ false → Unchanged (judged v n l e) n l
+judged-unchanged Verdict.Fine n l e t h = absurd (false≢true (sym t ∙ h))
+judged-unchanged (Verdict.No r) n l e t h = (refl, refl)
+
+numbered : (a : Answer) (tests : List Test) (causes : List Cause) → numberOf a ≡ verdictNumber (firstOf tests) → Decides tests causes → Exactly causes a
+numbered a tests causes e d i = let q = first-is tests causes d i in (λ h. q .0 (sym e ∙ h), λ h. e ∙ q .1 h)
+
+exactly : (tests : List Test) (causes : List Cause) (n : Node) (l : Lent) (e : Effect) → isRefused (e .answer) ≡ false → Decides tests causes
+    → Exactly causes (judged (firstOf tests) n l e .turn .answer) × Unchanged (judged (firstOf tests) n l e) n l
+exactly tests causes n l e t d =
+    (numbered (judged (firstOf tests) n l e .turn .answer) tests causes (judged-number (firstOf tests) n l e t) d, judged-unchanged (firstOf tests) n l e t)
+
+-- the five calls
+start-exactly : (kind ports subdetector program version tests clock : ℕ) (flash : List ℕ)
+    → Exactly (startCauses kind ports subdetector flash) (startOf kind ports subdetector program version tests clock flash .answer)
+    × (isRefused (startOf kind ports subdetector program version tests clock flash .answer) ≡ true → startOf kind ports subdetector program version tests clock flash .node ≡ nobody)
+unfolding startOf startVerdict
+start-exactly kind ports subdetector program version tests clock flash =
+    (numbered (startBy (firstOf causes) g flash .answer) causes (startCauses kind ports subdetector flash) (number (firstOf causes)) decides, zeros (firstOf causes))
+  where
+    g : Given
+    g = given kind ports subdetector program version tests clock (length flash)
+
+    causes : List Test
+    causes =
+        test Refusal.FlashSize (not (sizeOk (length flash)))
+        ∷ test Refusal.Number (not (portsOk ports) || not (kindOk kind) || ltb 7 subdetector)
+        ∷ []
+
+    decides : Decides causes (startCauses kind ports subdetector flash)
+    decides = ((refl, not-tells (size-tells (length flash))), ((refl, or-tells (or-tells (not-tells (ports-tells ports)) (not-tells (kind-tells kind))) (ltb-tells 7 subdetector)), tt))
+
+    number : (v : Verdict) → numberOf (startBy v g flash .answer) ≡ verdictNumber v
+    number Verdict.Fine = refl
+    number (Verdict.No r) = refl
+
+    zeros : (v : Verdict) → isRefused (startBy v g flash .answer) ≡ true → startBy v g flash .node ≡ nobody
+    zeros Verdict.Fine h = absurd (false≢true h)
+    zeros (Verdict.No r) h = refl
+
+request-exactly : (n : Node) (clock link bc : ℕ) (errors : Bool) (packet : List ℕ) (l : Lent)
+    → Exactly (requestCauses n link packet l) (requestOf n clock link bc errors packet l .turn .answer) × Unchanged (requestOf n clock link bc errors packet l) n l
+unfolding requestOf requestVerdict
+request-exactly n clock link bc errors packet l =
+    let pm = length (l .memories .pm) in
+    let dm = length (l .memories .dm) in
+    let io = length (l .memories .io) in
+    exactly
+    (flashTest n (length (l .flash)) ∷ replyTest (length (l .reply)) ∷ memoryTest pm dm io ∷ linkTest n link ∷ stateTest n ∷ busyTest n (length packet) ∷ [])
+    (requestCauses n link packet l) n l (requestEffect n clock link bc errors packet l) (request-taken n clock link bc errors packet l) (
+      (refl, flash-tells n (length (l .flash))),
+      (
+        (refl, ltb-tells (length (l .reply)) 12288),
+        (
+          (refl, or-tells (or-tells (ltb-tells 32768 pm) (ltb-tells 32768 dm)) (ltb-tells 4096 io)),
+          (
+            (refl, link-tells (n .given .ports) link),
+            (
+              (refl, not-tells (state-tells n)),
+              (
+                (refl, and-tells (busy-tells (n .pending)) (leb-tells 1 (length packet))),
+                tt,
+              ),
+            ),
+          ),
+        ),
+      ),
+    )
+
+reply-exactly : (n : Node) (clock slave bc : ℕ) (errors : Bool) (status address : ℕ) (words reply : List ℕ)
+    → Exactly (replyCauses n slave reply) (replyOf n clock slave bc errors status address words reply .turn .answer) × Unchanged (replyOf n clock slave bc errors status address words reply) n (lentReply reply)
+unfolding replyOf replyVerdict
+reply-exactly n clock slave bc errors status address words reply =
+    exactly (replyTest (length reply) ∷ slaveTest slave ∷ stateTest n ∷ unaskedTest n slave ∷ []) (replyCauses n slave reply) n (lentReply reply)
+    (replyEffect n clock errors status address bc words reply) (reply-taken n clock errors status address bc words reply)
+    ((refl, ltb-tells (length reply) 12288), ((refl, ltb-tells 23 slave), ((refl, not-tells (state-tells n)), ((refl, not-tells (asked-tells (n .pending) slave)), tt))))
+
+poll-exactly : (n : Node) (clock : ℕ) (reply : List ℕ) → Exactly (pollCauses n reply) (pollOf n clock reply .turn .answer) × Unchanged (pollOf n clock reply) n (lentReply reply)
+unfolding pollOf pollVerdict
+poll-exactly n clock reply =
+    exactly (replyTest (length reply) ∷ stateTest n ∷ pollTest n ∷ []) (pollCauses n reply) n (lentReply reply) (pollEffect n clock reply) (poll-taken n clock reply)
+    ((refl, ltb-tells (length reply) 12288), ((refl, not-tells (state-tells n)), ((refl, not-tells (busy-tells (n .pending))), tt)))
+
+erase-exactly : (n : Node) (budget : ℕ) (flash : List ℕ) → Exactly (eraseCauses n flash) (eraseOf n budget flash .turn .answer) × Unchanged (eraseOf n budget flash) n (lentFlash flash)
+unfolding eraseOf eraseVerdict
+erase-exactly n budget flash =
+    exactly (flashTest n (length flash) ∷ stateTest n ∷ []) (eraseCauses n flash) n (lentFlash flash) (eraseEffect n budget flash) refl
+    ((refl, flash-tells n (length flash)), ((refl, not-tells (state-tells n)), tt))
+
+pub refused-exactly : RefusedExactly logodwen
+refused-exactly = record { start = start-exactly; request = request-exactly; reply = reply-exactly; poll = poll-exactly; erase = erase-exactly }
+
+-- a number that is none's whose cause holds is not answered
+abbrev None : List Cause → ℕ → Type 0
+None [] i = 0 ≡ i → ⊥
+None (c ∷ causes) i = (c .number ≡ i → c .holds → ⊥) × None causes i
+
+first-none : (causes : List Cause) (i : ℕ) → None causes i → FirstOf causes i → ⊥
+first-none [] i n e = n e
+first-none (c ∷ causes) i n (inl h) = n .0 (h .0) (h .1)
+first-none (c ∷ causes) i n (inr h) = first-none causes i (n .1) (h .1)
+
+differs : (k : ℕ) → eqb k 5 ≡ false → k ≡ 5 → ⊥
+differs k h e = false≢true (sym h ∙ eq-eqb k 5 e)
+
+other : {A : Type 0} (k : ℕ) → eqb k 5 ≡ false → k ≡ 5 → A → ⊥
+other k h e a = differs k h e
+
+not-5 : (n : Node) → IsState n → (c : Call) (flash : List ℕ) → numberOf (turnOf logodwen c n flash .answer) ≡ 5 → ⊥
+not-5 n s (Call.Start kind ports subdetector program version tests clock) flash h =
+    first-none (startCauses kind ports subdetector flash) 5 (other 1 refl, (other 4 refl, differs 0 refl)) (start-exactly kind ports subdetector program version tests clock flash .0 5 .0 h)
+not-5 n s (Call.Request clock link bc errors packet m reply) flash h =
+    first-none (requestCauses n link packet (lent flash m reply)) 5 (other 1 refl, (other 2 refl, (other 3 refl, (other 4 refl, (λ e k. k s, (other 6 refl, differs 0 refl))))))
+    (request-exactly n clock link bc errors packet (lent flash m reply) .0 5 .0 h)
+not-5 n s (Call.Reply clock slave bc errors status address words reply) flash h =
+    first-none (replyCauses n slave reply) 5 (other 2 refl, (other 4 refl, (λ e k. k s, (other 7 refl, differs 0 refl)))) (reply-exactly n clock slave bc errors status address words reply .0 5 .0 h)
+not-5 n s (Call.Poll clock reply) flash h =
+    first-none (pollCauses n reply) 5 (other 2 refl, (λ e k. k s, (other 7 refl, differs 0 refl))) (poll-exactly n clock reply .0 5 .0 h)
+not-5 n s (Call.Erase budget) flash h =
+    first-none (eraseCauses n flash) 5 (other 1 refl, (λ e k. k s, differs 0 refl)) (erase-exactly n budget flash .0 5 .0 h)
+
+reached-state : (n : Node) (flash : List ℕ) → Reached logodwen n flash → IsState n
+reached-state n flash r = state-tells n .told (ranges-told n (reached-sound r .valid .ranges))
+
+pub never-refused-by-5 : NeverRefusedBy5 logodwen
+never-refused-by-5 = record { state = reached-state; never = λ n flash r c other h. not-5 n (reached-state n flash r) c other h }
+
+-- all zeros
+zeros-state : stateOk nobody ≡ true → ⊥
+unfolding stateOk
+zeros-state h = false≢true h
+
+refused : (v : Verdict) (n : Node) (l : Lent) (e : Effect) → (v ≡ Verdict.Fine → ⊥) → isRefused (judged v n l e .turn .answer) ≡ true
+refused Verdict.Fine n l e h = absurd (h refl)
+refused (Verdict.No r) n l e h = refl
+
+pub zeros-refused : ZerosRefused logodwen
+unfolding requestOf replyOf pollOf eraseOf
+zeros-refused (Call.Start kind ports subdetector program version tests clock) t flash = absurd t
+zeros-refused (Call.Request clock link bc errors packet m reply) t flash =
+    refused (verdictOn nobody link packet (lent flash m reply)) nobody (lent flash m reply) (requestEffect nobody clock link bc errors packet (lent flash m reply))
+    (λ e. zeros-state (request-fine nobody link _ _ _ _ _ _ e .fits .state))
+zeros-refused (Call.Reply clock slave bc errors status address words reply) t flash =
+    refused (replyVerdict nobody slave (length reply)) nobody (lentReply reply) (replyEffect nobody clock errors status address bc words reply)
+    (λ e. zeros-state (reply-fine nobody slave (length reply) e .state))
+zeros-refused (Call.Poll clock reply) t flash =
+    refused (pollVerdict nobody (length reply)) nobody (lentReply reply) (pollEffect nobody clock reply) (λ e. zeros-state (poll-fine nobody (length reply) e .state))
+zeros-refused (Call.Erase budget) t flash =
+    refused (eraseVerdict nobody (length flash)) nobody (lentFlash flash) (eraseEffect nobody budget flash) (λ e. zeros-state (erase-fine nobody (length flash) e .state))

@@ -1,0 +1,140 @@
+-- A statement that gives the result as an equation settles it, and so does one that gives it as a record together with what is left in
+-- the lent words: two results equal to one value are equal. Assumes nothing.
+use mathlib.Core.Path.{refl, sym, ap, _∙_}
+use Rattle.memory.specs.Command.{Read, Written, Performed}
+use Rattle.memory.specs.Load.{Loaded}
+use Rattle.group.specs.Fragment.{Assembly}
+use Rattle.group.specs.Ending.{Sent}
+use Rattle.demands.specs.Settled.{BaseSettled, FcsSettled, ImageSettled, FlashSettled, MemorySettled, GroupSettled, NodeSettled, Settled}
+
+pub base-settled : BaseSettled
+base-settled =
+    record {
+      wide = λ κs given x y v w p q. (p ∙ sym q, refl);
+      least = λ κs given x y v w p q. (p ∙ sym q, refl);
+      copy = λ κs given x y v w p q. (refl, λ i. ((p ∙ sym q) i, v .1));
+    }
+
+pub fcs-settled : FcsSettled
+fcs-settled =
+    record {
+      fcs-from = λ κs given x y v w p q. (p ∙ sym q, refl);
+      fcs = λ κs given x y v w p q. (p ∙ sym q, refl);
+    }
+
+pub image-settled : ImageSettled
+image-settled =
+    record {
+      header-ok = λ κs given x y v w p q. (p ∙ sym q, refl);
+      name-of = λ κs given x y v w p q. (p ∙ sym q, refl);
+      attribute-of = λ κs given x y v w p q. (p ∙ sym q, refl);
+      segments-of = λ κs given x y v w p q. (p ∙ sym q, refl);
+      memory-of = λ κs given x y v w p q. (p ∙ sym q, refl);
+      length-of = λ κs given x y v w p q. (p ∙ sym q, refl);
+      page-of = λ κs given x y v w p q. (p ∙ sym q, refl);
+      address-of = λ κs given x y v w p q. (p ∙ sym q, refl);
+      length-ok = λ κs given x y v w p q. (p ∙ sym q, refl);
+      is-page = λ κs given x y v w p q. (p ∙ sym q, refl);
+      span-of = λ κs given x y v w p q. (p ∙ sym q, refl);
+      segment-end = λ κs given x y v w p q. (p ∙ sym q, refl);
+      file-end = λ κs given x y v w p q. (p ∙ sym q, refl);
+      pm-first-of = λ κs given x y v w p q. (p ∙ sym q, refl);
+      pm-second-of = λ κs given x y v w p q. (p ∙ sym q, refl);
+      pm-third-of = λ κs given x y v w p q. (p ∙ sym q, refl);
+      pm-high-of = λ κs given x y v w p q. (p ∙ sym q, refl);
+      pm-low-of = λ κs given x y v w p q. (p ∙ sym q, refl);
+      pm-pack = λ κs given x y v w p q. (refl, λ i. (v .0, ((p ∙ sym q) i, v .1 .1)));
+      pm-unpack = λ κs given x y v w p q. (refl, λ i. (v .0, (v .1 .0, ((p ∙ sym q) i, v .1 .1 .1))));
+    }
+
+pub flash-settled : FlashSettled
+flash-settled =
+    record {
+      change-store-file = λ κs given x y v w p q. (refl, λ i. ((p ∙ sym q) i, v .1));
+      change-setting-of = λ κs given x y v w p q. (p ∙ sym q, refl);
+      change-store-header = λ κs given x y v w p q. (refl, λ i. ((p ∙ sym q) i, v .1));
+      change-erase-step = λ κs given x y v w p q. (p .0 ∙ sym (q .0), λ i. ((p .1 ∙ sym (q .1)) i, v .1));
+      change-erasing-after = λ κs given x y v w p q. (p ∙ sym q, refl);
+      directory-status-word = λ κs given x y v w p q. (p ∙ sym q, refl);
+      directory-with-entry = λ κs given x y v w p q. (p ∙ sym q, refl);
+      directory-refresh = λ κs given x y v w p q. (p ∙ sym q, refl);
+      directory-scan = λ κs given x y v w p q. (p ∙ sym q, refl);
+      directory-entry-is = λ κs given x y v w p q. (p ∙ sym q, refl);
+      directory-kept-status = λ κs given x y v w p q. (p ∙ sym q, refl);
+      finding-is-named = λ κs given x y v w p q. (p ∙ sym q, refl);
+      finding-search = λ κs given x y v w p q. (p ∙ sym q, refl);
+      finding-target = λ κs given x y v w p q. (p ∙ sym q, refl);
+      finding-sector-at = λ κs given x y v w p q. (p ∙ sym q, refl);
+      finding-place = λ κs given x y v w p q. (p ∙ sym q, refl);
+      sectors-is-sector = λ κs given x y v w p q. (p ∙ sym q, refl);
+      sectors-sector-size = λ κs given x y v w p q. (p ∙ sym q, refl);
+      sectors-sector-start = λ κs given x y v w p q. (p ∙ sym q, refl);
+      sectors-sector-address = λ κs given x y v w p q. (p ∙ sym q, refl);
+      sectors-sector-of = λ κs given x y v w p q. (p ∙ sym q, refl);
+      sectors-is-empty = λ κs given x y v w p q. (p ∙ sym q, refl);
+      sectors-first-of = λ κs given x y v w p q. (p ∙ sym q, refl);
+      sectors-status-of = λ κs given x y v w p q. (p ∙ sym q, refl);
+      sectors-is-erasing = λ κs given x y v w p q. (p ∙ sym q, refl);
+      sectors-status-in = λ κs given x y v w p q. (p ∙ sym q, refl);
+    }
+
+pub memory-settled : MemorySettled
+memory-settled =
+    record {
+      read-words = λ κs given x y v w p q. (p ∙ sym q, refl);
+      can-read = λ κs given x y v w p q. (p ∙ sym q, refl);
+      read-pm = λ κs given x y v w p q. (ap (λ (o : Read). o .answer) (p ∙ sym q), λ i. (v .0, (v .1 .0, (v .1 .1 .0, ((p ∙ sym q) i .reply, v .1 .1 .1 .1)))));
+      read-dm = λ κs given x y v w p q. (ap (λ (o : Read). o .answer) (p ∙ sym q), λ i. (v .0, (v .1 .0, (v .1 .1 .0, ((p ∙ sym q) i .reply, v .1 .1 .1 .1)))));
+      can-write = λ κs given x y v w p q. (p ∙ sym q, refl);
+      write-pm = λ κs given x y v w p q. (ap (λ (o : Written). o .done) (p ∙ sym q), λ i. ((p ∙ sym q) i .after, v .1));
+      write-dm = λ κs given x y v w p q. (ap (λ (o : Written). o .done) (p ∙ sym q), λ i. ((p ∙ sym q) i .after, v .1));
+      can-perform = λ κs given x y v w p q. (p ∙ sym q, refl);
+      perform-io = λ κs given x y v w p q. (ap (λ (o : Performed). o .answer) (p ∙ sym q), λ i. ((p ∙ sym q) i .io, (v .1 .0, ((p ∙ sym q) i .reply, v .1 .1 .1))));
+      can-load = λ κs given x y v w p q. (p ∙ sym q, refl);
+      load = λ κs given x y v w p q. (ap (λ (o : Loaded). o .done) (p ∙ sym q), λ i. (v .0, ((p ∙ sym q) i .after .pm, ((p ∙ sym q) i .after .dm, ((p ∙ sym q) i .after .io, v .1 .1 .1 .1)))));
+    }
+
+pub group-settled : GroupSettled
+group-settled =
+    record {
+      ending-zero-reply = λ κs given x y v w p q. (p ∙ sym q, refl);
+      ending-seal = λ κs given x y v w p q. (ap (λ (o : Sent). o .reply) (p ∙ sym q), λ i. ((p ∙ sym q) i .buffer, v .1));
+      ending-finish = λ κs given x y v w p q. (ap (λ (o : Sent). o .reply) (p ∙ sym q), λ i. ((p ∙ sym q) i .buffer, v .1));
+      ending-pass-on = λ κs given x y v w p q. (ap (λ (o : Sent). o .reply) (p ∙ sym q), λ i. ((p ∙ sym q) i .buffer, v .1));
+      fragment-take-answer = λ κs given x y v w p q. (ap (λ (o : Assembly). o .built) (p ∙ sym q), λ i. ((p ∙ sym q) i .reply, v .1));
+      judge-zero-bc = λ κs given x y v w p q. (p ∙ sym q, refl);
+      judge-has-room = λ κs given x y v w p q. (p ∙ sym q, refl);
+      judge-kind-of = λ κs given x y v w p q. (p ∙ sym q, refl);
+      judge-tally-number = λ κs given x y v w p q. (p ∙ sym q, refl);
+      slaves-is-late = λ κs given x y v w p q. (p ∙ sym q, refl);
+      slaves-first-slave = λ κs given x y v w p q. (p ∙ sym q, refl);
+      slaves-next-slave = λ κs given x y v w p q. (p ∙ sym q, refl);
+      slaves-slaves-above = λ κs given x y v w p q. (p ∙ sym q, refl);
+    }
+
+pub node-settled : NodeSettled
+node-settled =
+    record {
+      refusals-request-verdict = λ κs given x y v w p q. (p ∙ sym q, refl);
+      refusals-reply-verdict = λ κs given x y v w p q. (p ∙ sym q, refl);
+      refusals-poll-verdict = λ κs given x y v w p q. (p ∙ sym q, refl);
+      refusals-erase-verdict = λ κs given x y v w p q. (p ∙ sym q, refl);
+      refusals-start-verdict = λ κs given x y v w p q. (p ∙ sym q, refl);
+      routing-route-of = λ κs given x y v w p q. (p ∙ sym q, refl);
+      valid-size-ok = λ κs given x y v w p q. (p ∙ sym q, refl);
+      valid-kind-ok = λ κs given x y v w p q. (p ∙ sym q, refl);
+      valid-ports-ok = λ κs given x y v w p q. (p ∙ sym q, refl);
+      valid-state-ok = λ κs given x y v w p q. (p ∙ sym q, refl);
+    }
+
+pub settled : Settled
+settled =
+    record {
+      base = base-settled;
+      fcs = fcs-settled;
+      image = image-settled;
+      flash = flash-settled;
+      memory = memory-settled;
+      group = group-settled;
+      node = node-settled;
+    }

@@ -1,0 +1,238 @@
+-- What holds of every state that is reached, with its flash: every part is in its range, the flash is the one of start, and the
+-- directory is fresh. A start gives it and every call keeps it. Assumes nothing.
+use Prim.Native.Nat.{ℕ, _/_, _<_}
+use mathlib.Core.Path.{_≡_, refl, sym, _∙_, subst}
+use mathlib.Core.Bool.{Bool, true, false, _&&_, false≢true}
+use mathlib.Core.List.{List, [], _∷_}
+use lib.ListN.{length}
+use lib.Dec.{leb, eqb}
+use borrow.Author.Tests.{le-leb}
+use Rattle.base.specs.Pick.{pick}
+use Rattle.base.proofs.Pick.{yes, pick-case, and-right}
+use Rattle.base.specs.Words.{Below}
+use Rattle.flash.specs.Geometry.{unitOf}
+use Rattle.flash.specs.Change.{erased, erasingAfter}
+use Rattle.flash.specs.declared.Erasing.{Erasing}
+use Rattle.flash.proofs.Storing.{stored-only}
+use Rattle.flash.proofs.Erasure.{erased-only}
+use Rattle.memory.specs.Segment.{Memories}
+use Rattle.node.specs.State.{turn}
+use Rattle.node.specs.Refusals.{replyVerdict, pollVerdict, eraseVerdict, startVerdict}
+use Rattle.node.specs.Valid.{sizeOk, kindOk, portsOk, masksOk, erasingOk, pendingOk}
+use Rattle.node.specs.Effect.{Effect, effect, Lent, lent, nodeAfter, Change, flashAfter, erasingNext, Setup}
+use Rattle.node.specs.Slaves.{replyEffect, pollEffect}
+use Rattle.node.specs.Calls.{judged, lentReply, lentFlash, given, started, startBy, startOf, requestOf, replyOf, pollOf, eraseEffect, eraseOf}
+use Rattle.node.specs.declared.Node.{Node}
+use Rattle.node.specs.declared.Verdict.{Verdict}
+use Rattle.node.proofs.Why.{Quiet, request-why, reply-quiet, poll-quiet}
+use Rattle.node.proofs.Directories.{Fresh, why-fresh, step-fresh}
+use Rattle.node.proofs.Ranges.{and-both, Ranges, size-some, why-erasing, step-erasing, sets-mode, sets-masks, request-pending, reply-pending, poll-pending}
+use Rattle.demands.specs.Machine.{Call, logodwen, turnOf, flashOf, isRefused}
+use Rattle.demands.specs.Reached.{Lends16, stateAfter, Reached}
+use Rattle.demands.proofs.Verdicts.{verdictOn, requestEffect, request-fine, reply-fine, poll-fine, start-fine, request-taken, reply-taken, poll-taken}
+
+-- no change changes the size of the flash
+pub change-size : (c : Change) (e : Erasing) (flash : List ℕ) → length (flashAfter c e flash) ≡ length flash
+unfolding erased
+change-size Change.Kept e flash = refl
+change-size (Change.Wrote s file) e flash = stored-only flash s file .size
+change-size (Change.Headed s end header) e flash = stored-only flash s (header ∷ []) .size
+change-size (Change.Begun s) e flash = refl
+change-size (Change.Blanked budget) Erasing.Nothing flash = refl
+change-size (Change.Blanked budget) (Erasing.Sector p) flash = erased-only flash p budget .size
+
+-- a state of a node, for a flash of its size
+pub record Valid (n : Node) (flash : List ℕ) : Type 0 where
+  pub ranges : Ranges n
+  pub size : n .given .«flash_words» ≡ length flash
+
+pub record Sound (n : Node) (flash : List ℕ) : Type 0 where
+  pub valid : Valid n flash
+  pub fresh : Fresh (n .directory) (n .erasing) flash
+
+pub given-size : (n : Node) → Ranges n → sizeOk (n .given .«flash_words») ≡ true
+given-size n r =
+    and-right (kindOk (n .given .kind) && portsOk (n .given .ports) && leb (n .given .subdetector) 7) (sizeOk (n .given .«flash_words»)) (r .given)
+
+-- a flash of either size has words for every sector
+pub some-unit : (n : Node) (flash : List ℕ) → Valid n flash → 0 < unitOf flash
+some-unit n flash v = subst (λ (k : ℕ). 0 < k / 16) (v .size) (size-some (n .given .«flash_words») (given-size n (v .ranges)))
+
+-- a request that is taken
+module _ (n : Node) (clock link bc : ℕ) (errors : Bool) (packet : List ℕ) (l : Lent) where
+  abbrev asked : Effect
+  asked = requestEffect n clock link bc errors packet l
+
+  abbrev after : List ℕ
+  after = flashAfter (asked .change) (n .erasing) (l .flash)
+
+  request-valid : Below 65536 packet → link < n .given .ports → Valid n (l .flash) → Valid (nodeAfter n (l .flash) asked) after
+  request-valid b k v =
+      let words : ℕ = n .given .«flash_words» in
+      let why = request-why n l packet clock link bc errors in
+      let r = v .ranges in
+      record {
+        ranges = record {
+          given = r .given;
+          mode = sets-mode (asked .setup) packet (n .mode) (why .1) (r .mode);
+          masks = sets-masks (asked .setup) packet (n .masks) b (why .1) (r .masks);
+          erasing =
+              subst (λ (x : ℕ). erasingOk words (erasingNext (asked .change) (n .erasing) (x / 16)) ≡ true) (v .size)
+              (why-erasing words (asked .change) n (l .flash) packet (size-some words (given-size n r)) (why .0) (r .erasing));
+          pending = request-pending n clock link bc errors packet l b k (r .masks) (r .pending);
+        };
+        size = v .size ∙ sym (change-size (asked .change) (n .erasing) (l .flash));
+      }
+
+  request-sound : Below 65536 packet → link < n .given .ports → Sound n (l .flash) → Sound (nodeAfter n (l .flash) asked) after
+  request-sound b k s =
+      record {
+        valid = request-valid b k (s .valid);
+        fresh = why-fresh (asked .change) n (l .flash) packet (some-unit n (l .flash) (s .valid)) (request-why n l packet clock link bc errors .0) (s .fresh);
+      }
+
+-- a slave's answer, and a poll
+quiet-sound : (n : Node) (flash none : List ℕ) (e : Effect) → Quiet e → pendingOk (n .given .ports) (e .pending) ≡ true → Sound n flash → Sound (nodeAfter n none e) flash
+quiet-sound n flash none e q p s =
+    subst (λ (c : Change). Sound (next c (e .setup)) flash) (sym (q .change)) (subst (λ (u : Setup). Sound (next Change.Kept u) flash) (sym (q .setup)) kept)
+  where
+    next : Change → Setup → Node
+    next c u = nodeAfter n none (effect (e .answer) c (e .store) u (e .amswire) (e .fault) (e .pending) (e .reply))
+
+    kept : Sound (next Change.Kept Setup.Kept) flash
+    kept =
+        let r = s .valid .ranges in
+        record {
+          valid = record {
+            ranges = record { given = r .given; mode = r .mode; masks = r .masks; erasing = r .erasing; pending = p };
+            size = s .valid .size;
+          };
+          fresh = s .fresh;
+        }
+
+-- a step of an erasure
+pub step-valid : (n : Node) (flash : List ℕ) (budget : ℕ) → Valid n flash → Valid (nodeAfter n flash (eraseEffect n budget flash)) (erased flash (n .erasing) budget)
+step-valid n flash budget v =
+    let r = v .ranges in
+    record {
+      ranges = record {
+        given = r .given;
+        mode = r .mode;
+        masks = r .masks;
+        erasing =
+            subst (λ (x : ℕ). erasingOk (n .given .«flash_words») (erasingAfter (x / 16) (n .erasing) budget) ≡ true) (v .size)
+            (step-erasing (n .given .«flash_words») (n .erasing) budget (r .erasing));
+        pending = r .pending;
+      };
+      size = v .size ∙ sym (change-size (Change.Blanked budget) (n .erasing) flash);
+    }
+
+step-sound : (n : Node) (flash : List ℕ) (budget : ℕ) → Sound n flash → Sound (nodeAfter n flash (eraseEffect n budget flash)) (erased flash (n .erasing) budget)
+step-sound n flash budget s =
+    record { valid = step-valid n flash budget (s .valid); fresh = step-fresh (n .directory) (n .erasing) flash budget (s .fresh) }
+
+-- a start
+start-sound : (kind ports subdetector program version tests clock : ℕ) (flash : List ℕ) → startVerdict kind ports subdetector (length flash) ≡ Verdict.Fine
+    → Sound (started (given kind ports subdetector program version tests clock (length flash)) flash) flash
+unfolding masksOk
+start-sound kind ports subdetector program version tests clock flash h =
+    let f = start-fine kind ports subdetector (length flash) h in
+    record {
+      valid = record {
+        ranges = record {
+          given = and-both (and-both (and-both (f .kinds) (f .some)) (le-leb subdetector 7 (f .most))) (f .sized);
+          mode = pick-case (λ (m : ℕ). leb m 3 ≡ true) (eqb kind 1) (λ _. refl) (λ _. refl);
+          masks = refl;
+          erasing = refl;
+          pending = refl;
+        };
+        size = refl;
+      };
+      fresh = record { summary = refl; blank = tt };
+    }
+
+-- what a call hands on is sound where the state before was: refused, it is the state before
+abbrev Keeps : Call → Node → List ℕ → Type 0
+Keeps c n flash = Sound n flash → Sound (stateAfter logodwen c n flash) (flashOf logodwen c n flash)
+
+start-keeps : (kind ports subdetector program version tests clock : ℕ) (n : Node) (flash : List ℕ) → Keeps (Call.Start kind ports subdetector program version tests clock) n flash
+unfolding startOf
+start-keeps kind ports subdetector program version tests clock n flash s = by (startVerdict kind ports subdetector (length flash)) refl
+  where
+    by : (v : Verdict) → startVerdict kind ports subdetector (length flash) ≡ v
+        → Sound (pick (isRefused (startBy v (given kind ports subdetector program version tests clock (length flash)) flash .answer)) n (startBy v (given kind ports subdetector program version tests clock (length flash)) flash .node)) flash
+    by Verdict.Fine e = start-sound kind ports subdetector program version tests clock flash e
+    by (Verdict.No r) e = s
+
+request-keeps : (clock link bc : ℕ) (errors : Bool) (packet : List ℕ) (m : Memories) (reply : List ℕ) (n : Node) (flash : List ℕ) → Below 65536 packet → Keeps (Call.Request clock link bc errors packet m reply) n flash
+unfolding requestOf
+request-keeps clock link bc errors packet m reply n flash b s =
+    by (verdictOn n link packet (lent flash m reply)) refl
+  where
+    by : (v : Verdict) → verdictOn n link packet (lent flash m reply) ≡ v
+        → Sound (judged v n (lent flash m reply) (requestEffect n clock link bc errors packet (lent flash m reply)) .turn .node) (judged v n (lent flash m reply) (requestEffect n clock link bc errors packet (lent flash m reply)) .after .flash)
+    by Verdict.Fine e = request-sound n clock link bc errors packet (lent flash m reply) b (request-fine n link _ _ _ _ _ _ e .below) s
+    by (Verdict.No r) e = s
+
+reply-keeps : (clock slave bc : ℕ) (errors : Bool) (status address : ℕ) (words reply : List ℕ) (n : Node) (flash : List ℕ) → Keeps (Call.Reply clock slave bc errors status address words reply) n flash
+unfolding replyOf
+reply-keeps clock slave bc errors status address words reply n flash s = by (replyVerdict n slave (length reply)) refl
+  where
+    by : (v : Verdict) → replyVerdict n slave (length reply) ≡ v → Sound (judged v n (lentReply reply) (replyEffect n clock errors status address bc words reply) .turn .node) flash
+    by Verdict.Fine e =
+        quiet-sound n flash [] (replyEffect n clock errors status address bc words reply) (reply-quiet n clock errors status address bc words reply)
+        (reply-pending n (n .given .ports) clock errors status address bc words reply (reply-fine n slave (length reply) e .buffer) (s .valid .ranges .pending)) s
+    by (Verdict.No r) e = s
+
+poll-keeps : (clock : ℕ) (reply : List ℕ) (n : Node) (flash : List ℕ) → Keeps (Call.Poll clock reply) n flash
+unfolding pollOf
+poll-keeps clock reply n flash s = by (pollVerdict n (length reply)) refl
+  where
+    by : (v : Verdict) → pollVerdict n (length reply) ≡ v → Sound (judged v n (lentReply reply) (pollEffect n clock reply) .turn .node) flash
+    by Verdict.Fine e =
+        quiet-sound n flash [] (pollEffect n clock reply) (poll-quiet n clock reply)
+        (poll-pending n (n .given .ports) clock reply (poll-fine n (length reply) e .buffer) (s .valid .ranges .pending)) s
+    by (Verdict.No r) e = s
+
+erase-keeps : (budget : ℕ) (n : Node) (flash : List ℕ) → Keeps (Call.Erase budget) n flash
+unfolding eraseOf
+erase-keeps budget n flash s = by (eraseVerdict n (length flash))
+  where
+    by : (v : Verdict) → Sound (judged v n (lentFlash flash) (eraseEffect n budget flash) .turn .node) (judged v n (lentFlash flash) (eraseEffect n budget flash) .after .flash)
+    by Verdict.Fine = step-sound n flash budget s
+    by (Verdict.No r) = s
+
+pub call-keeps : (c : Call) (n : Node) (flash : List ℕ) → Lends16 c → Keeps c n flash
+call-keeps (Call.Start kind ports subdetector program version tests clock) n flash b = start-keeps kind ports subdetector program version tests clock n flash
+call-keeps (Call.Request clock link bc errors packet m reply) n flash b = request-keeps clock link bc errors packet m reply n flash b
+call-keeps (Call.Reply clock slave bc errors status address words reply) n flash b = reply-keeps clock slave bc errors status address words reply n flash
+call-keeps (Call.Poll clock reply) n flash b = poll-keeps clock reply n flash
+call-keeps (Call.Erase budget) n flash b = erase-keeps budget n flash
+
+-- a refused call leaves the host with the state it had
+judged-same : (v : Verdict) (n : Node) (l : Lent) (e : Effect) → isRefused (e .answer) ≡ false → isRefused (judged v n l e .turn .answer) ≡ true → judged v n l e .turn .node ≡ n
+judged-same Verdict.Fine n l e t h = absurd (false≢true (sym t ∙ h))
+judged-same (Verdict.No r) n l e t h = refl
+
+pub refused-same : (c : Call) (n : Node) (flash : List ℕ) → isRefused (turnOf logodwen c n flash .answer) ≡ true → stateAfter logodwen c n flash ≡ n
+unfolding requestOf replyOf pollOf eraseOf
+refused-same (Call.Start kind ports subdetector program version tests clock) n flash h = sym (yes _ h refl)
+refused-same (Call.Request clock link bc errors packet m reply) n flash h = judged-same (verdictOn n link packet (lent flash m reply)) n (lent flash m reply) (requestEffect n clock link bc errors packet (lent flash m reply)) (request-taken n clock link bc errors packet (lent flash m reply)) h
+refused-same (Call.Reply clock slave bc errors status address words reply) n flash h = judged-same (replyVerdict n slave (length reply)) n (lentReply reply) (replyEffect n clock errors status address bc words reply) (reply-taken n clock errors status address bc words reply) h
+refused-same (Call.Poll clock reply) n flash h = judged-same (pollVerdict n (length reply)) n (lentReply reply) (pollEffect n clock reply) (poll-taken n clock reply) h
+refused-same (Call.Erase budget) n flash h = judged-same (eraseVerdict n (length flash)) n (lentFlash flash) (eraseEffect n budget flash) refl h
+
+first-sound : (kind ports subdetector program version tests clock : ℕ) (flash : List ℕ) → isRefused (startOf kind ports subdetector program version tests clock flash .answer) ≡ false
+    → Sound (startOf kind ports subdetector program version tests clock flash .node) flash
+unfolding startOf
+first-sound kind ports subdetector program version tests clock flash h = by (startVerdict kind ports subdetector (length flash)) refl h
+  where
+    by : (v : Verdict) → startVerdict kind ports subdetector (length flash) ≡ v → isRefused (startBy v (given kind ports subdetector program version tests clock (length flash)) flash .answer) ≡ false
+        → Sound (startBy v (given kind ports subdetector program version tests clock (length flash)) flash .node) flash
+    by Verdict.Fine e q = start-sound kind ports subdetector program version tests clock flash e
+    by (Verdict.No r) e q = absurd (false≢true (sym q))
+
+pub reached-sound : {n : Node} {flash : List ℕ} → Reached logodwen n flash → Sound n flash
+reached-sound (Reached.First kind ports subdetector program version tests clock flash h) = first-sound kind ports subdetector program version tests clock flash h
+reached-sound (Reached.Then {n = n} {flash = flash} r c b) = call-keeps c n flash b (reached-sound r)
+reached-sound (Reached.Refused {n = n} {flash = flash} r c other h) = subst (λ (m : Node). Sound m flash) (sym (refused-same c n other h)) (reached-sound r)

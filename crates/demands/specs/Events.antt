@@ -1,0 +1,88 @@
+-- The calls of one group as its host makes them: each lent what the call before left. 01 'Call refusals' and 'Group assembly'. Assumes
+-- nothing.
+use Prim.Native.Nat.{ℕ}
+use mathlib.Core.Path.{_≡_}
+use mathlib.Core.Bool.{Bool, false, _&&_, not}
+use mathlib.Core.List.{List, [], _∷_, _++_}
+use lib.Dec.{eqb}
+use lib.ListN.{length}
+use Rattle.base.specs.Pick.{pick}
+use Rattle.group.specs.Time.{isLate}
+use Rattle.group.specs.Kind.{answer, Answer as SlaveAnswer}
+use Rattle.memory.specs.Segment.{Memories}
+use Rattle.node.specs.Refusals.{isPending}
+use Rattle.node.specs.Route.{bcOf}
+use Rattle.node.specs.Effect.{lent, Outcome}
+use Rattle.node.specs.Slaves.{heard, silent}
+use Rattle.node.specs.declared.Answer.{Answer}
+use Rattle.node.specs.declared.Turn.{Turn}
+use Rattle.demands.specs.Machine.{Machine}
+
+-- The calls that a host may make while a group is pending.
+pub data Event : Type 0 where
+  Requested : (clock link bc : ℕ) (errors : Bool) (packet : List ℕ) (m : Memories) → Event
+  Replied : (clock slave bc : ℕ) (errors : Bool) (status address : ℕ) (words : List ℕ) → Event
+  Polled : (clock : ℕ) → Event
+  Erased : (budget : ℕ) → Event
+
+-- Where the host stands: the last answer with the state, the flash, the reply buffer, and the slaves that it was told to ask.
+pub record Host : Type 0 where
+  pub turn : Turn
+  pub flash : List ℕ
+  pub buffer : List ℕ
+  pub asked : List ℕ
+
+-- The slave that an answer says to ask.
+abbrev pub slaveIn : Answer → List ℕ
+slaveIn (Answer.Refused r) = []
+slaveIn Answer.Started = []
+slaveIn (Answer.Reply r) = []
+slaveIn (Answer.Ask a) = a .slave ∷ []
+slaveIn Answer.Waiting = []
+slaveIn (Answer.Erased count) = []
+
+-- After a call: the slave that its answer says to ask comes behind those asked before.
+abbrev pub host : List ℕ → Turn → List ℕ → List ℕ → Host
+host asked t flash buffer = record { turn = t; flash = flash; buffer = buffer; asked = asked ++ slaveIn (t .answer) }
+
+-- One call, lent state, flash and reply buffer as the call before left them. Reply and poll aren't lent the flash, erase progress
+-- isn't lent the reply buffer.
+abbrev pub stepped : Machine → Event → Host → Host
+stepped M (Event.Requested clock link bc errors packet m) h =
+    let o : Outcome = M .request (h .turn .node) clock link bc errors packet (lent (h .flash) m (h .buffer)) in
+    host (h .asked) (o .turn) (o .after .flash) (o .after .reply)
+stepped M (Event.Replied clock slave bc errors status address words) h =
+    let o : Outcome = M .reply (h .turn .node) clock slave bc errors status address words (h .buffer) in
+    host (h .asked) (o .turn) (h .flash) (o .after .reply)
+stepped M (Event.Polled clock) h =
+    let o : Outcome = M .poll (h .turn .node) clock (h .buffer) in host (h .asked) (o .turn) (h .flash) (o .after .reply)
+stepped M (Event.Erased budget) h =
+    let o : Outcome = M .erase (h .turn .node) budget (h .flash) in host (h .asked) (o .turn) (o .after .flash) (h .buffer)
+
+-- The host goes on while something is pending.
+unfoldable pub hosted : Machine → List Event → Host → Host
+hosted M [] h = h
+hosted M (e ∷ es) h = pick (isPending (h .turn .node .pending)) (hosted M es (stepped M e h)) h
+
+-- A call that drops a group of this link: a request without receive errors, of 0 words, with BC 10, from that link.
+abbrev pub dropsGroup : ℕ → Event → Bool
+dropsGroup link (Event.Requested clock l bc errors packet m) = not errors && (eqb (length packet) 0 && (eqb link l && eqb (bcOf bc) 2))
+dropsGroup link (Event.Replied clock slave bc errors status address words) = false
+dropsGroup link (Event.Polled clock) = false
+dropsGroup link (Event.Erased budget) = false
+
+-- No call of a run drops it.
+unfoldable pub Undropped : ℕ → List Event → Type 0
+Undropped link [] = Unit {0}
+Undropped link (e ∷ es) = (dropsGroup link e ≡ false) × Undropped link es
+
+-- What these slaves are heard to answer, the first asked at a clock, each next one when the one before has ended: the reply of the
+-- slave now being asked, a timeout if it comes too late; and a timeout where a poll finds it too late. Other calls are nothing to it.
+unfoldable pub heards : ℕ → List ℕ → List Event → List SlaveAnswer
+heards at [] es = []
+heards at (s ∷ ss) [] = []
+heards at (s ∷ ss) (Event.Requested clock link bc errors packet m ∷ es) = heards at (s ∷ ss) es
+heards at (s ∷ ss) (Event.Replied clock slave bc errors status address words ∷ es) =
+    pick (eqb s slave) (answer (heard (isLate clock at) errors status address bc) words ∷ heards clock ss es) (heards at (s ∷ ss) es)
+heards at (s ∷ ss) (Event.Polled clock ∷ es) = pick (isLate clock at) (answer silent [] ∷ heards clock ss es) (heards at (s ∷ ss) es)
+heards at (s ∷ ss) (Event.Erased budget ∷ es) = heards at (s ∷ ss) es

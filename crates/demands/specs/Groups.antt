@@ -1,0 +1,171 @@
+-- Demand 2, of groups: a group's reply is its slaves' fragments in slave order, each slave asked once. 01 'Requests' step 4 and 'Group
+-- assembly'. Assumes nothing.
+use Prim.Native.Nat.{ℕ, _+_, _≤_, _<_}
+use mathlib.Core.Path.{_≡_}
+use mathlib.Core.Bool.{Bool, true, false, _||_, not}
+use mathlib.Core.List.{List, [], _∷_}
+use lib.Dec.{leb, eqb}
+use lib.ListN.{length, getD, take}
+use Rattle.base.specs.Pick.{pick}
+use Rattle.base.specs.Words.{laid, Below}
+use Rattle.group.specs.Kind.{Answer as SlaveAnswer}
+use Rattle.group.specs.Tally.{Every}
+use Rattle.group.specs.Slaves.{hasSlave, slavesOf}
+use Rattle.group.specs.Ending.{replied, zeroReply}
+use Rattle.group.specs.Whole.{kindsOf, assembled, dataReply}
+use Rattle.group.specs.declared.Kind.{Kind}
+use Rattle.group.specs.declared.Reply.{Reply}
+use Rattle.group.specs.declared.Tally.{Tally}
+use Rattle.group.specs.declared.ZeroLength.{ZeroLength}
+use Rattle.node.specs.Refusals.{isAsked}
+use Rattle.node.specs.Route.{asking, firstByte, secondByte, maskIn}
+use Rattle.node.specs.Settings.{statusIn}
+use Rattle.node.specs.Effect.{Lent, Outcome}
+use Rattle.node.specs.declared.Answer.{Answer}
+use Rattle.node.specs.declared.Asking.{Asking}
+use Rattle.node.specs.declared.Node.{Node}
+use Rattle.node.specs.declared.Pending.{Pending}
+use Rattle.demands.specs.Machine.{Machine}
+use Rattle.demands.specs.Requests.{Delivered}
+use Rattle.demands.specs.Events.{Event, Host, host, hosted, Undropped, heards}
+
+-- A request to a group, by its first byte, and the set of slaves that it asks: 40 mask by ID in the second byte, 23 mask in the next
+-- three bytes, 2A all slaves.
+abbrev pub isGroup : List ℕ → Bool
+isGroup packet =
+    eqb (firstByte (getD packet 0 0)) 0x40 || (eqb (firstByte (getD packet 0 0)) 0x23 || eqb (firstByte (getD packet 0 0)) 0x2A)
+
+abbrev pub setAsked : Node → List ℕ → ℕ
+setAsked n packet =
+    pick (eqb (firstByte (getD packet 0 0)) 0x40) (getD (n .masks) (secondByte (getD packet 0 0)) 0)
+    (pick (eqb (firstByte (getD packet 0 0)) 0x23) (maskIn (getD packet 0 0) (getD packet 1 0)) 0xFFFFFF)
+
+-- One word is stripped, two for 23.
+abbrev pub stripped : List ℕ → ℕ
+stripped packet = pick (eqb (firstByte (getD packet 0 0)) 0x23) 2 1
+
+-- The mask ID of 40 is at most 15.
+abbrev pub knowsMask : List ℕ → Bool
+knowsMask packet = not (eqb (firstByte (getD packet 0 0)) 0x40) || leb (secondByte (getD packet 0 0)) 15
+
+-- A request to a group that no refusal and none of steps 1 to 5 answers asks the lowest slave of the set, with the request as it is
+-- behind the words stripped.
+abbrev pub GroupIsAsked : Machine → Type 0
+GroupIsAsked M =
+    (n : Node) (clock link bc : ℕ) (errors : Bool) (packet : List ℕ) (l : Lent) → Delivered M n clock link bc errors packet l
+    → isGroup packet ≡ true → knowsMask packet ≡ true → n .given .kind ≡ 2 → stripped packet < length packet
+    → (s : ℕ) (ss : List ℕ) → slavesOf (setAsked n packet) ≡ s ∷ ss
+    → M .request n clock link bc errors packet l .turn .answer ≡ Answer.Ask (asking s (stripped packet))
+
+-- A request to a group, whatever state, flash, memories and reply buffer it is lent, that is answered by asking a slave; then a run
+-- of calls that do not drop it.
+pub record GroupRun (M : Machine) : Type 0 where
+  pub node : Node
+  pub clock : ℕ
+  pub link : ℕ
+  pub bc : ℕ
+  pub errors : Bool
+  pub packet : List ℕ
+  pub lent : Lent
+  pub words : Below 65536 packet
+  pub group : isGroup packet ≡ true
+  pub asking : Asking
+  pub asks : M .request node clock link bc errors packet lent .turn .answer ≡ Answer.Ask asking
+  pub events : List Event
+  pub kept : Undropped link events
+
+module _ {M : Machine} (r : GroupRun M) where
+  -- Where the request leaves the host, and where the calls after it do.
+  abbrev pub begun : Host
+  begun =
+      let o : Outcome = M .request (r .node) (r .clock) (r .link) (r .bc) (r .errors) (r .packet) (r .lent) in
+      host [] (o .turn) (o .after .flash) (o .after .reply)
+
+  abbrev pub atLast : Host
+  atLast = hosted M (r .events) begun
+
+  -- The slaves of the set, ascending.
+  abbrev pub slaves : List ℕ
+  slaves = slavesOf (setAsked (r .node) (r .packet))
+
+  -- What they are heard to answer.
+  abbrev pub said : List SlaveAnswer
+  said = heards (r .clock) slaves (r .events)
+
+  -- What each of these answers is.
+  abbrev pub kinds : List Kind
+  kinds = kindsOf slaves said 0
+
+  -- The fragments of these answers, one behind the other.
+  abbrev pub fragments : List ℕ
+  fragments = assembled slaves said 0
+
+  -- The reply buffer as it was lent at first, with other words from word 0 on.
+  abbrev pub fronted : List ℕ → List ℕ
+  fronted ws = laid (r .lent .reply) 0 ws
+
+  -- This reply is sent, with the reply buffer so, and nothing is pending.
+  pub record Sends (reply : Reply) (ws : List ℕ) : Type 0 where
+    pub answer : atLast .turn .answer ≡ Answer.Reply reply
+    pub words : atLast .buffer ≡ fronted ws
+    pub nothing : atLast .turn .node .pending ≡ Pending.Nothing
+
+  -- All slaves the same 0-length reply: that reply. Otherwise the data reply: the fragments in slave order, the status word, in which
+  -- bit 9 is set unless every code is 0 with DAT, and the FCS.
+  pub record Ends : Type 0 where
+    pub common : (z : ZeroLength) → Every (Kind.Zero z) kinds → Sends (zeroReply z) fragments
+    pub whole : Every Kind.Whole kinds → Sends (replied 3 (length fragments + 2)) (dataReply fragments Tally.Whole (statusIn (r .node)))
+    pub mixed : ((z : ZeroLength) → Every (Kind.Zero z) kinds → ⊥) → (Every Kind.Whole kinds → ⊥)
+        → Sends (replied 3 (length fragments + 2)) (dataReply fragments Tally.Mixed (statusIn (r .node)))
+
+  -- Every slave has been heard; or there are more to come.
+  abbrev pub AllHeard : Type 0
+  AllHeard = length said ≡ length slaves
+
+  abbrev pub MoreToCome : Type 0
+  MoreToCome = length said < length slaves
+
+-- When every slave of the set has been heard, the reply is the slaves' fragments.
+abbrev pub GroupIsItsFragments : Machine → Type 0
+GroupIsItsFragments M = (r : GroupRun M) → AllHeard r → Ends r
+
+-- So far those heard have been asked, in slave order, and the next one.
+abbrev pub AskedInOrder : Machine → Type 0
+AskedInOrder M = (r : GroupRun M) → atLast r .asked ≡ take (length (said r) + 1) (slaves r)
+
+-- Each slave comes before higher ones, so none comes twice.
+abbrev pub ComesBefore : ℕ → List ℕ → Type 0
+ComesBefore s [] = Unit {0}
+ComesBefore s (t ∷ ss) = s < t
+
+abbrev pub Ascending : List ℕ → Type 0
+Ascending [] = Unit {0}
+Ascending (s ∷ ss) = ComesBefore s ss × Ascending ss
+
+-- A slave is among those of a list.
+abbrev pub isAmong : List ℕ → ℕ → Bool
+isAmong [] s = false
+isAmong (t ∷ ss) s = eqb t s || isAmong ss s
+
+-- Exactly the slaves of a set: 0 to 23, those whose bit is set, ascending.
+pub record Exactly (set : ℕ) (ss : List ℕ) : Type 0 where
+  pub ascending : Ascending ss
+  pub members : (s : ℕ) → s < 24 → isAmong ss s ≡ hasSlave set s
+  pub others : (s : ℕ) → 24 ≤ s → isAmong ss s ≡ false
+
+-- When every slave has been heard, the slaves asked are those of the set, ascending, each once.
+abbrev pub EachAskedOnce : Machine → Type 0
+EachAskedOnce M = (r : GroupRun M) → AllHeard r → Exactly (setAsked (r .node) (r .packet)) (atLast r .asked)
+
+-- With more to come, the fragments so far stand at the front of the buffer, and the next slave is being asked.
+abbrev pub FragmentsStand : Machine → Type 0
+FragmentsStand M =
+    (r : GroupRun M) → MoreToCome r
+    → (take (length (fragments r)) (atLast r .buffer) ≡ fragments r)
+    × (isAsked (atLast r .turn .node .pending) (getD (slaves r) (length (said r)) 0) ≡ true)
+
+-- With more to come, no word past the words built has been stored.
+abbrev pub NothingPastTheWords : Machine → Type 0
+NothingPastTheWords M =
+    (r : GroupRun M) → MoreToCome r
+    → (i : ℕ) → length (fragments r) ≤ i → getD (atLast r .buffer) i 0 ≡ getD (r .lent .reply) i 0

@@ -1,0 +1,171 @@
+-- Demand 1, of refusals: each call is refused by the number of the first cause that holds and then changes nothing, and no state
+-- reached is refused by 5. 01 'Call refusals', each cause in the words of its table. Assumes nothing.
+use Prim.Native.Nat.{ℕ, _+_, _*_, _/_, _%_, _^_, _≤_, _<_}
+use mathlib.Core.Path.{_≡_}
+use mathlib.Core.Logic.{_⊎_, _↔_}
+use mathlib.Core.Bool.{Bool, true}
+use mathlib.Core.List.{List, [], _∷_}
+use lib.ListN.{length, getD}
+use Rattle.flash.specs.Geometry.{sizeOf}
+use Rattle.flash.specs.declared.Erasing.{Erasing}
+use Rattle.group.specs.Slaves.{above}
+use Rattle.node.specs.State.{refusalNumber}
+use Rattle.node.specs.Effect.{Lent, Outcome}
+use Rattle.node.specs.Calls.{nobody, lentReply, lentFlash}
+use Rattle.node.specs.declared.Answer.{Answer}
+use Rattle.node.specs.declared.Ask.{Ask}
+use Rattle.node.specs.declared.Gathering.{Gathering}
+use Rattle.node.specs.declared.Node.{Node}
+use Rattle.node.specs.declared.Pending.{Pending}
+use Rattle.node.specs.declared.Turn.{Turn}
+use Rattle.demands.specs.Machine.{Machine, Call, turnOf, isRefused}
+use Rattle.demands.specs.Reached.{Reached}
+
+-- The number that a call answers: that of its refusal, or 0, done.
+abbrev pub numberOf : Answer → ℕ
+numberOf (Answer.Refused r) = refusalNumber r
+numberOf Answer.Started = 0
+numberOf (Answer.Reply r) = 0
+numberOf (Answer.Ask a) = 0
+numberOf Answer.Waiting = 0
+numberOf (Answer.Erased count) = 0
+
+-- A row of the table: its number and its cause.
+pub record Cause : Type 1 where
+  pub number : ℕ
+  pub holds : Type 0
+
+abbrev pub cause : ℕ → Type 0 → Cause
+cause number holds = record { number = number; holds = holds }
+
+-- A number is that of the first cause that holds, or 0 where none does.
+abbrev pub FirstOf : List Cause → ℕ → Type 0
+FirstOf [] i = 0 ≡ i
+FirstOf (c ∷ causes) i = ((c .number ≡ i) × c .holds) ⊎ ((c .holds → ⊥) × FirstOf causes i)
+
+-- 1: 32,768 words (bench) or 262,144 (full).
+abbrev pub FlashSize : ℕ → Type 0
+FlashSize words = (words ≡ 32768) ⊎ (words ≡ 262144)
+
+-- 5: the kinds and ranges of a state. An erasing sector is one of 3 to 10, and its progress is below its size.
+abbrev pub ErasingIn : ℕ → Erasing → Type 0
+ErasingIn words Erasing.Nothing = Unit {0}
+ErasingIn words (Erasing.Sector p) = ((3 ≤ p .sector) × (p .sector ≤ 10)) × (p .done < sizeOf (words / 16) (p .sector))
+
+-- While pending the link is below the ports and the asked slave at most 23.
+abbrev pub AskIn : ℕ → Ask → Type 0
+AskIn ports a = (a .link < ports) × (a .slave ≤ 23)
+
+-- The asked slave is in the asked set, of 24 bits, and with w words built and k slaves above it w + 5(k + 1) + 2 is at most 12,288; the
+-- request is sent on from word 1 or 2.
+pub record GatheringIn (slave : ℕ) (g : Gathering) : Type 0 where
+  pub member : g .set / 2 ^ slave % 2 ≡ 1
+  pub short : g .set < 16777216
+  pub room : g .built .words + 5 * (length (above (g .set) slave) + 1) + 2 ≤ 12288
+  pub sent : (g .from ≡ 1) ⊎ (g .from ≡ 2)
+
+abbrev pub PendingIn : ℕ → Pending → Type 0
+PendingIn ports Pending.Nothing = Unit {0}
+PendingIn ports (Pending.Slave a) = AskIn ports a
+PendingIn ports (Pending.Group a g) = AskIn ports a × GatheringIn (a .slave) g
+
+-- Kind CDP 1 or CDDC 2, 1 to 4 ports, sub-detector up to 7, a flash of either size, mode 0 to 3, masks of 24 bits, and what is erasing
+-- and what is pending as above.
+pub record IsState (n : Node) : Type 0 where
+  pub kind : (n .given .kind ≡ 1) ⊎ (n .given .kind ≡ 2)
+  pub ports : (1 ≤ n .given .ports) × (n .given .ports ≤ 4)
+  pub subdetector : n .given .subdetector ≤ 7
+  pub size : FlashSize (n .given .«flash_words»)
+  pub mode : n .mode ≤ 3
+  pub masks : (i : ℕ) → getD (n .masks) i 0 < 16777216
+  pub erasing : ErasingIn (n .given .«flash_words») (n .erasing)
+  pub pending : PendingIn (n .given .ports) (n .pending)
+
+-- 6 and 7: a request is pending; a slave is now being asked.
+abbrev pub IsPending : Pending → Type 0
+IsPending Pending.Nothing = ⊥
+IsPending (Pending.Slave a) = Unit {0}
+IsPending (Pending.Group a g) = Unit {0}
+
+abbrev pub IsAsked : Pending → ℕ → Type 0
+IsAsked Pending.Nothing slave = ⊥
+IsAsked (Pending.Slave a) slave = a .slave ≡ slave
+IsAsked (Pending.Group a g) slave = a .slave ≡ slave
+
+-- The rows that more than one call has: 1, 2 and 5.
+abbrev pub flashCause : Node → List ℕ → Cause
+flashCause n flash = cause 1 ((FlashSize (length flash) → ⊥) ⊎ (length flash ≡ n .given .«flash_words» → ⊥))
+
+abbrev pub replyCause : List ℕ → Cause
+replyCause reply = cause 2 (length reply < 12288)
+
+abbrev pub stateCause : Node → Cause
+stateCause n = cause 5 (IsState n → ⊥)
+
+-- The table, each row where the call has that input.
+abbrev pub startCauses : ℕ → ℕ → ℕ → List ℕ → List Cause
+startCauses kind ports subdetector flash =
+    cause 1 (FlashSize (length flash) → ⊥)
+    ∷ cause 4 ((((1 ≤ ports) × (ports ≤ 4) → ⊥) ⊎ ((kind ≡ 1) ⊎ (kind ≡ 2) → ⊥)) ⊎ (7 < subdetector))
+    ∷ []
+
+abbrev pub requestCauses : Node → ℕ → List ℕ → Lent → List Cause
+requestCauses n link packet l =
+    flashCause n (l .flash)
+    ∷ replyCause (l .reply)
+    ∷ cause 3 (((32768 < length (l .memories .pm)) ⊎ (32768 < length (l .memories .dm))) ⊎ (4096 < length (l .memories .io)))
+    ∷ cause 4 (link < n .given .ports → ⊥)
+    ∷ stateCause n
+    ∷ cause 6 (IsPending (n .pending) × (1 ≤ length packet))
+    ∷ []
+
+abbrev pub replyCauses : Node → ℕ → List ℕ → List Cause
+replyCauses n slave reply = replyCause reply ∷ cause 4 (23 < slave) ∷ stateCause n ∷ cause 7 (IsAsked (n .pending) slave → ⊥) ∷ []
+
+abbrev pub pollCauses : Node → List ℕ → List Cause
+pollCauses n reply = replyCause reply ∷ stateCause n ∷ cause 7 (IsPending (n .pending) → ⊥) ∷ []
+
+abbrev pub eraseCauses : Node → List ℕ → List Cause
+eraseCauses n flash = flashCause n flash ∷ stateCause n ∷ []
+
+-- A call answers the number of the first cause that holds.
+abbrev pub Exactly : List Cause → Answer → Type 0
+Exactly causes a = (i : ℕ) → (numberOf a ≡ i) ↔ FirstOf causes i
+
+-- Refused, it hands back the state, and leaves all that it was lent, as they were.
+abbrev pub Unchanged : Outcome → Node → Lent → Type 0
+Unchanged o n l = isRefused (o .turn .answer) ≡ true → (o .turn .node ≡ n) × (o .after ≡ l)
+
+pub record RefusedExactly (M : Machine) : Type 0 where
+  -- a refused start hands back all zeros
+  pub start : (kind ports subdetector program version tests clock : ℕ) (flash : List ℕ)
+      → let t : Turn = M .start kind ports subdetector program version tests clock flash in
+      Exactly (startCauses kind ports subdetector flash) (t .answer) × (isRefused (t .answer) ≡ true → t .node ≡ nobody)
+  pub request : (n : Node) (clock link bc : ℕ) (errors : Bool) (packet : List ℕ) (l : Lent)
+      → let o : Outcome = M .request n clock link bc errors packet l in
+      Exactly (requestCauses n link packet l) (o .turn .answer) × Unchanged o n l
+  pub reply : (n : Node) (clock slave bc : ℕ) (errors : Bool) (status address : ℕ) (words reply : List ℕ)
+      → let o : Outcome = M .reply n clock slave bc errors status address words reply in
+      Exactly (replyCauses n slave reply) (o .turn .answer) × Unchanged o n (lentReply reply)
+  pub poll : (n : Node) (clock : ℕ) (reply : List ℕ)
+      → let o : Outcome = M .poll n clock reply in
+      Exactly (pollCauses n reply) (o .turn .answer) × Unchanged o n (lentReply reply)
+  pub erase : (n : Node) (budget : ℕ) (flash : List ℕ)
+      → let o : Outcome = M .erase n budget flash in
+      Exactly (eraseCauses n flash) (o .turn .answer) × Unchanged o n (lentFlash flash)
+
+-- No state reached from an accepted start is refused by 5, whatever else the call is given and lent: it is a state of a node.
+pub record NeverRefusedBy5 (M : Machine) : Type 0 where
+  pub state : (n : Node) (flash : List ℕ) → Reached M n flash → IsState n
+  pub never : (n : Node) (flash : List ℕ) → Reached M n flash → (c : Call) (other : List ℕ) → numberOf (turnOf M c n other .answer) ≡ 5 → ⊥
+
+-- All zeros are no node's state: every call that takes a state refuses them.
+abbrev pub TakesState : Call → Type 0
+TakesState (Call.Start kind ports subdetector program version tests clock) = ⊥
+TakesState (Call.Request clock link bc errors packet m reply) = Unit {0}
+TakesState (Call.Reply clock slave bc errors status address words reply) = Unit {0}
+TakesState (Call.Poll clock reply) = Unit {0}
+TakesState (Call.Erase budget) = Unit {0}
+
+abbrev pub ZerosRefused : Machine → Type 0
+ZerosRefused M = (c : Call) → TakesState c → (flash : List ℕ) → isRefused (turnOf M c nobody flash .answer) ≡ true

@@ -1,0 +1,144 @@
+-- What calls owe: the statement of every public function settles its result, for refused calls too. 01 'What calls owe'. The
+-- statements are the functions' own contracts, as a caller has them. Assumes nothing.
+use Prim.Native.Nat.{ℕ}
+use mathlib.Core.Path.{_≡_}
+use mathlib.Core.List.{List}
+use borrow.Fn.Kinds.{PK, RK, Out, Dens, resT, endedOf}
+use contract.Lifetimes.{Lfts}
+use denote.Triple.Clauses.{Lasts, atExit}
+use Rattle.base.proofs as Base
+use Rattle.fcs.proofs as Fcs
+use Rattle.image.proofs as Image
+use Rattle.flash.proofs as Flash
+use Rattle.memory.proofs as Memory
+use Rattle.group.proofs as Group
+use Rattle.node.proofs as Node
+
+-- Whatever a function is given and lent, any two results that its statement allows are the same: what it returns, in a given sense,
+-- and the last value of each thing that it is lent to change.
+abbrev pub SettlesAs : {n : ℕ} (ps : List (PK n)) (r : RK n) → ((κs : Lfts n) (x y : resT r κs .Denot) → Type 0) → Out n ps r → Type 0
+SettlesAs {n} ps r Same says =
+    (κs : Lfts n) (given : Dens κs ps) (x y : resT r κs .Denot) (v w : Lasts (endedOf n ps r) κs given)
+    → says κs given x (atExit (endedOf n ps r) κs given v) → says κs given y (atExit (endedOf n ps r) κs given w)
+    → Same κs x y × (v ≡ w)
+
+-- What it returns is equal.
+abbrev pub Settles : {n : ℕ} (ps : List (PK n)) (r : RK n) → Out n ps r → Type 0
+Settles ps r says = SettlesAs ps r (λ κs x y. x ≡ y) says
+
+-- Words and numbers.
+pub record BaseSettled : Type 0 where
+  pub wide : Settles Base.wide.Kinds.ps Base.wide.Kinds.r Base.wide.Reads.Learnt
+  pub least : Settles Base.least.Kinds.ps Base.least.Kinds.r Base.least.Reads.Learnt
+  pub copy : Settles Base.copy.Kinds.ps Base.copy.Kinds.r Base.copy.Reads.Learnt
+
+-- The check sequence.
+pub record FcsSettled : Type 0 where
+  pub fcs-from : Settles Fcs.fcs_from.Kinds.ps Fcs.fcs_from.Kinds.r Fcs.fcs_from.Reads.Learnt
+  pub fcs : Settles Fcs.fcs.Kinds.ps Fcs.fcs.Kinds.r Fcs.fcs.Reads.Learnt
+
+-- Files as words.
+pub record ImageSettled : Type 0 where
+  pub header-ok : Settles Image.header_ok.Kinds.ps Image.header_ok.Kinds.r Image.header_ok.Reads.Learnt
+  pub name-of : Settles Image.name_of.Kinds.ps Image.name_of.Kinds.r Image.name_of.Reads.Learnt
+  pub attribute-of : Settles Image.attribute_of.Kinds.ps Image.attribute_of.Kinds.r Image.attribute_of.Reads.Learnt
+  pub segments-of : Settles Image.segments_of.Kinds.ps Image.segments_of.Kinds.r Image.segments_of.Reads.Learnt
+  pub memory-of : Settles Image.memory_of.Kinds.ps Image.memory_of.Kinds.r Image.memory_of.Reads.Learnt
+  pub length-of : Settles Image.length_of.Kinds.ps Image.length_of.Kinds.r Image.length_of.Reads.Learnt
+  pub page-of : Settles Image.page_of.Kinds.ps Image.page_of.Kinds.r Image.page_of.Reads.Learnt
+  pub address-of : Settles Image.address_of.Kinds.ps Image.address_of.Kinds.r Image.address_of.Reads.Learnt
+  pub length-ok : Settles Image.length_ok.Kinds.ps Image.length_ok.Kinds.r Image.length_ok.Reads.Learnt
+  pub is-page : Settles Image.is_page.Kinds.ps Image.is_page.Kinds.r Image.is_page.Reads.Learnt
+  pub span-of : Settles Image.span_of.Kinds.ps Image.span_of.Kinds.r Image.span_of.Reads.Learnt
+  pub segment-end : Settles Image.segment_end.Kinds.ps Image.segment_end.Kinds.r Image.segment_end.Reads.Learnt
+  pub file-end : Settles Image.file_end.Kinds.ps Image.file_end.Kinds.r Image.file_end.Reads.Learnt
+  pub pm-first-of : Settles Image.pm.first_of.Kinds.ps Image.pm.first_of.Kinds.r Image.pm.first_of.Reads.Learnt
+  pub pm-second-of : Settles Image.pm.second_of.Kinds.ps Image.pm.second_of.Kinds.r Image.pm.second_of.Reads.Learnt
+  pub pm-third-of : Settles Image.pm.third_of.Kinds.ps Image.pm.third_of.Kinds.r Image.pm.third_of.Reads.Learnt
+  pub pm-high-of : Settles Image.pm.high_of.Kinds.ps Image.pm.high_of.Kinds.r Image.pm.high_of.Reads.Learnt
+  pub pm-low-of : Settles Image.pm.low_of.Kinds.ps Image.pm.low_of.Kinds.r Image.pm.low_of.Reads.Learnt
+  pub pm-pack : Settles Image.pm.pack.Kinds.ps Image.pm.pack.Kinds.r Image.pm.pack.Reads.Learnt
+  pub pm-unpack : Settles Image.pm.unpack.Kinds.ps Image.pm.unpack.Kinds.r Image.pm.unpack.Reads.Learnt
+
+-- The flash.
+pub record FlashSettled : Type 0 where
+  pub change-store-file : Settles Flash.change.store_file.Kinds.ps Flash.change.store_file.Kinds.r Flash.change.store_file.Reads.Learnt
+  pub change-setting-of : Settles Flash.change.setting_of.Kinds.ps Flash.change.setting_of.Kinds.r Flash.change.setting_of.Reads.Learnt
+  pub change-store-header : Settles Flash.change.store_header.Kinds.ps Flash.change.store_header.Kinds.r Flash.change.store_header.Reads.Learnt
+  pub change-erase-step : Settles Flash.change.erase_step.Kinds.ps Flash.change.erase_step.Kinds.r Flash.change.erase_step.Reads.Learnt
+  pub change-erasing-after : Settles Flash.change.erasing_after.Kinds.ps Flash.change.erasing_after.Kinds.r Flash.change.erasing_after.Reads.Learnt
+  pub directory-status-word : Settles Flash.directory.status_word.Kinds.ps Flash.directory.status_word.Kinds.r Flash.directory.status_word.Reads.Learnt
+  pub directory-with-entry : Settles Flash.directory.with_entry.Kinds.ps Flash.directory.with_entry.Kinds.r Flash.directory.with_entry.Reads.Learnt
+  pub directory-refresh : Settles Flash.directory.refresh.Kinds.ps Flash.directory.refresh.Kinds.r Flash.directory.refresh.Reads.Learnt
+  pub directory-scan : Settles Flash.directory.scan.Kinds.ps Flash.directory.scan.Kinds.r Flash.directory.scan.Reads.Learnt
+  pub directory-entry-is : Settles Flash.directory.entry_is.Kinds.ps Flash.directory.entry_is.Kinds.r Flash.directory.entry_is.Reads.Learnt
+  pub directory-kept-status : Settles Flash.directory.kept_status.Kinds.ps Flash.directory.kept_status.Kinds.r Flash.directory.kept_status.Reads.Learnt
+  pub finding-is-named : Settles Flash.finding.is_named.Kinds.ps Flash.finding.is_named.Kinds.r Flash.finding.is_named.Reads.Learnt
+  pub finding-search : Settles Flash.finding.search.Kinds.ps Flash.finding.search.Kinds.r Flash.finding.search.Reads.Learnt
+  pub finding-target : Settles Flash.finding.target.Kinds.ps Flash.finding.target.Kinds.r Flash.finding.target.Reads.Learnt
+  pub finding-sector-at : Settles Flash.finding.sector_at.Kinds.ps Flash.finding.sector_at.Kinds.r Flash.finding.sector_at.Reads.Learnt
+  pub finding-place : Settles Flash.finding.place.Kinds.ps Flash.finding.place.Kinds.r Flash.finding.place.Reads.Learnt
+  pub sectors-is-sector : Settles Flash.sectors.is_sector.Kinds.ps Flash.sectors.is_sector.Kinds.r Flash.sectors.is_sector.Reads.Learnt
+  pub sectors-sector-size : Settles Flash.sectors.sector_size.Kinds.ps Flash.sectors.sector_size.Kinds.r Flash.sectors.sector_size.Reads.Learnt
+  pub sectors-sector-start : Settles Flash.sectors.sector_start.Kinds.ps Flash.sectors.sector_start.Kinds.r Flash.sectors.sector_start.Reads.Learnt
+  pub sectors-sector-address : Settles Flash.sectors.sector_address.Kinds.ps Flash.sectors.sector_address.Kinds.r Flash.sectors.sector_address.Reads.Learnt
+  -- the words of the part that it hands on, though not where they stand
+  pub sectors-sector-of : SettlesAs Flash.sectors.sector_of.Kinds.ps Flash.sectors.sector_of.Kinds.r (λ κs x y. x .now ≡ y .now) Flash.sectors.sector_of.Reads.Learnt
+  pub sectors-is-empty : Settles Flash.sectors.is_empty.Kinds.ps Flash.sectors.is_empty.Kinds.r Flash.sectors.is_empty.Reads.Learnt
+  pub sectors-first-of : Settles Flash.sectors.first_of.Kinds.ps Flash.sectors.first_of.Kinds.r Flash.sectors.first_of.Reads.Learnt
+  pub sectors-status-of : Settles Flash.sectors.status_of.Kinds.ps Flash.sectors.status_of.Kinds.r Flash.sectors.status_of.Reads.Learnt
+  pub sectors-is-erasing : Settles Flash.sectors.is_erasing.Kinds.ps Flash.sectors.is_erasing.Kinds.r Flash.sectors.is_erasing.Reads.Learnt
+  pub sectors-status-in : Settles Flash.sectors.status_in.Kinds.ps Flash.sectors.status_in.Kinds.r Flash.sectors.status_in.Reads.Learnt
+
+-- The memories.
+pub record MemorySettled : Type 0 where
+  pub read-words : Settles Memory.read_words.Kinds.ps Memory.read_words.Kinds.r Memory.read_words.Reads.Learnt
+  pub can-read : Settles Memory.can_read.Kinds.ps Memory.can_read.Kinds.r Memory.can_read.Reads.Learnt
+  pub read-pm : Settles Memory.read_pm.Kinds.ps Memory.read_pm.Kinds.r Memory.read_pm.Reads.Learnt
+  pub read-dm : Settles Memory.read_dm.Kinds.ps Memory.read_dm.Kinds.r Memory.read_dm.Reads.Learnt
+  pub can-write : Settles Memory.can_write.Kinds.ps Memory.can_write.Kinds.r Memory.can_write.Reads.Learnt
+  pub write-pm : Settles Memory.write_pm.Kinds.ps Memory.write_pm.Kinds.r Memory.write_pm.Reads.Learnt
+  pub write-dm : Settles Memory.write_dm.Kinds.ps Memory.write_dm.Kinds.r Memory.write_dm.Reads.Learnt
+  pub can-perform : Settles Memory.can_perform.Kinds.ps Memory.can_perform.Kinds.r Memory.can_perform.Reads.Learnt
+  pub perform-io : Settles Memory.perform_io.Kinds.ps Memory.perform_io.Kinds.r Memory.perform_io.Reads.Learnt
+  pub can-load : Settles Memory.can_load.Kinds.ps Memory.can_load.Kinds.r Memory.can_load.Reads.Learnt
+  pub load : Settles Memory.load.Kinds.ps Memory.load.Kinds.r Memory.load.Reads.Learnt
+
+-- Groups of slaves.
+pub record GroupSettled : Type 0 where
+  pub ending-zero-reply : Settles Group.ending.zero_reply.Kinds.ps Group.ending.zero_reply.Kinds.r Group.ending.zero_reply.Reads.Learnt
+  pub ending-seal : Settles Group.ending.seal.Kinds.ps Group.ending.seal.Kinds.r Group.ending.seal.Reads.Learnt
+  pub ending-finish : Settles Group.ending.finish.Kinds.ps Group.ending.finish.Kinds.r Group.ending.finish.Reads.Learnt
+  pub ending-pass-on : Settles Group.ending.pass_on.Kinds.ps Group.ending.pass_on.Kinds.r Group.ending.pass_on.Reads.Learnt
+  pub fragment-take-answer : Settles Group.fragment.take_answer.Kinds.ps Group.fragment.take_answer.Kinds.r Group.fragment.take_answer.Reads.Learnt
+  pub judge-zero-bc : Settles Group.judge.zero_bc.Kinds.ps Group.judge.zero_bc.Kinds.r Group.judge.zero_bc.Reads.Learnt
+  pub judge-has-room : Settles Group.judge.has_room.Kinds.ps Group.judge.has_room.Kinds.r Group.judge.has_room.Reads.Learnt
+  pub judge-kind-of : Settles Group.judge.kind_of.Kinds.ps Group.judge.kind_of.Kinds.r Group.judge.kind_of.Reads.Learnt
+  pub judge-tally-number : Settles Group.judge.tally_number.Kinds.ps Group.judge.tally_number.Kinds.r Group.judge.tally_number.Reads.Learnt
+  pub slaves-is-late : Settles Group.slaves.is_late.Kinds.ps Group.slaves.is_late.Kinds.r Group.slaves.is_late.Reads.Learnt
+  pub slaves-first-slave : Settles Group.slaves.first_slave.Kinds.ps Group.slaves.first_slave.Kinds.r Group.slaves.first_slave.Reads.Learnt
+  pub slaves-next-slave : Settles Group.slaves.next_slave.Kinds.ps Group.slaves.next_slave.Kinds.r Group.slaves.next_slave.Reads.Learnt
+  pub slaves-slaves-above : Settles Group.slaves.slaves_above.Kinds.ps Group.slaves.slaves_above.Kinds.r Group.slaves.slaves_above.Reads.Learnt
+
+-- The node.
+pub record NodeSettled : Type 0 where
+  pub refusals-request-verdict : Settles Node.refusals.request_verdict.Kinds.ps Node.refusals.request_verdict.Kinds.r Node.refusals.request_verdict.Reads.Learnt
+  pub refusals-reply-verdict : Settles Node.refusals.reply_verdict.Kinds.ps Node.refusals.reply_verdict.Kinds.r Node.refusals.reply_verdict.Reads.Learnt
+  pub refusals-poll-verdict : Settles Node.refusals.poll_verdict.Kinds.ps Node.refusals.poll_verdict.Kinds.r Node.refusals.poll_verdict.Reads.Learnt
+  pub refusals-erase-verdict : Settles Node.refusals.erase_verdict.Kinds.ps Node.refusals.erase_verdict.Kinds.r Node.refusals.erase_verdict.Reads.Learnt
+  pub refusals-start-verdict : Settles Node.refusals.start_verdict.Kinds.ps Node.refusals.start_verdict.Kinds.r Node.refusals.start_verdict.Reads.Learnt
+  pub routing-route-of : Settles Node.routing.route_of.Kinds.ps Node.routing.route_of.Kinds.r Node.routing.route_of.Reads.Learnt
+  pub valid-size-ok : Settles Node.valid.size_ok.Kinds.ps Node.valid.size_ok.Kinds.r Node.valid.size_ok.Reads.Learnt
+  pub valid-kind-ok : Settles Node.valid.kind_ok.Kinds.ps Node.valid.kind_ok.Kinds.r Node.valid.kind_ok.Reads.Learnt
+  pub valid-ports-ok : Settles Node.valid.ports_ok.Kinds.ps Node.valid.ports_ok.Kinds.r Node.valid.ports_ok.Reads.Learnt
+  pub valid-state-ok : Settles Node.valid.state_ok.Kinds.ps Node.valid.state_ok.Kinds.r Node.valid.state_ok.Reads.Learnt
+
+-- All of them.
+pub record Settled : Type 0 where
+  pub base : BaseSettled
+  pub fcs : FcsSettled
+  pub image : ImageSettled
+  pub flash : FlashSettled
+  pub memory : MemorySettled
+  pub group : GroupSettled
+  pub node : NodeSettled

@@ -1,0 +1,214 @@
+-- A call that is taken hands on a state of a node: every part that refusal 5 looks at stays in its range. Assumes nothing.
+use Prim.Native.Nat.{ℕ, zero, suc, _+_, _*_, _/_, _≤_, _<_}
+use mathlib.Core.Path.{_≡_, refl, sym, ap, _∙_}
+use mathlib.Core.Bool.{Bool, true, false, _&&_, _||_}
+use mathlib.Core.List.{List, [], _∷_}
+use native.Mathlib.Omega.{arith}
+use lib.ListN.{length, getD, set}
+use lib.Dec.{ltb, leb, eqb}
+use borrow.Author.Tests.{eqb-true, leb-true, leb-false, ltb-true, le-leb, lt-ltb}
+use Rattle.base.specs.Pick.{pick}
+use Rattle.base.specs.Words.{Below}
+use Rattle.base.proofs.Pick.{pick-case, and-yes, and-left, and-right}
+use Rattle.flash.specs.Geometry.{isSector, sizeOf}
+use Rattle.flash.specs.Status.{progress}
+use Rattle.flash.specs.Change.{restOf, erasingAfter}
+use Rattle.flash.specs.declared.Erasing.{Erasing}
+use Rattle.group.specs.Kind.{answer}
+use Rattle.group.specs.Slaves.{hasSlave, slavesOf, above, nextOf}
+use Rattle.group.specs.Fragment.{Assembly, assembly, taken}
+use Rattle.group.specs.Time.{isLate}
+use Rattle.group.specs.declared.Heard.{Heard}
+use Rattle.group.specs.declared.Next.{Next}
+use Rattle.group.proofs.Sets.{up-tells, length-slaves}
+use Rattle.group.proofs.Rooms.{room-kept}
+use Rattle.group.proofs.Takes.{taken-fits}
+use Rattle.node.specs.Effect.{Effect, Lent, Change, erasingNext, Setup, modeAfter, masksAfter}
+use Rattle.node.specs.Valid.{sizeOk, givenOk, masksOk, erasingOk, askOk, gatheringOk, pendingOk, stateOk}
+use Rattle.node.specs.Route.{routeOf}
+use Rattle.node.specs.Slaves.{heard, silent, goesOn, gathers, hears, askedAt, replyEffect, pollEffect}
+use Rattle.node.specs.Calls.{routed}
+use Rattle.node.specs.declared.Ask.{Ask}
+use Rattle.node.specs.declared.Gathering.{Gathering}
+use Rattle.node.specs.declared.Node.{Node}
+use Rattle.node.specs.declared.Pending.{Pending}
+use Rattle.node.proofs.Routes.{Named, route-case}
+use Rattle.node.proofs.Why.{Why, Sets}
+use Rattle.node.proofs.Directories.{some-words}
+
+-- two tests that hold
+pub and-both : {t u : Bool} → t ≡ true → u ≡ true → (t && u) ≡ true
+and-both p q = sym (and-yes p (sym q))
+
+-- what refusal 5 looks at, part by part
+pub record Ranges (n : Node) : Type 0 where
+  pub given : givenOk (n .given) ≡ true
+  pub mode : leb (n .mode) 3 ≡ true
+  pub masks : masksOk (n .masks) ≡ true
+  pub erasing : erasingOk (n .given .«flash_words») (n .erasing) ≡ true
+  pub pending : pendingOk (n .given .ports) (n .pending) ≡ true
+
+pub ranges-tell : (n : Node) → stateOk n ≡ true → Ranges n
+unfolding stateOk
+ranges-tell n h =
+    let a = givenOk (n .given) in
+    let b = leb (n .mode) 3 in
+    let c = masksOk (n .masks) in
+    let d = erasingOk (n .given .«flash_words») (n .erasing) in
+    let e = pendingOk (n .given .ports) (n .pending) in
+    let abcd = and-left (a && b && c && d) e h in
+    let abc = and-left (a && b && c) d abcd in
+    let ab = and-left (a && b) c abc in
+    record { given = and-left a b ab; mode = and-right a b ab; masks = and-right (a && b) c abc; erasing = and-right (a && b && c) d abcd; pending = and-right (a && b && c && d) e h }
+
+pub ranges-told : (n : Node) → Ranges n → stateOk n ≡ true
+unfolding stateOk
+ranges-told n r = and-both (and-both (and-both (and-both (r .given) (r .mode)) (r .masks)) (r .erasing)) (r .pending)
+
+-- a flash of either size has words for every sector
+pub size-some : (words : ℕ) → sizeOk words ≡ true → 0 < words / 16
+size-some words h = by (eqb words 32768) refl h
+  where
+    by : (t : Bool) → eqb words 32768 ≡ t → (t || eqb words 262144) ≡ true → 0 < words / 16
+    by true p q = omega (arith, eqb-true words 32768 p)
+    by false p q = omega (arith, eqb-true words 262144 q)
+
+-- the erasure
+module _ (words : ℕ) where
+  pub step-erasing : (e : Erasing) (budget : ℕ) → erasingOk words e ≡ true → erasingOk words (erasingAfter (words / 16) e budget) ≡ true
+  unfolding erasingAfter
+  step-erasing Erasing.Nothing budget h = refl
+  step-erasing (Erasing.Sector p) budget h = by (leb (restOf (words / 16) p) budget) refl
+    where
+      by : (t : Bool) → leb (restOf (words / 16) p) budget ≡ t → erasingOk words (pick t Erasing.Nothing (Erasing.Sector (progress (p .sector) (p .done + budget)))) ≡ true
+      by true q = refl
+      by false q =
+          let l = leb-false (restOf (words / 16) p) budget q in
+          and-both (and-left (isSector (p .sector)) _ h) (lt-ltb (p .done + budget) (sizeOf (words / 16) (p .sector)) (omega arith))
+
+  pub why-erasing : (c : Change) (n : Node) (flash packet : List ℕ) → 0 < words / 16 → Why c n flash packet → erasingOk words (n .erasing) ≡ true → erasingOk words (erasingNext c (n .erasing) (words / 16)) ≡ true
+  why-erasing Change.Kept n flash packet u w h = h
+  why-erasing (Change.Wrote s file) n flash packet u w h = h
+  why-erasing (Change.Headed s end header) n flash packet u w h = h
+  why-erasing (Change.Begun s) n flash packet u w h =
+      and-both (w .sector) (lt-ltb 0 (sizeOf (words / 16) s) (some-words (words / 16) s u (w .sector)))
+  why-erasing (Change.Blanked budget) n flash packet u w h = absurd w
+
+-- the settings
+pub mask-below : (masks : List ℕ) (i : ℕ) → masksOk masks ≡ true → getD masks i 0 < 16777216
+unfolding masksOk
+mask-below [] i h = omega arith
+mask-below (mask ∷ masks) zero h = ltb-true mask 16777216 (and-left (ltb mask 16777216) (masksOk masks) h)
+mask-below (mask ∷ masks) (suc i) h = mask-below masks i (and-right (ltb mask 16777216) (masksOk masks) h)
+
+mask-set : (masks : List ℕ) (i mask : ℕ) → mask < 16777216 → masksOk masks ≡ true → masksOk (set masks i mask) ≡ true
+unfolding masksOk
+mask-set [] i mask b h = refl
+mask-set (m ∷ masks) zero mask b h = and-both (lt-ltb mask 16777216 b) (and-right (ltb m 16777216) (masksOk masks) h)
+mask-set (m ∷ masks) (suc i) mask b h =
+    and-both (and-left (ltb m 16777216) (masksOk masks) h) (mask-set masks i mask b (and-right (ltb m 16777216) (masksOk masks) h))
+
+pub sets-mode : (u : Setup) (packet : List ℕ) (mode : ℕ) → Sets u packet → leb mode 3 ≡ true → leb (modeAfter u mode) 3 ≡ true
+sets-mode Setup.Kept packet mode w h = h
+sets-mode (Setup.Mode m) packet mode w h = le-leb m 3 (w .most)
+sets-mode (Setup.Mask i mask) packet mode w h = h
+
+pub sets-masks : (u : Setup) (packet masks : List ℕ) → Below 65536 packet → Sets u packet → masksOk masks ≡ true → masksOk (masksAfter u masks) ≡ true
+sets-masks Setup.Kept packet masks b w h = h
+sets-masks (Setup.Mode m) packet masks b w h = h
+sets-masks (Setup.Mask i mask) packet masks b w h = let l = b 2 in mask-set masks i mask (omega (arith, w .words)) h
+
+-- what is pending: of a request, the slaves that it names are of 24 bits ..
+named-below : {masks packet : List ℕ} {set from : ℕ} → masksOk masks ≡ true → Below 65536 packet → Named masks packet set from → set < 16777216
+named-below {masks} m b Named.kept = mask-below masks _ m
+named-below m b Named.sent = let l = b 1 in omega arith
+named-below m b Named.all = omega arith
+
+named-from : {masks packet : List ℕ} {set from : ℕ} → Named masks packet set from → (eqb from 1 || eqb from 2) ≡ true
+named-from Named.kept = refl
+named-from Named.sent = refl
+named-from Named.all = refl
+
+-- .. and five words for each of 24 slaves are far from the end
+next-slave : (ss : List ℕ) (s : ℕ) → nextOf ss ≡ Next.Slave s → (rest : List ℕ) × (ss ≡ s ∷ rest)
+next-slave [] s h = let z : _≡_ {A = ℕ} 0 1 = cc in absurd (omega arith)
+next-slave (t ∷ rest) s h = let z : t ≡ s = cc in (rest, ap (λ (x : ℕ). x ∷ rest) z)
+
+pub request-pending : (n : Node) (clock link bc : ℕ) (errors : Bool) (packet : List ℕ) (l : Lent) → Below 65536 packet → link < n .given .ports → masksOk (n .masks) ≡ true
+    → pendingOk (n .given .ports) (n .pending) ≡ true → pendingOk (n .given .ports) (routed (routeOf n link bc errors packet) n clock link packet l .pending) ≡ true
+request-pending n clock link bc errors packet l b k m h =
+    route-case (λ r. pendingOk (n .given .ports) (routed r n clock link packet l .pending) ≡ true) n link bc errors packet h h (λ _. refl)
+    (λ id c. h)
+    (λ s q. and-both (lt-ltb link (n .given .ports) k) (le-leb s 23 q))
+    (λ set from s named e. and-both (and-both (lt-ltb link (n .given .ports) k) (slave set s e)) (and-both (and-both (and-both (member set s e) (lt-ltb set 16777216 (named-below m b named))) (room set s e)) (named-from named)))
+  where
+    slave : (set s : ℕ) → nextOf (slavesOf set) ≡ Next.Slave s → leb s 23 ≡ true
+    slave set s e = let t = next-slave (slavesOf set) s e in le-leb s 23 (omega (arith, up-tells set 0 s (t .0) (t .1) .below))
+
+    member : (set s : ℕ) → nextOf (slavesOf set) ≡ Next.Slave s → hasSlave set s ≡ true
+    member set s e = let t = next-slave (slavesOf set) s e in up-tells set 0 s (t .0) (t .1) .member
+
+    room : (set s : ℕ) → nextOf (slavesOf set) ≡ Next.Slave s → leb (0 + 5 * (length (above set s) + 1) + 2) 12288 ≡ true
+    room set s e =
+        let t = next-slave (slavesOf set) s e in
+        let p = ap length (t .1 ∙ ap (λ (x : List ℕ). s ∷ x) (up-tells set 0 s (t .0) (t .1) .rest)) in
+        le-leb (0 + 5 * (length (above set s) + 1) + 2) 12288 (omega (arith, length-slaves set))
+
+-- of a slave's answer, what is built leaves room for the slaves yet to ask
+module _ (ports : ℕ) (n : Node) (clock : ℕ) (h : Heard) (words reply : List ℕ) (big : 12288 ≤ length reply) where
+  module _ (a : Ask) (g : Gathering) (ok : pendingOk ports (Pending.Group a g) ≡ true) where
+    abbrev yet : List ℕ
+    yet = above (g .set) (a .slave)
+
+    abbrev after : Assembly
+    after = taken (assembly reply (g .built)) (length yet) (a .slave) (answer h words)
+
+    abbrev member : Bool
+    member = hasSlave (g .set) (a .slave)
+
+    abbrev short : Bool
+    short = ltb (g .set) 16777216
+
+    abbrev room : Bool
+    room = leb (g .built .words + 5 * (length yet + 1) + 2) 12288
+
+    abbrev from : Bool
+    from = eqb (g .from) 1 || eqb (g .from) 2
+
+    gathers-pending : pendingOk ports (gathers n a g clock h words reply .pending) ≡ true
+    gathers-pending = by yet refl
+      where
+        by : (ss : List ℕ) → yet ≡ ss → pendingOk ports (goesOn n a g clock after (nextOf ss) .pending) ≡ true
+        by [] e = refl
+        by (t ∷ ss) e =
+            let asked = and-left (askOk ports a) (gatheringOk (a .slave) g) ok in
+            let all = and-right (askOk ports a) (gatheringOk (a .slave) g) ok in
+            let three = and-left (member && short && room) from all in
+            let had = leb-true (g .built .words + 5 * (length yet + 1) + 2) 12288 (and-right (member && short) room three) in
+            let next = up-tells (g .set) (a .slave + 1) t ss e in
+            let fewer = ap length (e ∙ ap (λ (x : List ℕ). t ∷ x) (next .rest)) in
+            let built = ap (λ (m : Assembly). m .built .words) (taken-fits (assembly reply (g .built)) (length yet) (a .slave) (answer h words) had big) in
+            let kept = room-kept (a .slave) (answer h words) (g .built .words) (length yet) had in
+            and-both
+            (and-both (and-left (ltb (a .link) ports) (leb (a .slave) 23) asked) (le-leb t 23 (omega (arith, next .below))))
+            (and-both
+            (and-both (and-both (next .member) (and-right member short (and-left (member && short) room three)))
+            (le-leb (after .built .words + 5 * (length (above (g .set) t) + 1) + 2) 12288 (omega (arith, built, kept, fewer))))
+            (and-right (member && short && room) from all))
+
+  hears-pending : (p : Pending) → pendingOk ports p ≡ true → pendingOk ports (hears p n clock h words reply .pending) ≡ true
+  hears-pending Pending.Nothing ok = refl
+  hears-pending (Pending.Slave a) ok = refl
+  hears-pending (Pending.Group a g) ok = gathers-pending a g ok
+
+pub reply-pending : (n : Node) (ports clock : ℕ) (errors : Bool) (status address bc : ℕ) (words reply : List ℕ) → 12288 ≤ length reply
+    → pendingOk ports (n .pending) ≡ true → pendingOk ports (replyEffect n clock errors status address bc words reply .pending) ≡ true
+unfolding replyEffect
+reply-pending n ports clock errors status address bc words reply big ok =
+    hears-pending ports n clock (heard (isLate clock (askedAt (n .pending))) errors status address bc) words reply big (n .pending) ok
+
+pub poll-pending : (n : Node) (ports clock : ℕ) (reply : List ℕ) → 12288 ≤ length reply → pendingOk ports (n .pending) ≡ true → pendingOk ports (pollEffect n clock reply .pending) ≡ true
+unfolding pollEffect
+poll-pending n ports clock reply big ok =
+    pick-case (λ (e : Effect). pendingOk ports (e .pending) ≡ true) (isLate clock (askedAt (n .pending)))
+    (λ _. hears-pending ports n clock silent [] reply big (n .pending) ok) (λ _. ok)

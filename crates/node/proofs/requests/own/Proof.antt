@@ -1,0 +1,90 @@
+-- `node::requests::own` meets its contract: by family. Assumes nothing.
+use mathlib.Core.Path.{refl, sym, ap, _∙_}
+use Rattle.base.proofs.Pick.{yes, no}
+use Rattle.node.specs.State.{node}
+use Rattle.node.specs.Effect.{Lent, lent, ownOutcome}
+use Rattle.memory.specs.Segment.{memories}
+use Rattle.node.specs.Own.{ownOf}
+use borrow.Author.Needs.{needs}
+use Rattle.node.proofs.requests.own.Statement.{statement}
+use Rattle.node.proofs.requests.own.Tie as tie
+
+on-files-requires : tie.Need-on-files-requires
+on-files-requires c κs = search needs
+
+files-requires : tie.Need-files-requires
+files-requires c κs = search needs
+
+same-length : tie.Need-same-length
+same-length c = search needs
+
+same-length-2 : tie.Need-same-length-2
+same-length-2 c = search needs
+
+same-length-3 : tie.Need-same-length-3
+same-length-3 c = search needs
+
+same-length-4 : tie.Need-same-length-4
+same-length-4 c = search needs
+
+same-length-5 : tie.Need-same-length-5
+same-length-5 c = search needs
+
+returns : tie.Need-returns
+unfolding ownOf
+returns c = let s = c .before .before .before .before .before .before .before .before .before .before .before .before .before .before .before .before .before .before .before .before .before .before .before .before .args in let l : Lent = lent (s .flash .now) (memories (s .pm .now) (s .dm .now) (s .io .now)) (s .reply .now) in c .before .before .before .before .before .before .before .before .before .before .files .ensures ∙ ap (ownOutcome (s .node) l) (yes _ (sym (c .before .before .before .before .before .before .before .before .before .before .before .before .before .before .before .before .before .on-files .ensures) ∙ c .before .before .before .before .before .before .before .before .before .before .before .before .before .before .before .before .if1 .taken) refl)
+
+on-memories-requires : tie.Need-on-memories-requires
+on-memories-requires c κs = search needs
+
+memories-requires : tie.Need-memories-requires
+memories-requires c κs = search needs
+
+same-length-6 : tie.Need-same-length-6
+same-length-6 c = search needs
+
+same-length-7 : tie.Need-same-length-7
+same-length-7 c = search needs
+
+same-length-8 : tie.Need-same-length-8
+same-length-8 c = search needs
+
+same-length-9 : tie.Need-same-length-9
+same-length-9 c = search needs
+
+returns-2 : tie.Need-returns-2
+unfolding ownOf
+returns-2 c = let s = c .before .before .before .before .before .before .before .before .before .before .before .before .before .before .before .before .before .before .before .before .before .before .before .args in let l : Lent = lent (s .flash .now) (memories (s .pm .now) (s .dm .now) (s .io .now)) (s .reply .now) in c .before .before .before .before .before .before .before .before .memories .ensures (s .flash .now) ∙ ap (ownOutcome (s .node) l) (no _ (sym (c .before .before .before .before .before .before .before .before .before .before .before .before .before .before .before .before .on-files .ensures) ∙ c .before .before .before .before .before .before .before .before .before .before .before .before .before .before .before .if1 .left) (yes _ (sym (c .before .before .before .before .before .before .before .before .before .before .before .before .before .before .on-memories .ensures) ∙ c .before .before .before .before .before .before .before .before .before .before .before .before .before .if2 .taken) refl))
+
+settings-requires : tie.Need-settings-requires
+settings-requires c κs = search needs
+
+same-length-10 : tie.Need-same-length-10
+same-length-10 c = search needs
+
+returns-3 : tie.Need-returns-3
+unfolding ownOf
+returns-3 c = let s = c .before .before .before .before .before .before .before .before .before .before .before .before .before .before .args in let l : Lent = lent (s .flash .now) (memories (s .pm .now) (s .dm .now) (s .io .now)) (s .reply .now) in c .before .before .settings .ensures (s .flash .now) (l .memories) ∙ ap (ownOutcome (s .node) l) (no _ (sym (c .before .before .before .before .before .before .before .on-files .ensures) ∙ c .before .before .before .before .before .before .if1 .left) (no _ (sym (c .before .before .before .before .before .on-memories .ensures) ∙ c .before .before .before .before .if2 .left) refl))
+
+pub own-spec : {M : Type 1} → statement M
+own-spec =
+    tie.close
+    (tie.spec
+    on-files-requires
+    files-requires
+    same-length
+    same-length-2
+    same-length-3
+    same-length-4
+    same-length-5
+    returns
+    on-memories-requires
+    memories-requires
+    same-length-6
+    same-length-7
+    same-length-8
+    same-length-9
+    returns-2
+    settings-requires
+    same-length-10
+    returns-3)
