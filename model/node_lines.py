@@ -13,9 +13,9 @@ to a call, as many as the last line 9 said. The node that a call hands back is k
     3 show clock(2) slave(2) bc receive_error rx_status rx_address RUN                                   reply
     4 show clock(2)                                                                                      poll
     5 show budget(4)                                                                                     erase progress
-    6 memory at(2) count(2) word multiplier addend      fill: `count` words from `at` on. The first is `word`; each next one is the
-                                                        one before times multiplier plus addend, modulo 65,536. A PM word takes
-                                                        two of them, the high half first.
+    6 memory at(2) count(2) word step                   fill: `count` words from `at` on. The first is `word`; where step is 0 all
+                                                        are, else each next one follows by the rule of a run. A PM word takes two
+                                                        of them, the high half first.
     7 memory at(2) RUN                                  the words of a run, from `at` on; never PM
     8 field index value(2) ..                           one field of the node, by its number below
     9 flash(2) PM(2) DM(2) IO(2) reply(2)               how many words of each memory are lent from now on
@@ -151,8 +151,9 @@ class Program:
 
     def fill(self, items):
         memory, at, count = items.number(), items.number(2), items.number(2)
-        rule = items.number(), count * (2 if memory == PROGRAM else 1), items.number(), items.number()
-        words = run_of(*rule)
+        word, step = items.number(), items.number()
+        count *= 2 if memory == PROGRAM else 1
+        words = run_of(word, count) if step else [word] * count
         if memory == PROGRAM:
             words = [high << 16 | low for high, low in zip(words[0::2], words[1::2])]
         self.change(memory, at, words)

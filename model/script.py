@@ -61,8 +61,8 @@ class Script:
         self.calls += 1
         return self.put(*words)
 
-    def fill(self, memory, count, word, multiplier=25173, addend=13849, at=0):
-        self.put(FILL, memory, *halves(at), *halves(count), word, multiplier, addend)
+    def fill(self, memory, count, word, step=1):
+        self.put(FILL, memory, 0, 0, *halves(count), word, step)
 
     def poke(self, memory, at, words):
         self.put(POKE, memory, *halves(at), *run(words).line())
@@ -140,7 +140,7 @@ class Script:
     def fresh(self, kind=CDDC, ports=4, size=BENCH, subdetector=3, tests=0, **lent):
         """A blank flash, lent memories with any words, and a start."""
         self.clock = self.pick.choice((0, 1000, 0x7FFFFFF0, 0xFFFFFFE0, self.pick.randrange(2**32)))
-        self.fill(FLASH, size, 0xFFFF, 1, 0)
+        self.fill(FLASH, size, 0xFFFF, 0)
         self.lend(flash=size, **lent)
         return self.start(kind, ports, subdetector, tests)
 

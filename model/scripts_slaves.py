@@ -130,7 +130,7 @@ def room(s):
     """Replies that just fit and that just don't, alone and with slaves yet to ask; lengths above 16 bits."""
     pick = s.pick
     s.fresh(CDDC, 4, reply=12288)
-    s.fill(BUFFER, 12304, 0x5A5A, 1, 0)
+    s.fill(BUFFER, 12304, 0x5A5A, 0)
     for length in (12285, 12286, 12287, 12288, 12289, 40000, 65535, 65536, 65540):
         for kind in ("whole", "wrong FCS", "BC 10", "BC1 clear"):
             ask(s, 1 << pick.randrange(24))
@@ -203,7 +203,7 @@ def singles(s):
     """Single slaves: what passes unchanged, and what doesn't pass."""
     pick = s.pick
     s.fresh(CDDC, 4, reply=12300)
-    s.fill(BUFFER, 12304, 0xA5A5, 1, 0)
+    s.fill(BUFFER, 12304, 0xA5A5, 0)
     for length in (0, 1, 2, 16, 17, 12287, 12288, 12289, 40000, 65536):
         for bc in (0, 1, 2, 3, 0xFFFD):
             s.request([0x0405, 0x0C2E], pick.randrange(4))

@@ -104,7 +104,7 @@ def refusals(s):
 
 def start_refusals(s):
     pick = s.pick
-    s.fill(FLASH, FULL + 16, 0xFFFF, 1, 0)
+    s.fill(FLASH, FULL + 16, 0xFFFF, 0)
     for flash in (0, 1, BENCH - 1, BENCH, BENCH + 1, 65536, FULL - 1, FULL, FULL + 1):
         s.lend(flash=flash)
         for kind in (0, 1, 2, 3):

@@ -14,12 +14,12 @@ def words_of(line):
 
 
 @lru_cache(maxsize=64)
-def run_of(word, count, multiplier=25173, addend=13849):
-    """A run that begins with a word: each next one is the one before times the multiplier plus the addend, modulo 65,536."""
+def run_of(word, count):
+    """A run that begins with a word: each next one is the one before times 25,173 plus 13,849, modulo 65,536."""
     run = []
     for _ in range(count):
         run.append(word)
-        word = (word * multiplier + addend) % 65536
+        word = (word * 25173 + 13849) % 65536
     return tuple(run)
 
 

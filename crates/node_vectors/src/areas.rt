@@ -3,15 +3,10 @@ ghost use mathlib.Core.Path.{_≡_};
 ghost use Prim.Native.Nat.{_≤_, _<_};
 ghost use lib.ListN.{length};
 use crate::reading::count;
+use crate::reading::high;
+use crate::reading::joined;
+use crate::reading::low;
 use crate::reading::put;
-use crate::reading::run_at;
-
-// The rule of a fill: its first word, and how each next one follows.
-struct Rule {
-    word: u16,
-    multiplier: u16,
-    addend: u16,
-}
 
 // A stretch of a memory.
 struct Stretch {
@@ -19,34 +14,33 @@ struct Stretch {
     end: usize,
 }
 
-// The next word, and the rule from there on.
-fn next(rule: Rule) -> Rule {
-    let product = rule.word as u32 * rule.multiplier as u32;
-    Rule {
-        word: ((product + rule.addend as u32) % 65536) as u16,
-        multiplier: rule.multiplier,
-        addend: rule.addend,
+// The word after another in a fill: the same, or by the rule of a run.
+fn next(word: u16, step: u16) -> u16 {
+    if step == 0 {
+        word
+    } else {
+        feed::next_word(word)
     }
 }
 
-fn fill_words(words: &mut [u16], first: Rule) {
-    let mut rule = first;
+fn fill_words(words: &mut [u16], first: u16, step: u16) {
+    let mut word = first;
     let mut i = 0;
     while i < words.len() {
-        words[i] = rule.word;
-        rule = next(rule);
+        words[i] = word;
+        word = next(word, step);
         i += 1;
     }
 }
 
-// A PM word takes two words of the rule, the high half first.
-fn fill_pm(words: &mut [u32], first: Rule) {
-    let mut rule = first;
+// A PM word takes two words, the high half first.
+fn fill_pm(words: &mut [u32], word: u16, step: u16) {
+    let mut first = word;
     let mut i = 0;
     while i < words.len() {
-        let low = next(rule);
-        words[i] = rule.word as u32 * 65536 + low.word as u32;
-        rule = next(low);
+        let second = next(first, step);
+        words[i] = joined(first, second);
+        first = next(second, step);
         i += 1;
     }
 }
@@ -57,15 +51,14 @@ fn digest_pm(words: &[u32]) -> u16 {
     let mut i = 0;
     while i < words.len() {
         let word = words[i];
-        d = feed::mixed(d, (word / 65536) as u16);
-        d = feed::mixed(d, (word % 65536) as u16);
+        d = feed::mixed(feed::mixed(d, high(word)), low(word));
         i += 1;
     }
     d
 }
 
 // The stretch that a line names, as far as a memory of so many words has it.
-fn stretch(line: &[u16], room: usize) -> Stretch
+fn stretch_of(line: &[u16], room: usize) -> Stretch
     ensures { λ r. ⌜ (r .start ≤ r .end) × (r .end ≤ room) ⌝ }
 {
     let start = base::least(count(line, 2), room);
@@ -73,22 +66,26 @@ fn stretch(line: &[u16], room: usize) -> Stretch
     Stretch { start, end }
 }
 
-fn rule_of(line: &[u16]) -> Rule {
-    Rule {
-        word: feed::item(line, 6),
-        multiplier: feed::item(line, 7),
-        addend: feed::item(line, 8),
-    }
-}
-
 fn fill_area(line: &[u16], area: &mut [u16]) {
-    let part = stretch(line, area.len());
-    fill_words(&mut area[part.start..part.end], rule_of(line));
+    let part = stretch_of(line, area.len());
+    let start = part.start;
+    let end = part.end;
+    fill_words(
+        &mut area[start..end],
+        feed::item(line, 6),
+        feed::item(line, 7),
+    );
 }
 
 fn fill_program(line: &[u16], pm: &mut [u32]) {
-    let part = stretch(line, pm.len());
-    fill_pm(&mut pm[part.start..part.end], rule_of(line));
+    let part = stretch_of(line, pm.len());
+    let start = part.start;
+    let end = part.end;
+    fill_pm(
+        &mut pm[start..end],
+        feed::item(line, 6),
+        feed::item(line, 7),
+    );
 }
 
 // Fills a stretch of a memory.
@@ -109,36 +106,39 @@ pub fn fill(
     }
 }
 
-fn poke_area(line: &[u16], area: &mut [u16], run: &mut [u16]) {
-    let n = run_at(line, 4, run);
-    put(area, count(line, 2), &run[0..n]);
+fn poke_area(line: &[u16], run: &[u16], area: &mut [u16]) {
+    put(area, count(line, 2), run);
 }
 
-// Puts a run into a memory, which is never PM.
+// Puts the line's run into a memory, which is never PM.
 pub fn poke(
     line: &[u16],
+    run: &[u16],
     flash: &mut [u16],
     dm: &mut [u16],
     io: &mut [u16],
     reply: &mut [u16],
-    run: &mut [u16],
 ) {
     match feed::item(line, 1) {
-        0 => poke_area(line, flash, run),
-        2 => poke_area(line, dm, run),
-        3 => poke_area(line, io, run),
-        _ => poke_area(line, reply, run),
+        0 => poke_area(line, run, flash),
+        2 => poke_area(line, run, dm),
+        3 => poke_area(line, run, io),
+        _ => poke_area(line, run, reply),
     }
 }
 
 fn digest_area(line: &[u16], area: &[u16]) -> u16 {
-    let part = stretch(line, area.len());
-    feed::digest(&area[part.start..part.end])
+    let part = stretch_of(line, area.len());
+    let start = part.start;
+    let end = part.end;
+    feed::digest(&area[start..end])
 }
 
 fn digest_program(line: &[u16], pm: &[u32]) -> u16 {
-    let part = stretch(line, pm.len());
-    digest_pm(&pm[part.start..part.end])
+    let part = stretch_of(line, pm.len());
+    let start = part.start;
+    let end = part.end;
+    digest_pm(&pm[start..end])
 }
 
 // The digest of a stretch of a memory.

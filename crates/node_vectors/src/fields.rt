@@ -4,6 +4,8 @@ ghost use Prim.Native.Nat.{_≤_, _<_};
 ghost use lib.ListN.{length};
 use crate::reading::count;
 use crate::reading::double;
+use crate::reading::high;
+use crate::reading::low;
 use flash::Erasing;
 use flash::Progress;
 use group::Built;
@@ -33,12 +35,8 @@ fn put_word(words: &mut [u16], at: usize, word: u16) {
 fn put_number(words: &mut [u16], at: usize, number: u32)
     requires { ⌜ at < 1000 ⌝ }
 {
-    put_word(words, at, (number / 65536) as u16);
+    put_word(words, at, high(number));
     put_word(words, at + 1, low(number));
-}
-
-fn low(number: u32) -> u16 {
-    (number % 65536) as u16
 }
 
 // A count that the line format has in two words.
@@ -92,10 +90,11 @@ fn put_ask(words: &mut [u16], ask: Ask) {
 
 fn put_gathering(words: &mut [u16], gathering: Gathering) {
     let built = gathering.built;
+    let tally = built.tally;
     put_number(words, 86, gathering.set);
     put_word(words, 88, low(gathering.from));
     put_number(words, 89, small(built.words));
-    put_word(words, 91, tally_number(built.tally));
+    put_word(words, 91, tally_number(tally));
 }
 
 fn put_pending(words: &mut [u16], pending: Pending) {
@@ -117,15 +116,20 @@ fn put_pending(words: &mut [u16], pending: Pending) {
 pub fn words_of(node: Node) -> [u16; 92]
     ensures { λ r. ⌜ length r ≡ 92 ⌝ }
 {
+    let masks = node.masks;
+    let directory = node.directory;
+    let given = node.given;
+    let erasing = node.erasing;
+    let pending = node.pending;
     let mut words = room();
-    put_given(&mut words, node.given);
+    put_given(&mut words, given);
     put_word(&mut words, 3, node.mode);
     put_word(&mut words, 11, node.counts.amswire);
     put_word(&mut words, 12, node.counts.flash);
-    put_masks(&mut words, node.masks);
-    put_directory(&mut words, node.directory);
-    put_erasing(&mut words, node.erasing);
-    put_pending(&mut words, node.pending);
+    put_masks(&mut words, masks);
+    put_directory(&mut words, directory);
+    put_erasing(&mut words, erasing);
+    put_pending(&mut words, pending);
     words
 }
 
@@ -208,9 +212,10 @@ fn ask_of(line: &[u16]) -> Ask {
 }
 
 fn gathering_of(line: &[u16]) -> Gathering {
+    let tally = tally_of(feed::item(line, 11));
     let built = Built {
         words: count(line, 9),
-        tally: tally_of(feed::item(line, 11)),
+        tally,
     };
     Gathering {
         set: double(line, 6),
@@ -233,20 +238,25 @@ pub fn with_field(node: Node, line: &[u16]) -> Node {
     let field = feed::item(line, 1);
     let index = feed::item(line, 2);
     let value = double(line, 3);
-    let masks = masks_with(node.masks, place(field == 11, index), value);
-    let directory = directory_with(node.directory, place(field == 12, index), low(value));
-    let erasing = erasing_with(node.erasing, field, index, value);
-    let pending = pending_with(node.pending, line);
+    let masks = node.masks;
+    let directory = node.directory;
+    let given = node.given;
+    let erasing = node.erasing;
+    let pending = node.pending;
+    let masks_after = masks_with(masks, place(field == 11, index), value);
+    let directory_after = directory_with(directory, place(field == 12, index), low(value));
+    let erasing_after = erasing_with(erasing, field, index, value);
+    let pending_after = pending_with(pending, line);
     Node {
-        masks,
-        directory,
-        given: given_with(node.given, field, value),
+        masks: masks_after,
+        directory: directory_after,
+        given: given_with(given, field, value),
         mode: chosen(field == 3, low(value), node.mode),
         counts: Counts {
             amswire: chosen(field == 9, low(value), node.counts.amswire),
             flash: chosen(field == 10, low(value), node.counts.flash),
         },
-        erasing,
-        pending,
+        erasing: erasing_after,
+        pending: pending_after,
     }
 }

@@ -14,7 +14,7 @@ use crate::reading::budget;
 use crate::reading::count;
 use crate::reading::double;
 use crate::reading::narrow;
-use crate::reading::run_at;
+use crate::reading::run_of;
 use crate::saying::say_answer;
 use crate::saying::say_run;
 use crate::saying::say_word;
@@ -79,12 +79,6 @@ struct Lent {
     reply: usize,
 }
 
-// What is kept from line to line besides the memories.
-struct Kept {
-    node: Node,
-    lent: Lent,
-}
-
 fn start(line: &[u16], flash: &[u16]) -> Turn {
     Node::start(
         narrow(line, 2),
@@ -100,59 +94,46 @@ fn start(line: &[u16], flash: &[u16]) -> Turn {
 
 fn request(
     line: &[u16],
+    run: &[u16],
     node: Node,
     flash: &mut [u16],
     pm: &mut [u32],
     dm: &mut [u16],
     io: &mut [u16],
     reply: &mut [u16],
-    run: &mut [u16],
 ) -> Turn {
-    let n = run_at(line, 8, run);
     let clock = double(line, 2);
     let link = double(line, 4);
     let bc = feed::item(line, 6) as u32;
     let errors = feed::item(line, 7) != 0;
-    node.request(
-        clock,
-        link,
-        bc,
-        errors,
-        &run[0..n],
-        flash,
-        pm,
-        dm,
-        io,
-        reply,
-    )
+    node.request(clock, link, bc, errors, run, flash, pm, dm, io, reply)
 }
 
-fn hear(line: &[u16], node: Node, reply: &mut [u16], run: &mut [u16]) -> Turn {
-    let n = run_at(line, 10, run);
+fn hear(line: &[u16], run: &[u16], node: Node, reply: &mut [u16]) -> Turn {
     let clock = double(line, 2);
     let slave = double(line, 4);
     let bc = feed::item(line, 6) as u32;
     let errors = feed::item(line, 7) != 0;
     let status = feed::item(line, 8);
     let address = feed::item(line, 9);
-    node.reply(clock, slave, bc, errors, status, address, &run[0..n], reply)
+    node.reply(clock, slave, bc, errors, status, address, run, reply)
 }
 
-// A call, on the words that are lent.
+// A call, on the words that are lent. The run is the packet of a request, or the words of a reply.
 fn call(
     line: &[u16],
+    run: &[u16],
     node: Node,
     flash: &mut [u16],
     pm: &mut [u32],
     dm: &mut [u16],
     io: &mut [u16],
     reply: &mut [u16],
-    run: &mut [u16],
 ) -> Turn {
     match feed::item(line, 0) {
         1 => start(line, flash),
-        2 => request(line, node, flash, pm, dm, io, reply, run),
-        3 => hear(line, node, reply, run),
+        2 => request(line, run, node, flash, pm, dm, io, reply),
+        3 => hear(line, run, node, reply),
         4 => node.poll(double(line, 2), reply),
         _ => node.erase(budget(line, 2), flash),
     }
@@ -161,58 +142,51 @@ fn call(
 // A call, and what it prints.
 fn answer(
     line: &[u16],
+    run: &[u16],
     node: Node,
     flash: &mut [u16],
     pm: &mut [u32],
     dm: &mut [u16],
     io: &mut [u16],
     reply: &mut [u16],
-    run: &mut [u16],
 ) -> Node {
-    let turn = call(line, node, flash, pm, dm, io, reply, run);
-    let words = words_of(turn.node);
+    let turn = call(line, run, node, flash, pm, dm, io, reply);
+    let next = turn.node;
+    let answer = turn.answer;
+    let words = words_of(next);
     say_word(feed::digest(&words));
-    say_answer(turn.answer, reply);
+    say_answer(answer, reply);
     show(feed::item(line, 1), flash, pm, dm, io, reply);
-    turn.node
+    next
 }
 
 // A call on the first words of each memory, as many as are lent.
 fn lend(
     line: &[u16],
-    kept: Kept,
+    run: &[u16],
+    node: Node,
+    lent: Lent,
     flash: &mut [u16],
     pm: &mut [u32],
     dm: &mut [u16],
     io: &mut [u16],
     reply: &mut [u16],
-    run: &mut [u16],
 ) -> Node {
-    let f = base::least(kept.lent.flash, flash.len());
-    let p = base::least(kept.lent.pm, pm.len());
-    let d = base::least(kept.lent.dm, dm.len());
-    let i = base::least(kept.lent.io, io.len());
-    let r = base::least(kept.lent.reply, reply.len());
+    let f = base::least(lent.flash, flash.len());
+    let p = base::least(lent.pm, pm.len());
+    let d = base::least(lent.dm, dm.len());
+    let i = base::least(lent.io, io.len());
+    let r = base::least(lent.reply, reply.len());
     answer(
         line,
-        kept.node,
+        run,
+        node,
         &mut flash[0..f],
         &mut pm[0..p],
         &mut dm[0..d],
         &mut io[0..i],
         &mut reply[0..r],
-        run,
     )
-}
-
-fn lent_of(line: &[u16]) -> Lent {
-    Lent {
-        flash: count(line, 1),
-        pm: count(line, 3),
-        dm: count(line, 5),
-        io: count(line, 7),
-        reply: count(line, 9),
-    }
 }
 
 fn say_node(node: Node) {
@@ -220,56 +194,77 @@ fn say_node(node: Node) {
     say_run(&words);
 }
 
-// Does what a line says, and what is then kept.
-fn turn(
+// What a line does, and the node as it then is.
+fn act(
     line: &[u16],
-    kept: Kept,
+    run: &[u16],
+    node: Node,
+    lent: Lent,
     flash: &mut [u16],
     pm: &mut [u32],
     dm: &mut [u16],
     io: &mut [u16],
     reply: &mut [u16],
-    run: &mut [u16],
-) -> Kept {
+) -> Node {
     match feed::item(line, 0) {
         6 => {
             fill(line, flash, pm, dm, io, reply);
-            kept
+            node
         }
         7 => {
-            poke(line, flash, dm, io, reply, run);
-            kept
+            poke(line, run, flash, dm, io, reply);
+            node
         }
-        8 => Kept {
-            node: with_field(kept.node, line),
-            lent: kept.lent,
-        },
-        9 => Kept {
-            node: kept.node,
-            lent: lent_of(line),
-        },
+        8 => with_field(node, line),
+        9 => node,
         10 => {
             say_word(digest(line, flash, pm, dm, io, reply));
-            kept
+            node
         }
         11 => {
-            say_node(kept.node);
-            kept
+            say_node(node);
+            node
         }
-        _ => Kept {
-            node: lend(line, kept, flash, pm, dm, io, reply, run),
-            lent: kept.lent,
-        },
+        _ => lend(line, run, node, lent, flash, pm, dm, io, reply),
     }
 }
 
-// Before the first line: a refused start hands back all zeros.
-fn before() -> Kept {
-    let turn = Node::start(0, 0, 0, 0, 0, 0, 0, &[]);
-    Kept {
-        node: turn.node,
-        lent: lent_of(&[]),
+// Does what a line says, and ends what it prints.
+fn turn(
+    line: &[u16],
+    run: &mut [u16],
+    node: Node,
+    lent: Lent,
+    flash: &mut [u16],
+    pm: &mut [u32],
+    dm: &mut [u16],
+    io: &mut [u16],
+    reply: &mut [u16],
+) -> Node {
+    let n = run_of(line, run);
+    let next = act(line, &run[0..n], node, lent, flash, pm, dm, io, reply);
+    io::write_all(1, b"\n");
+    next
+}
+
+// How many words are lent from a line on.
+fn lent_after(lent: Lent, line: &[u16]) -> Lent {
+    if feed::item(line, 0) == 9 {
+        return Lent {
+            flash: count(line, 1),
+            pm: count(line, 3),
+            dm: count(line, 5),
+            io: count(line, 7),
+            reply: count(line, 9),
+        };
     }
+    lent
+}
+
+// The node before the first line: a refused start hands back all zeros.
+fn zeros() -> Node {
+    let refused = Node::start(0, 0, 0, 0, 0, 0, 0, &[]);
+    refused.node
 }
 
 fn main() {
@@ -281,7 +276,14 @@ fn main() {
     let mut io = io_room();
     let mut reply = reply_room();
     let mut run = run_room();
-    let mut kept = before();
+    let mut node = zeros();
+    let mut lent = Lent {
+        flash: 0,
+        pm: 0,
+        dm: 0,
+        io: 0,
+        reply: 0,
+    };
     let mut line = feed::before();
     let mut turns = u64::MAX;
     while 0 < turns {
@@ -293,16 +295,17 @@ fn main() {
         let start = line.start;
         let end = line.end;
         let n = feed::words_of(&bytes[start..end], &mut words);
-        kept = turn(
+        lent = lent_after(lent, &words[0..n]);
+        node = turn(
             &words[0..n],
-            kept,
+            &mut run,
+            node,
+            lent,
             &mut flash,
             &mut pm,
             &mut dm,
             &mut io,
             &mut reply,
-            &mut run,
         );
-        io::write_all(1, b"\n");
     }
 }

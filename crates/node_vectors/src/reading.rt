@@ -3,11 +3,24 @@ ghost use mathlib.Core.Path.{_≡_};
 ghost use Prim.Native.Nat.{_+_, _≤_, _<_};
 ghost use lib.ListN.{length};
 
-// The number that two words are, the high one first.
+// The number that two words are, and its words.
+pub fn joined(high: u16, low: u16) -> u32 {
+    high as u32 * 65536 + low as u32
+}
+
+pub fn high(number: u32) -> u16 {
+    (number / 65536) as u16
+}
+
+pub fn low(number: u32) -> u16 {
+    (number % 65536) as u16
+}
+
+// The number that two words of a line are, the high one first.
 pub fn double(line: &[u16], at: usize) -> u32
     requires { ⌜ at < 1000 ⌝ }
 {
-    feed::item(line, at) as u32 * 65536 + feed::item(line, at + 1) as u32
+    joined(feed::item(line, at), feed::item(line, at + 1))
 }
 
 // The same as a count or a place.
@@ -17,11 +30,11 @@ pub fn count(line: &[u16], at: usize) -> usize
     double(line, at) as usize
 }
 
-// The number that four words are.
+// The number that four words of a line are.
 pub fn budget(line: &[u16], at: usize) -> usize
-    requires { ⌜ at < 1000 ⌝ }
+    requires { ⌜ at < 100 ⌝ }
 {
-    count(line, at) * 4294967296 + count(line, at + 2)
+    double(line, at) as usize * 4294967296 + double(line, at + 2) as usize
 }
 
 // Two words that stand where the node takes one: a number that no word holds is FFFF, which is out of range all the same.
@@ -56,8 +69,8 @@ fn lay_run(words: &[u16], front: usize, many: usize, seed: u16, run: &mut [u16])
 }
 
 // The run that stands at a place of the line, put at the front of `run`; how many words it has.
-pub fn run_at(line: &[u16], at: usize, run: &mut [u16]) -> usize
-    requires { ⌜ at < 1000 ⌝ }
+fn run_at(line: &[u16], at: usize, run: &mut [u16]) -> usize
+    requires { ⌜ at < 100 ⌝ }
     ensures { λ r. ⌜ r ≤ length (now (run .exit)) ⌝ }
 {
     let front = base::wide(feed::item(line, at));
@@ -65,4 +78,16 @@ pub fn run_at(line: &[u16], at: usize, run: &mut [u16]) -> usize
     let seed = feed::item(line, at + 3);
     let from = base::least(at + 4, line.len());
     lay_run(&line[from..], front, many, seed, run)
+}
+
+// The run of a line: the packet of a request, the words of a slave's reply, or what is put into a memory. Other lines have none.
+pub fn run_of(line: &[u16], run: &mut [u16]) -> usize
+    ensures { λ r. ⌜ r ≤ length (now (run .exit)) ⌝ }
+{
+    match feed::item(line, 0) {
+        2 => run_at(line, 8, run),
+        3 => run_at(line, 10, run),
+        7 => run_at(line, 4, run),
+        _ => 0,
+    }
 }
