@@ -1,6 +1,7 @@
 // Commands on the node itself: Status, Ping, Mode and Slave Mask.
 ghost use mathlib.Core.Path.{_≡_};
 ghost use Prim.Native.Nat.{_+_, _*_, _%_, _≤_, _<_};
+ghost use lib.Dec.{eqb};
 ghost use lib.ListN.{length};
 ghost use Rattle.base.specs.Words.{laid};
 ghost use Rattle.node.specs.State.{withSettings};
@@ -113,6 +114,13 @@ fn mode_write(node: Node, packet: &[u16]) -> Turn
     says(with_settings(node, masks, mode), ZeroLength::End)
 }
 
+// Whether a node of this kind has masks: a CDP has none.
+fn has_masks(kind: u16) -> bool
+    ensures { λ r. ⌜ r ≡ eqb kind 2 ⌝ }
+{
+    kind == 2
+}
+
 // A slave's word of Mask Read: bit i is the slave's in mask i.
 fn mask_word(masks: &[u32], slave: u32) -> u16
     requires { ⌜ length (now masks) ≤ 16 ⌝ }
@@ -147,7 +155,7 @@ fn mask_read(node: Node, packet: &[u16], reply: &mut [u16]) -> Turn
     ensures { λ r. ⌜ Replies node (maskReadOf node (now (packet .entry))) (now (reply .entry)) r (now (reply .exit)) ⌝ }
 {
     let given = node.given;
-    if given.kind != 2 {
+    if !has_masks(given.kind) {
         return says(node, ZeroLength::Abort);
     }
     if packet.len() != 1 {
@@ -170,7 +178,7 @@ fn mask_write(node: Node, packet: &[u16]) -> Turn
     ensures { λ r. ⌜ Sets node (maskWriteOf node (now (packet .entry))) r ⌝ }
 {
     let given = node.given;
-    if given.kind != 2 {
+    if !has_masks(given.kind) {
         return says(node, ZeroLength::Abort);
     }
     if packet.len() != 3 {
