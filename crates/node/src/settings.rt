@@ -179,23 +179,13 @@ pub fn settings(
     requires { ⌜ 12288 ≤ length (now reply) ⌝ }
     ensures { λ r. ⌜ Replies node (settingsOf id node clock link (now (packet .entry))) (now (reply .entry)) r (now (reply .exit)) ⌝ }
 {
-    if id == 0x0C {
-        return status(node, clock, link, packet, reply);
+    match id {
+        0x0C => status(node, clock, link, packet, reply),
+        0x0D => ping(node, packet, reply),
+        0x12 => mode_read(node, packet, reply),
+        0x52 => mode_write(node, packet),
+        0x17 => mask_read(node, packet, reply),
+        0x57 => mask_write(node, packet),
+        _ => says(node, ZeroLength::Abort),
     }
-    if id == 0x0D {
-        return ping(node, packet, reply);
-    }
-    if id == 0x12 {
-        return mode_read(node, packet, reply);
-    }
-    if id == 0x52 {
-        return mode_write(node, packet);
-    }
-    if id == 0x17 {
-        return mask_read(node, packet, reply);
-    }
-    if id == 0x57 {
-        return mask_write(node, packet);
-    }
-    says(node, ZeroLength::Abort)
 }
