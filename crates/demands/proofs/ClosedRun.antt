@@ -10,7 +10,7 @@ use Rattle.flash.specs.Status.{isEmpty, statusOf, statusIn, fourthWord}
 use Rattle.flash.specs.Directory.{entryOf, entryFor, entriesFrom, directoryOf, entered, entrySays, entryIs, keptStatus}
 use Rattle.flash.specs.Search.{firstFrom, countFrom, isNamed, searchOf, targetOf, takes, placeOf}
 use Rattle.flash.specs.Change.{stored}
-use Rattle.node.specs.Status.{ownStatus}
+use Rattle.report.specs.Status.{ownStatus}
 use Rattle.node.specs.Valid.{masksOk, stateOk}
 use Rattle.node.specs.Refusals.{startVerdict, requestVerdict}
 use Rattle.node.specs.Route.{addressed, routeOf}

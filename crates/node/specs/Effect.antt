@@ -19,7 +19,8 @@ use Rattle.group.specs.declared.Reply.{Reply}
 use Rattle.group.specs.declared.ZeroLength.{ZeroLength}
 use Rattle.memory.specs.Segment.{Memories, segmentStored}
 use Rattle.memory.specs.Load.{fileSegments, allStored}
-use Rattle.node.specs.State.{node, turn, counts, counted}
+use Rattle.report.specs.Status.{counted}
+use Rattle.node.specs.State.{node, turn, counts}
 use Rattle.node.specs.declared.Answer.{Answer}
 use Rattle.node.specs.declared.Node.{Node}
 use Rattle.node.specs.declared.Pending.{Pending}

@@ -6,7 +6,8 @@ use lib.ListN.{length, getD, drop}
 use lib.Dec.{ltb, leb, eqb}
 use Rattle.base.specs.Pick.{pick}
 use Rattle.group.specs.declared.ZeroLength.{ZeroLength}
-use Rattle.node.specs.Status.{ownStatus, statusWords, maskWords}
+use Rattle.report.specs.Status.{ownStatus, hasMasks}
+use Rattle.node.specs.Status.{statusWords, maskWords}
 use Rattle.node.specs.Effect.{Did, says, sets, answers, Setup}
 use Rattle.node.specs.declared.Node.{Node}
 
@@ -36,14 +37,14 @@ modeWriteOf packet =
 -- 17: Mask Read, not on a CDP.
 unfoldable pub maskReadOf : Node → List ℕ → Did
 maskReadOf n packet =
-    pick (eqb (n .given .kind) 2)
+    pick (hasMasks (n .given .kind))
     (pick (eqb (length packet) 1) (answers (statusIn n) (maskWords (n .masks))) (says ZeroLength.Abort))
     (says ZeroLength.Abort)
 
 -- 57: Mask Write, not on a CDP: mask ID 11-8, bits 15-12 zero, the mask's bits 23-16 in bits 7-0; its bits 15-0 in the second word.
 unfoldable pub maskWriteOf : Node → List ℕ → Did
 maskWriteOf n packet =
-    pick (eqb (n .given .kind) 2)
+    pick (hasMasks (n .given .kind))
     (pick (eqb (length packet) 3)
     (pick (ltb (getD packet 1 0) 4096)
     (sets (Setup.Mask (getD packet 1 0 / 256) (getD packet 1 0 % 256 * 65536 + getD packet 2 0)))

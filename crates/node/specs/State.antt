@@ -1,8 +1,9 @@
 -- The parts of a node's state, and states that differ in one part. 01 'State and status reply'. Assumes nothing.
-use Prim.Native.Nat.{ℕ, min, _+_}
-use mathlib.Core.Bool.{Bool, true, false}
+use Prim.Native.Nat.{ℕ}
+use mathlib.Core.Bool.{Bool}
 use mathlib.Core.List.{List}
 use Rattle.flash.specs.declared.Erasing.{Erasing}
+use Rattle.report.specs.Status.{counted}
 use Rattle.node.specs.declared.Answer.{Answer}
 use Rattle.node.specs.declared.Counts.{Counts}
 use Rattle.node.specs.declared.Given.{Given}
@@ -27,11 +28,6 @@ node masks directory given mode counts erasing pending =
 
 abbrev pub turn : Node → Answer → Turn
 turn n a = record { node = n; answer = a }
-
--- A count goes up by one where there is an error, and stops at FFFF.
-abbrev pub counted : Bool → ℕ → ℕ
-counted true count = min (count + 1) 0xFFFF
-counted false count = count
 
 abbrev pub counts : ℕ → ℕ → Counts
 counts amswire flash = record { amswire = amswire; flash = flash }

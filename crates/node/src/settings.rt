@@ -4,15 +4,12 @@ ghost use Prim.Native.Nat.{_+_, _*_, _%_, _≤_, _<_};
 ghost use lib.ListN.{length};
 ghost use Rattle.base.specs.Words.{laid};
 ghost use Rattle.node.specs.State.{withSettings};
-ghost use Rattle.node.specs.Status.{nodeStatus, attributes, maskWord, maskWords};
+ghost use Rattle.node.specs.Status.{maskWord, maskWords};
 ghost use Rattle.node.specs.Settings.{statusOf, pingOf, modeReadOf, modeWriteOf, maskReadOf, maskWriteOf};
 ghost use Rattle.node.specs.Effect.{Replies, Sets};
 ghost use Rattle.node.specs.Own.{settingsOf};
-use crate::Counts;
-use crate::Given;
 use crate::Node;
 use crate::Turn;
-use crate::answering::any;
 use crate::answering::close;
 use crate::answering::says;
 use group::ZeroLength;
@@ -25,23 +22,6 @@ fn with_settings(node: Node, masks: [u32; 16], mode: u16) -> Node
     next.masks = masks;
     next.mode = mode;
     next
-}
-
-// The node status word, for the link that asks.
-fn node_status(tests: u16, counts: Counts, link: u32) -> u16
-    ensures { λ r. ⌜ r ≡ nodeStatus tests counts link ⌝ }
-{
-    any(counts.amswire) * 8192
-        + any(counts.flash) * 4096
-        + tests / 256 % 16 * 256
-        + (link % 4) as u16
-}
-
-// The program attributes.
-fn attributes_of(given: Given) -> u16
-    ensures { λ r. ⌜ r ≡ attributes given ⌝ }
-{
-    4096 + given.kind % 16 * 256 + given.subdetector % 16 * 16 + given.ports % 16
 }
 
 // Status, 0C.
@@ -57,11 +37,11 @@ fn status(node: Node, clock: u32, link: u32, packet: &[u16], reply: &mut [u16]) 
     let time = group::slaves::ticks_since(clock, given.start_clock);
     let words = [
         given.program_version,
-        attributes_of(given),
+        report::attributes(given.kind, given.subdetector, given.ports),
         given.subdetector_version,
         (time % 65536) as u16,
         (time / 65536) as u16,
-        node_status(given.start_tests, counts, link),
+        report::node_status(given.start_tests, counts.amswire, counts.flash, link),
         0,
         0,
         counts.amswire,
@@ -147,7 +127,7 @@ fn mask_read(node: Node, packet: &[u16], reply: &mut [u16]) -> Turn
     ensures { λ r. ⌜ Replies node (maskReadOf node (now (packet .entry))) (now (reply .entry)) r (now (reply .exit)) ⌝ }
 {
     let given = node.given;
-    if given.kind != 2 {
+    if !report::has_masks(given.kind) {
         return says(node, ZeroLength::Abort);
     }
     if packet.len() != 1 {
@@ -170,7 +150,7 @@ fn mask_write(node: Node, packet: &[u16]) -> Turn
     ensures { λ r. ⌜ Sets node (maskWriteOf node (now (packet .entry))) r ⌝ }
 {
     let given = node.given;
-    if given.kind != 2 {
+    if !report::has_masks(given.kind) {
         return says(node, ZeroLength::Abort);
     }
     if packet.len() != 3 {
@@ -199,23 +179,13 @@ pub fn settings(
     requires { ⌜ 12288 ≤ length (now reply) ⌝ }
     ensures { λ r. ⌜ Replies node (settingsOf id node clock link (now (packet .entry))) (now (reply .entry)) r (now (reply .exit)) ⌝ }
 {
-    if id == 0x0C {
-        return status(node, clock, link, packet, reply);
+    match id {
+        0x0C => status(node, clock, link, packet, reply),
+        0x0D => ping(node, packet, reply),
+        0x12 => mode_read(node, packet, reply),
+        0x52 => mode_write(node, packet),
+        0x17 => mask_read(node, packet, reply),
+        0x57 => mask_write(node, packet),
+        _ => says(node, ZeroLength::Abort),
     }
-    if id == 0x0D {
-        return ping(node, packet, reply);
-    }
-    if id == 0x12 {
-        return mode_read(node, packet, reply);
-    }
-    if id == 0x52 {
-        return mode_write(node, packet);
-    }
-    if id == 0x17 {
-        return mask_read(node, packet, reply);
-    }
-    if id == 0x57 {
-        return mask_write(node, packet);
-    }
-    says(node, ZeroLength::Abort)
 }

@@ -15,7 +15,6 @@ use crate::Node;
 use crate::Pending;
 use crate::Turn;
 use crate::answering::count_error;
-use crate::answering::own_status;
 use group::Built;
 use group::Heard;
 use group::Next;
@@ -64,7 +63,7 @@ fn go_on(
     ensures { λ r. ⌜ outcome r (lentReply (now (reply .exit))) ≡ applied node (lentReply (now (reply .entry))) (goesOn node ask gathering clock (assembly (now (reply .entry)) built) next) ⌝ }
 {
     let given = node.given;
-    let status = own_status(given.start_tests, node.mode);
+    let status = report::own_status(given.start_tests, node.mode);
     match next {
         Next::Slave(slave) => {
             let asked = Ask {

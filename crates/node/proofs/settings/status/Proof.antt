@@ -10,7 +10,8 @@ use Prim.Native.Nat.{ℕ, _/_, _%_}
 use mathlib.Core.List.{List, [], _∷_}
 use mathlib.Core.Bool.{false}
 use Rattle.node.specs.Effect.{says, lent}
-use Rattle.node.specs.Status.{attributes, statusWords}
+use Rattle.report.specs.Status.{attributesOf}
+use Rattle.node.specs.Status.{statusWords}
 use Rattle.base.specs.Words.{laid}
 use Rattle.node.specs.Settings.{statusOf}
 use borrow.Author.Needs.{needs}
@@ -27,8 +28,8 @@ returns c = λ (flash : List ℕ) m. ends (c .before .before .before .before .ar
 ticks-since-requires : tie.Need-ticks-since-requires
 ticks-since-requires c κs = search needs
 
-attributes-of-requires : tie.Need-attributes-of-requires
-attributes-of-requires c κs = search needs
+attributes-requires : tie.Need-attributes-requires
+attributes-requires c κs = search needs
 
 cast-t15 : tie.Need-cast-t15
 cast-t15 c = search needs
@@ -56,7 +57,7 @@ unfolding statusOf statusWords
 returns-2 c = let n = c .before .before .before .before .before .before .before .before .before .before .before .before .before .before .before .before .before .args .node in let w = c .before .before .before .before .before .before .before .before .before .before .before .before .before .before .before .before .before .args .reply .now in
     let status-is : ℕ → ℕ → ℕ → List ℕ = λ (a t s : ℕ). n .given .«program_version» ∷ a ∷ n .given .«subdetector_version» ∷ t % 65536 ∷ t / 65536 ∷ s ∷ 0 ∷ 0 ∷ n .counts .amswire ∷ n .counts .flash ∷ [] in
     closes n false (statusWords (n .given) (n .counts) (c .before .before .before .before .before .before .before .before .before .before .before .before .before .before .before .before .before .args .clock) (c .before .before .before .before .before .before .before .before .before .before .before .before .before .before .before .before .before .args .link)) w (c .before .before .close .ensures)
-    (c .before .before .before .before .before .before .copy .ensures ∙ ap (λ (x : ℕ). laid w 0 (status-is x (c .before .before .before .before .before .before .before .before .before .before .before .ticks-since .result) (c .before .before .before .before .before .before .before .before .before .node-status .result))) (c .before .before .before .before .before .before .before .before .before .before .attributes-of .ensures) ∙ ap₂ (λ (t s : ℕ). laid w 0 (status-is (attributes (n .given)) t s)) (c .before .before .before .before .before .before .before .before .before .before .before .ticks-since .ensures) (c .before .before .before .before .before .before .before .before .before .node-status .ensures))
+    (c .before .before .before .before .before .before .copy .ensures ∙ ap (λ (x : ℕ). laid w 0 (status-is x (c .before .before .before .before .before .before .before .before .before .before .before .ticks-since .result) (c .before .before .before .before .before .before .before .before .before .node-status .result))) (c .before .before .before .before .before .before .before .before .before .before .attributes .ensures) ∙ ap₂ (λ (t s : ℕ). laid w 0 (status-is (attributesOf (n .given .kind) (n .given .subdetector) (n .given .ports)) t s)) (c .before .before .before .before .before .before .before .before .before .before .before .ticks-since .ensures) (c .before .before .before .before .before .before .before .before .before .node-status .ensures))
     refl (omega arith) (yes _ (eq-eqb _ _ (c .before .before .before .before .before .before .before .before .before .before .before .before .before .before .if1 .left)) refl)
 
 pub status-spec : {M : Type 1} → statement M
@@ -66,7 +67,7 @@ status-spec =
     says-requires
     returns
     ticks-since-requires
-    attributes-of-requires
+    attributes-requires
     cast-t15
     cast-t17
     node-status-requires

@@ -1,10 +1,10 @@
--- `node::answering::any` meets its contract: 0 or 1. Assumes nothing.
+-- `report::any` meets its contract: 0 or 1. Assumes nothing.
 use native.Mathlib.Omega.{arith}
 use mathlib.Core.Path.{refl}
 use borrow.Author.Tests.{eq-eqb, ne-eqb}
 use Rattle.base.proofs.Pick.{yes, no}
-use Rattle.node.proofs.answering.any.Statement.{statement}
-use Rattle.node.proofs.answering.any.Tie as tie
+use Rattle.report.proofs.any.Statement.{statement}
+use Rattle.report.proofs.any.Tie as tie
 
 returns : tie.Need-returns
 returns c = (yes _ (eq-eqb _ _ (c .if1 .taken)) refl, omega arith)

@@ -1,10 +1,10 @@
--- `node::answering::own_status` meets its contract: bit by bit. Assumes nothing.
+-- `report::own_status` meets its contract: bit by bit. Assumes nothing.
 use mathlib.Core.Path.{ap}
-use Rattle.node.specs.Status.{ownStatus}
+use Rattle.report.specs.Status.{ownStatus}
 use Prim.Native.Nat.{ℕ, _+_, _*_, _/_, _%_}
 use borrow.Author.Needs.{needs}
-use Rattle.node.proofs.answering.own_status.Statement.{statement}
-use Rattle.node.proofs.answering.own_status.Tie as tie
+use Rattle.report.proofs.own_status.Statement.{statement}
+use Rattle.report.proofs.own_status.Tie as tie
 
 any-requires : tie.Need-any-requires
 any-requires c κs = search needs

@@ -1,12 +1,12 @@
--- `node::answering::count` meets its contract: it stops at FFFF. Assumes nothing.
+-- `report::count` meets its contract: it stops at FFFF. Assumes nothing.
 use mathlib.Core.Path.{refl}
 use Rattle.base.proofs.Pick.{via}
-use Rattle.node.specs.State.{counted}
+use Rattle.report.specs.Status.{counted}
 use native.Mathlib.Omega.{arith}
 use mathlib.Core.Bool.{Bool}
 use borrow.Author.Needs.{needs}
-use Rattle.node.proofs.answering.count.Statement.{statement}
-use Rattle.node.proofs.answering.count.Tie as tie
+use Rattle.report.proofs.count.Statement.{statement}
+use Rattle.report.proofs.count.Tie as tie
 
 add-result : tie.Need-add-result
 add-result c = search needs

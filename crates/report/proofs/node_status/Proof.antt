@@ -1,10 +1,10 @@
--- `node::settings::node_status` meets its contract. Assumes nothing.
+-- `report::node_status` meets its contract. Assumes nothing.
 use mathlib.Core.Path.{ap₂}
 use Prim.Native.Nat.{ℕ, _+_, _*_, _/_, _%_}
-use Rattle.node.specs.Status.{nodeStatus}
+use Rattle.report.specs.Status.{nodeStatus}
 use borrow.Author.Needs.{needs}
-use Rattle.node.proofs.settings.node_status.Statement.{statement}
-use Rattle.node.proofs.settings.node_status.Tie as tie
+use Rattle.report.proofs.node_status.Statement.{statement}
+use Rattle.report.proofs.node_status.Tie as tie
 
 any-requires : tie.Need-any-requires
 any-requires c κs = search needs

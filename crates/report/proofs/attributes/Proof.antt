@@ -1,9 +1,9 @@
--- `node::settings::attributes_of` meets its contract. Assumes nothing.
+-- `report::attributes` meets its contract. Assumes nothing.
 use mathlib.Core.Path.{refl}
-use Rattle.node.specs.Status.{attributes}
+use Rattle.report.specs.Status.{attributesOf}
 use borrow.Author.Needs.{needs}
-use Rattle.node.proofs.settings.attributes_of.Statement.{statement}
-use Rattle.node.proofs.settings.attributes_of.Tie as tie
+use Rattle.report.proofs.attributes.Statement.{statement}
+use Rattle.report.proofs.attributes.Tie as tie
 
 mul-result : tie.Need-mul-result
 mul-result c = search needs
@@ -21,9 +21,9 @@ add-result-3 : tie.Need-add-result-3
 add-result-3 c = search needs
 
 returns : tie.Need-returns
-unfolding attributes
+unfolding attributesOf
 returns c = refl
 
-pub attributes-of-spec : {M : Type 1} → statement M
-attributes-of-spec =
+pub attributes-spec : {M : Type 1} → statement M
+attributes-spec =
     tie.close (tie.spec mul-result add-result mul-result-2 add-result-2 add-result-3 returns)
