@@ -11,7 +11,8 @@ use lib.Dec.{ltb, eqb}
 use borrow.Author.Tests.{eqb-true, eq-eqb, ne-eqb, le-ltb}
 use Rattle.base.specs.Pick.{pick}
 use Rattle.base.proofs.Pick.{yes, no, and-left, and-right}
-use Rattle.group.specs.Ending.{zeroReply}
+use Rattle.group.specs.Ending.{replied, zeroReply}
+use Rattle.group.specs.declared.Reply.{Reply}
 use Rattle.group.specs.declared.ZeroLength.{ZeroLength}
 use Rattle.node.specs.Effect.{Lent, Outcome, ownOutcome}
 use Rattle.node.specs.Route.{firstByte, secondByte, bcOf, drops, addressed, routeOf}
@@ -41,14 +42,21 @@ not-empty : (id : ℕ) (packet : List ℕ) → isCommand id packet ≡ true → 
 not-empty id [] c = absurd (false≢true c)
 not-empty id (w ∷ packet) c = ne-eqb (length (w ∷ packet)) 0 (omega arith)
 
--- the BC of a reply, by which END is told from ABORT and ERROR
-abbrev bcIn : Answer → ℕ
-bcIn (Answer.Refused r) = 0
-bcIn Answer.Started = 0
-bcIn (Answer.Reply r) = r .bc
-bcIn (Answer.Ask a) = 0
-bcIn Answer.Waiting = 0
-bcIn (Answer.Erased count) = 0
+-- the reply that an answer is, or else another
+abbrev pub replyIn : Answer → Reply → Reply
+replyIn (Answer.Refused x) r = r
+replyIn Answer.Started r = r
+replyIn (Answer.Reply x) r = x
+replyIn (Answer.Ask a) r = r
+replyIn Answer.Waiting r = r
+replyIn (Answer.Erased count) r = r
+
+-- its BC, by which END is told from ABORT and ERROR, and its number of words
+abbrev pub bcIn : Answer → ℕ
+bcIn a = replyIn a (replied 0 0) .bc
+
+abbrev pub wordsIn : Answer → ℕ
+wordsIn a = replyIn a (replied 0 0) .words
 
 pub not-end : {A : Type 0} (k : ℕ) → eqb k 3 ≡ false → k ≡ 3 → A
 not-end k h e = absurd (false≢true (sym h ∙ eq-eqb k 3 e))

@@ -19,3 +19,4 @@ pub mod Writes
 pub mod ReadsBack
 pub mod NeverCorrupted
 pub mod ClosedRun
+pub mod ShutOut

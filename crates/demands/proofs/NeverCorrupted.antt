@@ -37,7 +37,7 @@ use Rattle.node.specs.declared.Node.{Node}
 use Rattle.demands.specs.Machine.{logodwen, isRefused}
 use Rattle.demands.specs.Requests.{Delivered, isCommand}
 use Rattle.demands.specs.Files.{abort, NotGood, HandsOut, NeverCorrupted}
-use Rattle.demands.proofs.Commands.{answered-own, delivered-own}
+use Rattle.demands.proofs.Commands.{replyIn, answered-own, delivered-own}
 use Rattle.demands.proofs.NoStaleRecord.{data-front}
 
 -- an entry that is as worked out afresh is so in each of its four words
@@ -155,15 +155,6 @@ module _ (n : Node) (packet : List ℕ) (l : Lent) (r : Reply) (some : 0 < r .wo
       at : (t : Target) → namedBy n (getD packet 1 0) ≡ t → Hands (readAt n (l .flash) t)
       at Target.Missing e = no-words ZeroLength.End
       at (Target.At s) e = by s e (seen n (l .flash) s) refl
-
--- the reply that an answer is, or else another
-abbrev replyIn : Answer → Reply → Reply
-replyIn (Answer.Refused x) r = r
-replyIn Answer.Started r = r
-replyIn (Answer.Reply x) r = x
-replyIn (Answer.Ask a) r = r
-replyIn Answer.Waiting r = r
-replyIn (Answer.Erased count) r = r
 
 hands-out : (n : Node) (clock link bc : ℕ) (errors : Bool) (packet : List ℕ) (l : Lent) (r : Reply) → isCommand 0x05 packet ≡ true
     → requestOf n clock link bc errors packet l .turn .answer ≡ Answer.Reply r → 0 < r .words

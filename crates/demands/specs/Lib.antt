@@ -10,3 +10,4 @@ pub mod Refusals
 pub mod Flash
 pub mod Files
 pub mod ClosedRun
+pub mod ShutOut
