@@ -1,11 +1,10 @@
-pub mod Pendings
 pub mod Events
 pub mod Slaves
 pub mod Asks
 pub mod Groups
 pub mod Examples
 pub mod Settled
-pub mod Verdicts
+pub mod Taken
 pub mod Sound
 pub mod Anchors
 pub mod Commands
