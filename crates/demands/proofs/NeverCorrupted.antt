@@ -35,8 +35,8 @@ use Rattle.node.specs.declared.Answer.{Answer}
 use Rattle.node.specs.declared.Node.{Node}
 use Rattle.node.proofs.Outcomes.{zero-told}
 use Rattle.demands.specs.Machine.{logodwen, isRefused}
-use Rattle.demands.specs.Requests.{Delivered, isCommand}
-use Rattle.demands.specs.Files.{abort, NotGood, HandsOut, NeverCorrupted}
+use Rattle.demands.specs.Requests.{abort, Delivered, isCommand}
+use Rattle.demands.specs.Files.{NotGood, HandsOut, NeverCorrupted}
 use Rattle.demands.proofs.Commands.{replyIn, answered-own, delivered-own}
 use Rattle.demands.proofs.NoStaleRecord.{data-front}
 

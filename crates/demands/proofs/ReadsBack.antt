@@ -34,9 +34,9 @@ use Rattle.node.specs.declared.Node.{Node}
 use Rattle.node.specs.declared.Verdict.{Verdict}
 use Rattle.node.proofs.Why.{request-why, placed-tells}
 use Rattle.demands.specs.Machine.{Call, logodwen, flashOf}
-use Rattle.demands.specs.Requests.{isCommand}
+use Rattle.demands.specs.Requests.{end, isCommand}
 use Rattle.demands.specs.Flash.{erasingSite}
-use Rattle.demands.specs.Files.{end, fileName, setsAttribute, Runs, ReadsBack}
+use Rattle.demands.specs.Files.{fileName, setsAttribute, Runs, ReadsBack}
 use Rattle.demands.proofs.Taken.{verdictOn, requestEffect}
 use Rattle.demands.proofs.Commands.{command-told, not-end, ended-own, delivered-own}
 use Rattle.demands.proofs.Sound.{Sound, call-keeps, refused-same, reached-sound}

@@ -40,10 +40,11 @@ use Rattle.node.specs.declared.Refusal.{Refusal}
 use Rattle.node.specs.declared.Turn.{Turn}
 use Rattle.node.proofs.Directories.{some-words}
 use Rattle.demands.specs.Machine.{Machine, logodwen, isRefused, Call}
+use Rattle.demands.specs.Requests.{end}
 use Rattle.demands.specs.Reached.{Reached, NoStaleRecord}
 use Rattle.demands.specs.Refusals.{numberOf, RefusedExactly}
 use Rattle.demands.specs.Anchors.{blank, file}
-use Rattle.demands.specs.Files.{end, fileName, Unused, Takes, Wrote, Writes, IsFile}
+use Rattle.demands.specs.Files.{fileName, Unused, Takes, Wrote, Writes, IsFile}
 use Rattle.demands.specs.ClosedRun.{with, started, written, ClosedRun}
 use Rattle.demands.specs.ShutOut.{refusing, aborting, constant, idle, hasty, boasting, scanning, ShutOut}
 use Rattle.demands.specs.Flash.{rowOf, Begins, Erases}

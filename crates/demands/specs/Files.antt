@@ -18,26 +18,18 @@ use Rattle.flash.specs.Search.{isNamed}
 use Rattle.flash.specs.declared.Erasing.{Erasing}
 use Rattle.flash.specs.declared.Found.{Found}
 use Rattle.flash.specs.declared.Target.{Target}
-use Rattle.group.specs.Ending.{replied, zeroReply}
-use Rattle.group.specs.declared.Reply.{Reply}
-use Rattle.group.specs.declared.ZeroLength.{ZeroLength}
 use Rattle.memory.specs.Segment.{Memories}
+use Rattle.group.specs.Ending.{replied}
+use Rattle.group.specs.declared.Reply.{Reply}
 use Rattle.node.specs.State.{turn, faulted}
 use Rattle.node.specs.Effect.{Outcome, outcome, Lent, lent}
 use Rattle.node.specs.Files.{namedBy, placedFor}
 use Rattle.node.specs.declared.Answer.{Answer}
 use Rattle.node.specs.declared.Node.{Node}
 use Rattle.demands.specs.Machine.{Machine, Call, turnOf, flashOf, isRefused}
-use Rattle.demands.specs.Requests.{Delivered, isCommand}
+use Rattle.demands.specs.Requests.{end, abort, Delivered, isCommand}
 use Rattle.demands.specs.Reached.{Lends16, stateAfter, Reached}
 use Rattle.demands.specs.Flash.{erasingSite}
-
--- END and ABORT.
-abbrev pub end : Answer
-end = Answer.Reply (zeroReply ZeroLength.End)
-
-abbrev pub abort : Answer
-abort = Answer.Reply (zeroReply ZeroLength.Abort)
 
 -- A valid and exact file.
 abbrev pub IsFile : List ℕ → Type 0

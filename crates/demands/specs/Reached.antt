@@ -8,8 +8,8 @@ use lib.ListN.{length, take}
 use Rattle.base.specs.Pick.{pick}
 use Rattle.base.specs.Words.{Below}
 use Rattle.flash.specs.Directory.{directoryOf}
-use Rattle.group.specs.Ending.{replied}
 use Rattle.memory.specs.Segment.{Memories}
+use Rattle.group.specs.Ending.{replied}
 use Rattle.node.specs.Effect.{Outcome, lent}
 use Rattle.node.specs.declared.Answer.{Answer}
 use Rattle.node.specs.declared.Node.{Node}

@@ -12,10 +12,11 @@ use Rattle.node.specs.declared.Answer.{Answer}
 use Rattle.node.specs.declared.Node.{Node}
 use Rattle.node.specs.declared.Refusal.{Refusal}
 use Rattle.demands.specs.Machine.{Machine}
+use Rattle.demands.specs.Requests.{abort}
 use Rattle.demands.specs.Reached.{NoStaleRecord}
 use Rattle.demands.specs.Refusals.{RefusedExactly}
 use Rattle.demands.specs.Flash.{Erases}
-use Rattle.demands.specs.Files.{abort, Writes}
+use Rattle.demands.specs.Files.{Writes}
 use Rattle.demands.specs.ClosedRun.{ClosedRun}
 
 -- Once started, always refuses.
