@@ -6,7 +6,7 @@ use Rattle.memory.specs.Load.{Loaded}
 use Rattle.group.specs.Fragment.{Assembly}
 use Rattle.group.specs.Ending.{Sent}
 use Rattle.node.specs.Effect.{Outcome}
-use Rattle.demands.specs.Settled.{BaseSettled, FcsSettled, ImageSettled, FlashSettled, MemorySettled, GroupSettled, NodeSettled, Settled}
+use Rattle.demands.specs.Settled.{BaseSettled, FcsSettled, ImageSettled, FlashSettled, MemorySettled, GroupSettled, ReportSettled, NodeSettled, Settled}
 
 pub base-settled : BaseSettled
 base-settled =
@@ -114,6 +114,16 @@ group-settled =
       slaves-slaves-above = λ κs given x y v w p q. (p ∙ sym q, refl);
     }
 
+pub report-settled : ReportSettled
+report-settled =
+    record {
+      count = λ κs given x y v w p q. (p ∙ sym q, refl);
+      own-status = λ κs given x y v w p q. (p ∙ sym q, refl);
+      node-status = λ κs given x y v w p q. (p ∙ sym q, refl);
+      attributes = λ κs given x y v w p q. (p ∙ sym q, refl);
+      has-masks = λ κs given x y v w p q. (p ∙ sym q, refl);
+    }
+
 pub node-settled : NodeSettled
 node-settled =
     record {
@@ -144,5 +154,6 @@ settled =
       flash = flash-settled;
       memory = memory-settled;
       group = group-settled;
+      report = report-settled;
       node = node-settled;
     }

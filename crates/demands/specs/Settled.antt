@@ -12,6 +12,7 @@ use Rattle.image.proofs as Image
 use Rattle.flash.proofs as Flash
 use Rattle.memory.proofs as Memory
 use Rattle.group.proofs as Group
+use Rattle.report.proofs as Report
 use Rattle.node.proofs as Node
 
 -- Whatever a function is given and lent, any two results that its statement allows are the same: what it returns, in a given sense,
@@ -121,6 +122,14 @@ pub record GroupSettled : Type 0 where
   pub slaves-next-slave : Settles Group.slaves.next_slave.Kinds.ps Group.slaves.next_slave.Kinds.r Group.slaves.next_slave.Reads.Learnt
   pub slaves-slaves-above : Settles Group.slaves.slaves_above.Kinds.ps Group.slaves.slaves_above.Kinds.r Group.slaves.slaves_above.Reads.Learnt
 
+-- What a node reports of itself.
+pub record ReportSettled : Type 0 where
+  pub count : Settles Report.count.Kinds.ps Report.count.Kinds.r Report.count.Reads.Learnt
+  pub own-status : Settles Report.own_status.Kinds.ps Report.own_status.Kinds.r Report.own_status.Reads.Learnt
+  pub node-status : Settles Report.node_status.Kinds.ps Report.node_status.Kinds.r Report.node_status.Reads.Learnt
+  pub attributes : Settles Report.attributes.Kinds.ps Report.attributes.Kinds.r Report.attributes.Reads.Learnt
+  pub has-masks : Settles Report.has_masks.Kinds.ps Report.has_masks.Kinds.r Report.has_masks.Reads.Learnt
+
 -- The node: the five calls, and the parts that decide before anything is done.
 pub record NodeSettled : Type 0 where
   pub start : Settles Node.Node.start.Kinds.ps Node.Node.start.Kinds.r Node.Node.start.Reads.Learnt
@@ -148,4 +157,5 @@ pub record Settled : Type 0 where
   pub flash : FlashSettled
   pub memory : MemorySettled
   pub group : GroupSettled
+  pub report : ReportSettled
   pub node : NodeSettled
