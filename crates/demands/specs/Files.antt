@@ -85,8 +85,10 @@ pub record Spares (M : Machine) (s name : ℕ) (c : Call) (n : Node) (flash : Li
 -- whatever flash they were lent.
 pub data Runs (M : Machine) (s name : ℕ) (n : Node) (flash : List ℕ) : Node → List ℕ → Type 0 where
   Here : Runs M s name n flash n flash
-  Then : {m : Node} {after : List ℕ} → Runs M s name n flash m after → (c : Call) → Lends16 c → Spares M s name c m after → Runs M s name n flash (stateAfter M c m after) (flashOf M c m after)
-  Refused : {m : Node} {after : List ℕ} → Runs M s name n flash m after → (c : Call) (other : List ℕ) → isRefused (turnOf M c m other .answer) ≡ true → Runs M s name n flash (stateAfter M c m other) after
+  Then : {m : Node} {after : List ℕ} → Runs M s name n flash m after → (c : Call) → Lends16 c → Spares M s name c m after
+      → Runs M s name n flash (stateAfter M c m after) (flashOf M c m after)
+  Refused : {m : Node} {after : List ℕ} → Runs M s name n flash m after → (c : Call) (other : List ℕ) → isRefused (turnOf M c m other .answer) ≡ true
+      → Runs M s name n flash (stateAfter M c m other) after
 
 -- In a state reached, a File Write that put its file into sector s and was answered END; then any calls that spare it; then a File Read
 -- of its name, with no erasure in progress, answers the very words, of files up to 12,286 words.

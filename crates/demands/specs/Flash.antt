@@ -1,5 +1,5 @@
--- Demands 2 and 3, of the flash: a call changes words of one file sector at most, the one named, placed or being erased; no bit goes from 0
--- to 1 but by erasing; and an erasure sets what it counts, all of its sector and nothing else. 01 'Flash'. Assumes nothing.
+-- Demands 2 and 3, of the flash: a call changes words of one file sector at most, the one named, placed or being erased; no bit goes
+-- from 0 to 1 but by erasing; and an erasure sets what it counts, all of its sector and nothing else. 01 'Flash'. Assumes nothing.
 use Prim.Native.Nat.{ℕ, min, _+_, _≤_, _<_}
 use mathlib.Core.Path.{_≡_}
 use mathlib.Core.Bool.{Bool, true}

@@ -111,14 +111,21 @@ scanning =
       erase = λ n budget flash. stale n (eraseOf n budget flash);
     }
 
+-- Each fails a demand.
 pub record ShutOut : Type 0 where
+  -- always refuses, by whichever number
   pub refuses : (r : Refusal) → RefusedExactly (refusing r) → ⊥
   pub serves-nothing : (r : Refusal) → ClosedRun (refusing r) → ⊥
+  -- always says ABORT
   pub aborts : Writes aborting → ⊥
+  -- a constant reply
   pub replies-alike : (r : Reply) (ws : List ℕ) → ClosedRun (constant r ws) → ⊥
-  -- its directory is true all the same
+  -- changes nothing but keeps a true directory
   pub true-directory : NoStaleRecord idle
   pub changes-nothing : Writes idle → ⊥
+  -- erases all at the first progress call
   pub erases-all : (says : ℕ → ℕ) → Erases (hasty says) → ⊥
+  -- reports words it did not set
   pub sets-nothing : Erases boasting → ⊥
+  -- scans at start only
   pub scans-once : NoStaleRecord scanning → ⊥
