@@ -6,18 +6,16 @@ use mathlib.Core.List.{List, _∷_}
 use native.Mathlib.Omega.{arith}
 use lib.Dec.{eqb, leb}
 use lib.ListN.{length, getD}
-use borrow.Author.Tests.{eq-eqb, ne-eqb, eqb-true, lt-leb, le-ltb, lt-ltb}
+use borrow.Author.Tests.{eq-eqb, ne-eqb, eqb-true, lt-leb, lt-ltb}
 use Rattle.base.proofs.Pick.{yes, no, and-yes}
 use Rattle.group.specs.Slaves.{slavesOf, nextOf}
-use Rattle.node.specs.Refusals.{requestVerdict}
-use Rattle.node.specs.Route.{asking, firstByte, secondByte, bcOf, groupFrom, grouped, maskIn, addressed, routeOf}
+use Rattle.node.specs.Route.{asking, firstByte, secondByte, groupFrom, grouped, maskIn, addressed}
 use Rattle.node.specs.Calls.{judged, routed, requestOf}
-use Rattle.node.specs.declared.Answer.{Answer}
 use Rattle.node.specs.declared.Node.{Node}
 use Rattle.node.specs.declared.Route.{Route}
-use Rattle.node.specs.declared.Verdict.{Verdict}
-use Rattle.demands.specs.Machine.{logodwen, isRefused}
+use Rattle.demands.specs.Machine.{logodwen}
 use Rattle.demands.specs.Groups.{isGroup, setAsked, stripped, knowsMask, GroupIsAsked}
+use Rattle.demands.proofs.Commands.{delivered-comes}
 
 module _ (n : Node) (packet : List ℕ) (s : ℕ) (ss : List ℕ) (cddc : n .given .kind ≡ 2) (these : slavesOf (setAsked n packet) ≡ s ∷ ss) where
   abbrev byte : ℕ
@@ -52,17 +50,8 @@ module _ (n : Node) (packet : List ℕ) (s : ℕ) (ss : List ℕ) (cddc : n .giv
       by false false false p q w e f = absurd (false≢true e)
 
 pub group-is-asked : GroupIsAsked logodwen
-unfolding requestOf routeOf
+unfolding requestOf
 group-is-asked n clock link bc errors packet l d g m cddc long s ss these =
-    go (requestVerdict n link (length packet) (length (l .flash)) (length (l .memories .pm)) (length (l .memories .dm)) (length (l .memories .io)) (length (l .reply))) (d .taken)
-  where
-    route : Route.Group (asking s (stripped packet)) (setAsked n packet) ≡ routeOf n link bc errors packet
-    route =
-        no _ (d .clean) (no _ (ne-eqb (length packet) 0 (λ x. omega (arith, d .least, x)))
-        (no _ (ap (λ (x : Bool). x || not (eqb (bcOf bc) 3)) (le-ltb 8192 (length packet) (d .most)) ∙ ap not (eq-eqb (bcOf bc) 3 (d .whole)))
-        (addressed-is n packet s ss cddc these g m long)))
-
-    go : (v : Verdict) → isRefused (judged v n l (routed (routeOf n link bc errors packet) n clock link packet l) .turn .answer) ≡ false
-        → judged v n l (routed (routeOf n link bc errors packet) n clock link packet l) .turn .answer ≡ Answer.Ask (asking s (stripped packet))
-    go Verdict.Fine h = ap (λ (x : Route). routed x n clock link packet l .answer) (sym route)
-    go (Verdict.No r) h = absurd (false≢true (sym h))
+    let k = delivered-comes n clock link bc errors packet l d in
+    let route = sym (addressed-is n packet s ss cddc these g m long ∙ k .route) in
+    λ i. judged (k .fine i) n l (routed (route i) n clock link packet l) .turn .answer

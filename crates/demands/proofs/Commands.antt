@@ -1,17 +1,18 @@
--- A request comes to the own command that it names: one that is delivered, and one that is answered neither by a refusal nor by ERROR.
--- Assumes nothing.
-use Prim.Native.Nat.{ℕ}
+-- A request that is delivered comes to step 4, and so to the own command that it names; and so does one that is answered neither by a
+-- refusal nor by ERROR. Assumes nothing.
+use Prim.Native.Nat.{ℕ, _≤_}
 use mathlib.Core.Path.{_≡_, refl, sym, ap, _∙_}
 use mathlib.Core.Logic.{_⊎_, inl, inr, ⊎-elim}
 use mathlib.Core.Bool.{Bool, true, false, _||_, not, false≢true}
-use mathlib.Core.List.{List, [], _∷_}
+use mathlib.Core.List.{List}
 use native.Mathlib.Omega.{arith}
 use lib.ListN.{length, getD}
 use lib.Dec.{ltb, eqb}
-use borrow.Author.Tests.{eqb-true, eq-eqb, ne-eqb, le-ltb}
+use borrow.Author.Tests.{eqb-true, eq-eqb, ne-eqb, le-ltb, eqb-false}
 use Rattle.base.specs.Pick.{pick}
 use Rattle.base.proofs.Pick.{yes, no, and-left, and-right}
-use Rattle.group.specs.Ending.{zeroReply}
+use Rattle.group.specs.Ending.{replied, zeroReply}
+use Rattle.group.specs.declared.Reply.{Reply}
 use Rattle.group.specs.declared.ZeroLength.{ZeroLength}
 use Rattle.node.specs.Effect.{Lent, Outcome, ownOutcome}
 use Rattle.node.specs.Route.{firstByte, secondByte, bcOf, drops, addressed, routeOf}
@@ -21,10 +22,29 @@ use Rattle.node.specs.declared.Answer.{Answer}
 use Rattle.node.specs.declared.Node.{Node}
 use Rattle.node.specs.declared.Route.{Route}
 use Rattle.node.specs.declared.Verdict.{Verdict}
-use Rattle.node.proofs.Routes.{Command}
+use Rattle.node.proofs.Routes.{Command, command-words}
 use Rattle.demands.specs.Machine.{logodwen, isRefused}
 use Rattle.demands.specs.Requests.{Delivered, isCommand}
-use Rattle.demands.proofs.Verdicts.{verdictOn, requestEffect, judged-fine}
+use Rattle.demands.proofs.Taken.{verdictOn, requestEffect, judged-fine}
+
+not-empty : (packet : List ℕ) → 1 ≤ length packet → eqb (length packet) 0 ≡ false
+not-empty packet h = ne-eqb (length packet) 0 (λ e. absurd (omega (arith, h, e)))
+
+-- a request that is delivered is taken, and comes to step 4
+pub record Comes (n : Node) (link bc : ℕ) (errors : Bool) (packet : List ℕ) (l : Lent) : Type 0 where
+  pub fine : verdictOn n link packet l ≡ Verdict.Fine
+  pub route : addressed (n .given .kind) (n .masks) (length packet) (getD packet 0 0) (getD packet 1 0) ≡ routeOf n link bc errors packet
+
+pub delivered-comes : (n : Node) (clock link bc : ℕ) (errors : Bool) (packet : List ℕ) (l : Lent) → Delivered logodwen n clock link bc errors packet l → Comes n link bc errors packet l
+unfolding requestOf routeOf
+delivered-comes n clock link bc errors packet l d =
+    let m = d .most in
+    let b = d .whole in
+    let step3 : (ltb 8192 (length packet) || not (eqb (bcOf bc) 3)) ≡ false = λ i. le-ltb 8192 (length packet) m i || not (eq-eqb (bcOf bc) 3 b i) in
+    record {
+      fine = judged-fine (verdictOn n link packet l) n l (requestEffect n clock link bc errors packet l) (d .taken);
+      route = no _ (d .clean) (no _ (not-empty packet (d .least)) (no _ step3 refl));
+    }
 
 -- the command that a packet names
 pub command-told : (id : ℕ) (packet : List ℕ) → isCommand id packet ≡ true → Command packet id
@@ -36,22 +56,24 @@ command-told id packet c =
       number = eqb-true (secondByte (getD packet 0 0)) id (and-right first second c);
     }
 
--- a packet of no words names none
-not-empty : (id : ℕ) (packet : List ℕ) → isCommand id packet ≡ true → eqb (length packet) 0 ≡ false
-not-empty id [] c = absurd (false≢true c)
-not-empty id (w ∷ packet) c = ne-eqb (length (w ∷ packet)) 0 (omega arith)
+-- the reply that an answer is, or else another
+abbrev pub replyIn : Answer → Reply → Reply
+replyIn (Answer.Refused x) r = r
+replyIn Answer.Started r = r
+replyIn (Answer.Reply x) r = x
+replyIn (Answer.Ask a) r = r
+replyIn Answer.Waiting r = r
+replyIn (Answer.Erased count) r = r
 
--- the BC of a reply, by which END is told from ABORT and ERROR
-abbrev bcIn : Answer → ℕ
-bcIn (Answer.Refused r) = 0
-bcIn Answer.Started = 0
-bcIn (Answer.Reply r) = r .bc
-bcIn (Answer.Ask a) = 0
-bcIn Answer.Waiting = 0
-bcIn (Answer.Erased count) = 0
+-- its BC, by which END is told from ABORT and ERROR, and its number of words
+abbrev pub bcIn : Answer → ℕ
+bcIn a = replyIn a (replied 0 0) .bc
+
+abbrev pub wordsIn : Answer → ℕ
+wordsIn a = replyIn a (replied 0 0) .words
 
 pub not-end : {A : Type 0} (k : ℕ) → eqb k 3 ≡ false → k ≡ 3 → A
-not-end k h e = absurd (false≢true (sym h ∙ eq-eqb k 3 e))
+not-end k h e = absurd (eqb-false k 3 h e)
 
 module _ (n : Node) (clock link bc : ℕ) (errors : Bool) (packet : List ℕ) (l : Lent) (id : ℕ) (c : isCommand id packet ≡ true) where
   own-route : Route.Own id ≡ addressed (n .given .kind) (n .masks) (length packet) (getD packet 0 0) (getD packet 1 0)
@@ -63,7 +85,7 @@ module _ (n : Node) (clock link bc : ℕ) (errors : Bool) (packet : List ℕ) (l
   -- steps 1 to 3 let it pass, or answer ERROR
   command-route : (routeOf n link bc errors packet ≡ Route.Own id) ⊎ (routeOf n link bc errors packet ≡ Route.Wrong)
   unfolding routeOf
-  command-route = by errors (eqb (length packet) 0) (not-empty id packet c) (ltb 8192 (length packet) || not (eqb (bcOf bc) 3))
+  command-route = by errors (eqb (length packet) 0) (not-empty packet (command-words packet id (command-told id packet c))) (ltb 8192 (length packet) || not (eqb (bcOf bc) 3))
     where
       route : Bool → Bool → Bool → Route
       route s t u =
@@ -99,13 +121,4 @@ module _ (n : Node) (clock link bc : ℕ) (errors : Bool) (packet : List ℕ) (l
       (own, ap (λ (o : Outcome). bcIn (o .turn .answer)) (sym (own .is)) ∙ ap bcIn h)
 
   pub delivered-own : Delivered logodwen n clock link bc errors packet l → Own
-  unfolding requestOf routeOf
-  delivered-own d =
-      own-is (judged-fine (verdictOn n link packet l) n l (requestEffect n clock link bc errors packet l) (d .taken))
-      (sym (no _ (d .clean) (no _ (not-empty id packet c) (no _ step3 own-route))))
-    where
-      step3 : (ltb 8192 (length packet) || not (eqb (bcOf bc) 3)) ≡ false
-      step3 =
-          let m = d .most in
-          let b = d .whole in
-          λ i. le-ltb 8192 (length packet) m i || not (eq-eqb (bcOf bc) 3 b i)
+  delivered-own d = let k = delivered-comes n clock link bc errors packet l d in own-is (k .fine) (sym (own-route ∙ k .route))

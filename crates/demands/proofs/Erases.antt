@@ -34,10 +34,10 @@ use Rattle.node.specs.declared.Verdict.{Verdict}
 use Rattle.node.proofs.Why.{erase-sector}
 use Rattle.node.proofs.Directories.{some-words}
 use Rattle.node.proofs.Ranges.{and-both, ranges-tell, ranges-told}
+use Rattle.node.proofs.Verdicts.{Fit, request-fine}
 use Rattle.demands.specs.Machine.{logodwen}
 use Rattle.demands.specs.Requests.{Delivered, isCommand}
 use Rattle.demands.specs.Flash.{Row, counting, rowOf, Sets, Begins, Erases}
-use Rattle.demands.proofs.Verdicts.{Fit, request-fine}
 use Rattle.demands.proofs.Commands.{not-end, ended-own, delivered-own}
 use Rattle.demands.proofs.Sound.{Valid, change-size, given-size, some-unit, step-valid}
 

@@ -1,30 +1,28 @@
 -- One call of a group's host: it is nothing to the group, or a slave is heard and the next one asked, or the last one is heard and the
 -- group ends. By walking what refuses the call and what it does. Assumes nothing.
-use Prim.Native.Nat.{ℕ, suc, _+_, _*_, _/_, _≤_}
-use mathlib.Core.Path.{_≡_, refl, sym, ap, _∙_}
+use Prim.Native.Nat.{ℕ, suc, _+_, _≤_}
+use mathlib.Core.Path.{_≡_, refl, sym, ap, _∙_, subst}
 use mathlib.Core.Bool.{Bool, true, false, _&&_, not, false≢true}
 use mathlib.Core.List.{List, [], _∷_, append-nil}
 use native.Mathlib.Omega.{arith}
 use lib.Dec.{eqb, leb, ltb}
 use lib.ListN.{length}
-use borrow.Author.Tests.{eq-eqb, eqb-true, leb-false, le-ltb}
+use borrow.Author.Tests.{eq-eqb, eqb-true, leb-false, le-ltb, leb-true}
 use Rattle.base.specs.Pick.{pick}
-use Rattle.base.proofs.Pick.{yes, no, pick-second}
-use Rattle.flash.specs.Change.{erasingAfter}
+use Rattle.base.proofs.Pick.{yes, no, and-left, and-right}
+use Rattle.memory.specs.Segment.{Memories}
 use Rattle.group.specs.Time.{isLate}
 use Rattle.group.specs.Kind.{answer, Answer as SlaveAnswer}
 use Rattle.group.specs.Slaves.{above, nextOf}
-use Rattle.group.specs.Fragment.{Assembly, assembly, taken, fragmentOf}
+use Rattle.group.specs.Fragment.{Assembly, assembly, taken}
 use Rattle.group.specs.declared.Built.{Built}
 use Rattle.group.specs.declared.Heard.{Heard}
 use Rattle.group.specs.declared.Next.{Next}
 use Rattle.group.proofs.Sets.{up-tells}
-use Rattle.group.proofs.Rooms.{room-kept}
-use Rattle.group.proofs.Takes.{taken-fits, taken-changes}
-use Rattle.memory.specs.Segment.{Memories}
+use Rattle.group.proofs.Takes.{taken-changes}
 use Rattle.node.specs.State.{turn}
-use Rattle.node.specs.Valid.{erasingOk, pendingOk, stateOk}
-use Rattle.node.specs.Refusals.{Cause, firstOf, isPending, isAsked, flashCause, replyCause, memoryCause, linkCause, stateCause, busyCause, requestVerdict, replyVerdict, pollVerdict, eraseVerdict}
+use Rattle.node.specs.Valid.{pendingOk, stateOk, askOk, gatheringOk}
+use Rattle.node.specs.Refusals.{isPending, isAsked, requestVerdict, replyVerdict, pollVerdict, eraseVerdict}
 use Rattle.node.specs.Route.{bcOf, drops, routeOf}
 use Rattle.node.specs.Settings.{statusIn}
 use Rattle.node.specs.Effect.{Effect, only, Lent, lent, Outcome, nodeAfter}
@@ -36,11 +34,11 @@ use Rattle.node.specs.declared.Pending.{Pending}
 use Rattle.node.specs.declared.Refusal.{Refusal}
 use Rattle.node.specs.declared.Route.{Route}
 use Rattle.node.specs.declared.Verdict.{Verdict}
-use Rattle.node.proofs.Ranges.{ranges-tell, ranges-told, step-erasing}
+use Rattle.node.proofs.Ranges.{ranges-tell, ranges-told, gathers-pending}
+use Rattle.node.proofs.Verdicts.{erase-fine, request-fine}
 use Rattle.demands.specs.Machine.{logodwen}
 use Rattle.demands.specs.Events.{Event, Host, host, stepped, dropsGroup}
-use Rattle.demands.proofs.Pendings.{GroupOk, group-tells, group-told}
-use Rattle.demands.proofs.Verdicts.{erase-fine}
+use Rattle.demands.proofs.Sound.{step-valid}
 
 -- a group in progress: slave s asked at a clock for a link, those of ss to follow, so much built in the buffer
 pub record Going (link from set own at s : ℕ) (ss : List ℕ) (b : Built) (h : Host) : Type 0 where
@@ -58,18 +56,6 @@ pub record Quiet (h h′ : Host) : Type 0 where
   pub status : statusIn (h′ .turn .node) ≡ statusIn (h .turn .node)
   pub asked : h′ .asked ≡ h .asked
 
--- a call that is taken has no cause of refusal
-no-fine : (r : Refusal) → Verdict.No r ≡ Verdict.Fine → ⊥
-no-fine r e = let z : _≡_ {A = ℕ} 0 1 = cc in omega arith
-
-abbrev pub NoneHolds : List Cause → Type 0
-NoneHolds [] = Unit {0}
-NoneHolds (c ∷ cs) = (c .holds ≡ false) × NoneHolds cs
-
-pub fine-tells : (cs : List Cause) → firstOf cs ≡ Verdict.Fine → NoneHolds cs
-fine-tells [] e = tt
-fine-tells (c ∷ cs) e = let r = pick-second (c .holds) (no-fine (c .refusal)) e in (r .0, fine-tells cs (r .1))
-
 -- an erase step
 pub erase-quiet : (h : Host) (budget : ℕ) → Quiet h (stepped logodwen (Event.Erased budget) h)
 unfolding eraseOf
@@ -83,17 +69,8 @@ erase-quiet h budget = go (eraseVerdict n (length flash)) refl
 
     kept : eraseVerdict n (length flash) ≡ Verdict.Fine → stateOk n ≡ true → stateOk (nodeAfter n flash (eraseEffect n budget flash)) ≡ true
     kept e v =
-        let r = ranges-tell n v in
         ranges-told (nodeAfter n flash (eraseEffect n budget flash))
-        (record {
-          given = r .given;
-          mode = r .mode;
-          masks = r .masks;
-          erasing =
-              ap (λ (k : ℕ). erasingOk (n .given .«flash_words») (erasingAfter (k / 16) (n .erasing) budget)) (sym (erase-fine n (length flash) e .size))
-              ∙ step-erasing (n .given .«flash_words») (n .erasing) budget (r .erasing);
-          pending = r .pending;
-        })
+        (step-valid n flash budget (record { ranges = ranges-tell n v; size = erase-fine n (length flash) e .size }) .ranges)
 
     go : (v : Verdict) → eraseVerdict n (length flash) ≡ v
         → let o : Outcome = judged v n (lentFlash flash) (eraseEffect n budget flash) in
@@ -105,7 +82,7 @@ erase-quiet h budget = go (eraseVerdict n (length flash)) refl
 pub request-quiet : {link from set own at s : ℕ} {ss : List ℕ} {b : Built} {h : Host} → Going link from set own at s ss b h
     → (clock l bc : ℕ) (errors : Bool) (packet : List ℕ) (m : Memories) → dropsGroup link (Event.Requested clock l bc errors packet m) ≡ false
     → Quiet h (stepped logodwen (Event.Requested clock l bc errors packet m) h)
-unfolding requestOf requestVerdict routeOf stateOk
+unfolding requestOf routeOf stateOk
 request-quiet {link} {from} {set} {own} {at} {s} {ss} {b} {h} k clock l bc errors packet m d = go verdict refl
   where
     n : Node
@@ -119,9 +96,7 @@ request-quiet {link} {from} {set} {own} {at} {s} {ss} {b} {h} k clock l bc error
 
     empty : verdict ≡ Verdict.Fine → eqb (length packet) 0 ≡ true
     empty e =
-        let busy : (isPending (n .pending) && leb 1 (length packet)) ≡ false =
-        fine-tells
-        (flashCause n (length (h .flash)) ∷ replyCause (length (h .buffer)) ∷ memoryCause (length (m .pm)) (length (m .dm)) (length (m .io)) ∷ linkCause n l ∷ stateCause n ∷ busyCause n (length packet) ∷ []) e .1 .1 .1 .1 .1 .0 in
+        let busy = request-fine n l (length packet) (length (h .flash)) (length (m .pm)) (length (m .dm)) (length (m .io)) (length (h .buffer)) e .free in
         let free : leb 1 (length packet) ≡ false = ap (λ (x : Pending). isPending x && leb 1 (length packet)) (sym (k .pending)) ∙ busy in
         eq-eqb (length packet) 0 (omega (arith, leb-false 1 (length packet) free))
 
@@ -154,10 +129,13 @@ hearing h link from set at s ss b clock errors a =
     (goesOn (h .turn .node) (ask link s at) (gathering set from b) clock (taken (assembly (h .buffer) b) (length ss) s a) (nextOf ss))
 
 module _ {link from set own at s : ℕ} {ss : List ℕ} {b : Built} {h : Host} (k : Going link from set own at s ss b h) (clock : ℕ) where
-  known : GroupOk (h .turn .node .given .ports) link s from set b
-  known =
-      group-tells (h .turn .node .given .ports) link s at set from b
-      (ap (pendingOk (h .turn .node .given .ports)) (sym (k .pending)) ∙ ranges-tell (h .turn .node) (k .ok) .pending)
+  pub group-ok : pendingOk (h .turn .node .given .ports) (Pending.Group (ask link s at) (gathering set from b)) ≡ true
+  group-ok = ap (pendingOk (h .turn .node .given .ports)) (sym (k .pending)) ∙ ranges-tell (h .turn .node) (k .ok) .pending
+
+  slave-most : s ≤ 23
+  slave-most =
+      let ports : ℕ = h .turn .node .given .ports in
+      leb-true s 23 (and-right (ltb link ports) (leb s 23) (and-left (askOk ports (ask link s at)) (gatheringOk s (gathering set from b)) group-ok))
 
   module _ (slave bc : ℕ) (errors : Bool) (status address : ℕ) (words : List ℕ) where
     abbrev reply : Event
@@ -171,7 +149,7 @@ module _ {link from set own at s : ℕ} {ss : List ℕ} {b : Built} {h : Host} (
     unfolding replyVerdict
     reply-fine e =
         let q : s ≡ slave = eqb-true s slave e in
-        sym (no _ (le-ltb (length (h .buffer)) 12288 (k .space)) (no _ (le-ltb 23 slave (omega (arith, q, known .slave′))) (no _ (ap not (k .ok))
+        sym (no _ (le-ltb (length (h .buffer)) 12288 (k .space)) (no _ (le-ltb 23 slave (omega (arith, q, slave-most))) (no _ (ap not (k .ok))
         (no _ (ap not (ap (λ (x : Pending). isAsked x slave) (k .pending) ∙ e)) refl))))
 
     pub reply-heard : eqb s slave ≡ true → stepped logodwen reply h ≡ becomes h (hearing h link from set at s ss b clock (errorIn hears′) (answer hears′ words))
@@ -236,11 +214,6 @@ pub heard-goes : {link from set own at s s′ : ℕ} {ss : List ℕ} {b : Built}
     (becomes h (hearing h link from set at s (s′ ∷ ss) b clock errors a))
 heard-goes {link} {from} {set} {own} {at} {s} {s′} {ss} {b} {h} k clock errors a =
     let n : Node = h .turn .node in
-    let m : Assembly = taken (assembly (h .buffer) b) (suc (length ss)) s a in
-    let q = known k clock in
-    let l = ap length (k .rest) in
-    let r : b .words + 5 * (suc (length ss) + 1) + 2 ≤ 12288 = omega (arith, q .room, l) in
-    let w : m .built .words ≡ b .words + length (fragmentOf s a (b .words) (suc (length ss))) = ap (λ (x : Assembly). x .built .words) (taken-fits (assembly (h .buffer) b) (suc (length ss)) s a r (k .space)) in
     let v = ranges-tell n (k .ok) in
     record {
       pending = refl;
@@ -253,8 +226,10 @@ heard-goes {link} {from} {set} {own} {at} {s} {s′} {ss} {b} {h} k clock errors
             masks = v .masks;
             erasing = v .erasing;
             pending =
-                group-told (n .given .ports) link clock set from (s + 1) s′ ss (m .built) (q .linked) (q .bits) (q .sent) (k .rest)
-                (omega (arith, w, room-kept s a (b .words) (suc (length ss)) r));
+                subst
+                (λ (x : List ℕ). pendingOk (n .given .ports) (goesOn n (ask link s at) (gathering set from b) clock (taken (assembly (h .buffer) b) (length x) s a) (nextOf x) .pending) ≡ true)
+                (k .rest)
+                (gathers-pending (n .given .ports) n clock (a .heard) (a .words) (h .buffer) (k .space) (ask link s at) (gathering set from b) (group-ok k clock));
           });
       space = omega (arith, k .space, taken-changes (assembly (h .buffer) b) (suc (length ss)) s a .size);
       status = k .status;

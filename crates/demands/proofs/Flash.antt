@@ -30,10 +30,11 @@ use Rattle.node.specs.declared.Verdict.{Verdict}
 use Rattle.node.proofs.Routes.{Command}
 use Rattle.node.proofs.Why.{Why, request-why}
 use Rattle.node.proofs.Ranges.{ranges-tell}
+use Rattle.node.proofs.Verdicts.{erase-fine}
 use Rattle.demands.specs.Machine.{Call, logodwen}
 use Rattle.demands.specs.Requests.{isCommand}
 use Rattle.demands.specs.Flash.{requestSite, erasingSite, Within, OneSector, InStep, NoBitRises}
-use Rattle.demands.proofs.Verdicts.{verdictOn, requestEffect, erase-fine}
+use Rattle.demands.proofs.Taken.{verdictOn, requestEffect}
 
 -- nothing changed is within any sector
 within-none : (x : Found) (flash : List ℕ) → Within x flash flash

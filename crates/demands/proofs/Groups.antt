@@ -1,7 +1,7 @@
 -- A group's calls, one after another, lay the fragments of its slaves' answers: by one induction over the calls, which says where the
 -- host stands after any run of them. Assumes nothing.
 use Prim.Native.Nat.{ℕ, suc, _+_, _*_, _≤_, _<_}
-use mathlib.Core.Path.{_≡_, refl, sym, ap, _∙_}
+use mathlib.Core.Path.{_≡_, refl, sym, ap, _∙_, subst}
 use mathlib.Core.Bool.{Bool, true, false, _&&_, _||_, not, false≢true}
 use mathlib.Core.List.{List, [], _∷_, _++_, append-nil, append-assoc}
 use native.Mathlib.Numerals.{add-one}
@@ -9,7 +9,7 @@ use native.Mathlib.Omega.{arith}
 use lib.Dec.{eqb, leb, ltb}
 use lib.ListN.{length, getD, take}
 use lib.Seq.{take-all}
-use borrow.Author.Tests.{eq-eqb, eqb-true, leb-true, leb-false, lt-ltb, ltb-false, not-false}
+use borrow.Author.Tests.{eq-eqb, eqb-true, leb-true}
 use Rattle.base.specs.Pick.{pick}
 use Rattle.base.specs.Words.{laid}
 use Rattle.base.proofs.Pick.{yes, no, pick-case}
@@ -29,8 +29,8 @@ use Rattle.group.specs.declared.ZeroLength.{ZeroLength}
 use Rattle.group.proofs.Sets.{up-tells, length-slaves}
 use Rattle.group.proofs.Groups.{assembled-room, taken-all, group-sent}
 use Rattle.group.proofs.Tallies.{Keeps, zero-keeps, whole-keeps, common-tells, common-told}
-use Rattle.node.specs.Valid.{stateOk}
-use Rattle.node.specs.Refusals.{isPending, isAsked, flashCause, replyCause, memoryCause, linkCause, stateCause, busyCause, requestVerdict}
+use Rattle.node.specs.Valid.{stateOk, pendingOk}
+use Rattle.node.specs.Refusals.{isPending, isAsked}
 use Rattle.node.specs.Route.{asking, firstByte, secondByte, bcOf, drops, groupFrom, grouped, maskIn, addressed, routeOf}
 use Rattle.node.specs.Settings.{statusIn}
 use Rattle.node.specs.Effect.{Effect, Lent, Outcome}
@@ -41,13 +41,14 @@ use Rattle.node.specs.declared.Node.{Node}
 use Rattle.node.specs.declared.Pending.{Pending}
 use Rattle.node.specs.declared.Route.{Route}
 use Rattle.node.specs.declared.Verdict.{Verdict}
-use Rattle.node.proofs.Ranges.{ranges-tell, ranges-told, mask-below}
+use Rattle.node.proofs.Ranges.{ranges-tell, ranges-told, request-pending}
+use Rattle.node.proofs.Verdicts.{RequestFine, request-fine}
 use Rattle.demands.specs.Machine.{logodwen}
 use Rattle.demands.specs.Events.{Event, Host, host, stepped, hosted, Undropped, heards}
 use Rattle.demands.specs.Groups.{setAsked, GroupRun, begun, atLast, slaves, said, kinds, fragments, Sends, GroupIsItsFragments, AskedInOrder, EachAskedOnce, FragmentsStand, NothingPastTheWords}
-use Rattle.demands.proofs.Pendings.{group-told}
 use Rattle.demands.proofs.Slaves.{slaves-exactly}
-use Rattle.demands.proofs.Events.{Going, Quiet, fine-tells, becomes, hearing, erase-quiet, request-quiet, stray-quiet, wait-quiet, reply-heard, late-heard, heard-goes, quiet-goes}
+use Rattle.demands.proofs.Events.{Going, Quiet, becomes, hearing, erase-quiet, request-quiet, stray-quiet, wait-quiet, reply-heard, late-heard, heard-goes, quiet-goes}
+use Rattle.demands.proofs.Taken.{verdictOn}
 
 -- a group that has ended
 record Over (h : Host) (x : Sent) : Type 0 where
@@ -154,7 +155,6 @@ module _ (r : GroupRun logodwen) where
     first : ℕ
     others : List ℕ
     these : slavesOf set ≡ first ∷ others
-    sent : (eqb from 1 || eqb from 2) ≡ true
     route : x ≡ Route.Group (asking first from) set
 
   abbrev Finds : Route → Type 0
@@ -163,13 +163,13 @@ module _ (r : GroupRun logodwen) where
   reply-asks : (x : Reply) → Answer.Reply x ≡ Answer.Ask (r .asking) → ⊥
   reply-asks x e = let z : _≡_ {A = ℕ} 0 1 = cc in omega arith
 
-  group-found : (from x : ℕ) → (eqb from 1 || eqb from 2) ≡ true → x ≡ set → Finds (grouped (r .node .given .kind) (length (r .packet)) from x)
-  group-found from x f e =
+  group-found : (from x : ℕ) → x ≡ set → Finds (grouped (r .node .given .kind) (length (r .packet)) from x)
+  group-found from x e =
       pick-case Finds (eqb (r .node .given .kind) 2 && ltb from (length (r .packet))) (λ t. go (slavesOf x) (ap slavesOf (sym e))) (λ t a. absurd (reply-asks _ a))
     where
       go : (ss : List ℕ) → slavesOf set ≡ ss → Finds (groupFrom (nextOf ss) x from)
       go [] q a = absurd (reply-asks _ a)
-      go (s ∷ ss) q a = record { from = from; first = s; others = ss; these = q; sent = f; route = ap (λ (y : ℕ). Route.Group (asking s from) y) e }
+      go (s ∷ ss) q a = record { from = from; first = s; others = ss; these = q; route = ap (λ (y : ℕ). Route.Group (asking s from) y) e }
 
   group-byte : (byte ≡ 0x40 → ⊥) → (byte ≡ 0x23 → ⊥) → byte ≡ 0x2A
   group-byte a b = go (eqb byte 0x40) (eqb byte 0x23) (eqb byte 0x2A) refl refl refl (r .group)
@@ -191,24 +191,16 @@ module _ (r : GroupRun logodwen) where
       (λ _. pick-case Finds (leb byte 0x17) (λ e. absurd (low (leb-true byte 0x17 e)))
       (λ _. pick-case Finds (eqb byte 0x40)
       (λ e. pick-case Finds (leb (secondByte (getD (r .packet) 0 0)) 15)
-      (λ _. group-found 1 (getD (r .node .masks) (secondByte (getD (r .packet) 0 0)) 0) refl (yes _ e refl)) (λ _ a. absurd (reply-asks _ a)))
+      (λ _. group-found 1 (getD (r .node .masks) (secondByte (getD (r .packet) 0 0)) 0) (yes _ e refl)) (λ _ a. absurd (reply-asks _ a)))
       (λ e. pick-case Finds (eqb byte 0x23)
-      (λ f. group-found 2 (maskIn (getD (r .packet) 0 0) (getD (r .packet) 1 0)) refl (no _ e (yes _ f refl)))
-      (λ f. pick-case Finds (eqb byte 0x2A) (λ _. group-found 1 0xFFFFFF refl (no _ e (no _ f refl))) (λ _ a. absurd (reply-asks _ a)))))))))
+      (λ f. group-found 2 (maskIn (getD (r .packet) 0 0) (getD (r .packet) 1 0)) (no _ e (yes _ f refl)))
+      (λ f. pick-case Finds (eqb byte 0x2A) (λ _. group-found 1 0xFFFFFF (no _ e (no _ f refl))) (λ _ a. absurd (reply-asks _ a)))))))))
     where
       low : byte ≤ 0x17 → ⊥
       low h = let e = group-byte (λ a. omega arith) (λ a. omega arith) in omega arith
 
       other : byte ≡ 0x2E → ⊥
       other h = let e = group-byte (λ a. omega arith) (λ a. omega arith) in omega arith
-
-  -- the set of a valid state and of a packet's words has 24 bits
-  set-below : stateOk (r .node) ≡ true → set < 16777216
-  set-below v =
-      let n : Node = r .node in
-      let second = r .words 1 in
-      pick-case (λ (x : ℕ). x < 16777216) (eqb byte 0x40) (λ _. mask-below (n .masks) (secondByte (getD (r .packet) 0 0)) (ranges-tell n v .masks))
-      (λ _. pick-case (λ (x : ℕ). x < 16777216) (eqb byte 0x23) (λ _. omega (arith, second)) (λ _. omega arith))
 
   record Begins (h : Host) : Type 0 where
     from : ℕ
@@ -220,7 +212,7 @@ module _ (r : GroupRun logodwen) where
     asked : h .asked ≡ first ∷ []
 
   begins : Begins (begun r)
-  unfolding requestOf requestVerdict stateOk
+  unfolding requestOf stateOk
   begins = go verdict refl (r .asks)
     where
       n : Node
@@ -230,19 +222,17 @@ module _ (r : GroupRun logodwen) where
       l = r .lent
 
       verdict : Verdict
-      verdict = requestVerdict n (r .link) (length (r .packet)) (length (l .flash)) (length (l .memories .pm)) (length (l .memories .dm)) (length (l .memories .io)) (length (l .reply))
+      verdict = verdictOn n (r .link) (r .packet) l
 
       after : Verdict → Route → Host
       after v x = let o : Outcome = judged v n l (does x) in host [] (o .turn) (o .after .flash) (o .after .reply)
 
-      taken′ : verdict ≡ Verdict.Fine → (x : Route) → Found x → Begins (after Verdict.Fine x)
-      taken′ e x f =
-          let free = fine-tells (flashCause n (length (l .flash)) ∷ replyCause (length (l .reply)) ∷ memoryCause (length (l .memories .pm)) (length (l .memories .dm)) (length (l .memories .io)) ∷ linkCause n (r .link) ∷ stateCause n ∷ busyCause n (length (r .packet)) ∷ []) e in
-          let ok : stateOk n ≡ true = not-false (stateOk n) (free .1 .1 .1 .1 .0) in
-          let v = ranges-tell n ok in
+      taken′ : RequestFine n (r .link) (length (r .packet)) (length (l .flash)) (length (l .reply)) → (x : Route) → Found x → pendingOk (n .given .ports) (does x .pending) ≡ true
+          → Begins (after Verdict.Fine x)
+      taken′ fine x f p =
+          let v = ranges-tell n (fine .fits .state) in
           let u = up-tells set 0 (f .first) (f .others) (f .these) in
-          let many = length-slaves set in
-          let count = ap length (f .these) in
+          let q : pendingOk (n .given .ports) (does (Route.Group (asking (f .first) (f .from)) set) .pending) ≡ true = subst (λ (y : Route). pendingOk (n .given .ports) (does y .pending) ≡ true) (f .route) p in
           rw (f .route)
           (record {
             from = f .from;
@@ -259,12 +249,9 @@ module _ (r : GroupRun logodwen) where
                     mode = v .mode;
                     masks = v .masks;
                     erasing = v .erasing;
-                    pending =
-                        group-told (n .given .ports) (r .link) (r .clock) set (f .from) 0 (f .first) (f .others) (built 0 Tally.Nothing)
-                        (lt-ltb (r .link) (n .given .ports) (leb-false (n .given .ports) (r .link) (free .1 .1 .1 .0)))
-                        (lt-ltb set 16777216 (set-below ok)) (f .sent) (f .these) (omega (arith, many, count));
+                    pending = q;
                   });
-              space = ltb-false (length (l .reply)) 12288 (free .1 .0);
+              space = fine .buffer;
               status = refl;
             };
             buffer = refl;
@@ -273,7 +260,11 @@ module _ (r : GroupRun logodwen) where
 
       go : (v : Verdict) → verdict ≡ v → judged v n l (does (routeOf n (r .link) (r .bc) (r .errors) (r .packet))) .turn .answer ≡ Answer.Ask (r .asking)
           → Begins (after v (routeOf n (r .link) (r .bc) (r .errors) (r .packet)))
-      go Verdict.Fine e a = taken′ e (routeOf n (r .link) (r .bc) (r .errors) (r .packet)) (route-found a)
+      go Verdict.Fine e a =
+          let fine = request-fine n (r .link) (length (r .packet)) (length (l .flash)) (length (l .memories .pm)) (length (l .memories .dm)) (length (l .memories .io)) (length (l .reply)) e in
+          let v = ranges-tell n (fine .fits .state) in
+          taken′ fine (routeOf n (r .link) (r .bc) (r .errors) (r .packet)) (route-found a)
+          (request-pending n (r .clock) (r .link) (r .bc) (r .errors) (r .packet) l (r .words) (fine .below) (v .masks) (v .pending))
       go (Verdict.No x) e a = let z : _≡_ {A = ℕ} 0 1 = cc in absurd (omega arith)
 
 -- where the host stands after a run, in the words of the statements

@@ -59,7 +59,7 @@ named-other name word n = by (headerOk word)
 not-named : (name word : ℕ) → headerOk word ≡ true → isNamed name word ≡ false → nameOf word ≡ name → ⊥
 not-named name word h q e = false≢true (sym q ∙ ap (λ (x : ℕ). isNamed x word) (sym e) ∙ named-own word h)
 
-named-blank : (name : ℕ) → isNamed name 0xFFFF ≡ false
+pub named-blank : (name : ℕ) → isNamed name 0xFFFF ≡ false
 unfolding isNamed headerOk
 named-blank name = refl
 

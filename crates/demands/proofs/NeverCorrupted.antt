@@ -11,7 +11,6 @@ use lib.Seq.{length-take-le}
 use lib.Dec.{leb, eqb}
 use borrow.Author.Tests.{eq-eqb, eqb-true}
 use Rattle.base.specs.Words.{laid}
-use Rattle.base.proofs.Laid.{laid-none}
 use Rattle.base.proofs.Pick.{yes, no, pick-case, pick-first, and-left, and-right}
 use Rattle.image.specs.declared.End.{End}
 use Rattle.image.proofs.File.{file-tells, file-exact}
@@ -27,17 +26,18 @@ use Rattle.group.specs.Ending.{zeroReply}
 use Rattle.group.specs.declared.Reply.{Reply}
 use Rattle.group.specs.declared.ZeroLength.{ZeroLength}
 use Rattle.node.specs.State.{turn, faulted}
-use Rattle.node.specs.Effect.{Did, faulty, Lent, lent, Outcome, outcome, ownOutcome}
+use Rattle.node.specs.Effect.{Did, faulty, Lent, Outcome, outcome, ownOutcome}
 use Rattle.node.specs.Settings.{statusIn as ownStatus}
 use Rattle.node.specs.Files.{isErasing, namedBy, seen, readBy, readAt, readOf, loadBy, loadAt, loadOf}
 use Rattle.node.specs.Own.{filesOf, ownOf}
 use Rattle.node.specs.Calls.{requestOf}
 use Rattle.node.specs.declared.Answer.{Answer}
 use Rattle.node.specs.declared.Node.{Node}
+use Rattle.node.proofs.Outcomes.{zero-told}
 use Rattle.demands.specs.Machine.{logodwen, isRefused}
-use Rattle.demands.specs.Requests.{Delivered, isCommand}
-use Rattle.demands.specs.Files.{abort, NotGood, HandsOut, NeverCorrupted}
-use Rattle.demands.proofs.Commands.{answered-own, delivered-own}
+use Rattle.demands.specs.Requests.{abort, Delivered, isCommand}
+use Rattle.demands.specs.Files.{NotGood, HandsOut, NeverCorrupted}
+use Rattle.demands.proofs.Commands.{replyIn, answered-own, delivered-own}
 use Rattle.demands.proofs.NoStaleRecord.{data-front}
 
 -- an entry that is as worked out afresh is so in each of its four words
@@ -78,10 +78,6 @@ not-good n flash s (inr d) end h =
     bad : (k : ℕ) → Status.Bad ≡ Status.Good k → ⊥
     bad k e = let z : _≡_ {A = ℕ} 0 1 = cc in omega arith
 
--- ABORT and a FLASH error, and nothing else
-faulty-outcome : (n : Node) (l : Lent) → ownOutcome n l (faulty ZeroLength.Abort) ≡ outcome (turn (faulted true n) abort) l
-faulty-outcome n l = ap (λ (r : List ℕ). outcome (turn (faulted true n) abort) (lent (l .flash) (l .memories) r)) (sym (laid-none (l .reply) 0))
-
 module _ (n : Node) (clock link : ℕ) (packet : List ℕ) (l : Lent) (s : ℕ) (two : length packet ≡ 2) (idle : n .erasing ≡ Erasing.Nothing)
     (named : namedBy n (getD packet 1 0) ≡ Target.At s) (bad : NotGood n (l .flash) s) where
   read-faulty : ownOf 0x05 n clock link packet l ≡ faulty ZeroLength.Abort
@@ -114,9 +110,9 @@ aborts n clock link bc errors packet l s c d two idle named bad = by (isCommand 
   where
     by : (t : Bool) → isCommand 0x05 packet ≡ t → (t || isCommand 0x46 packet) ≡ true → requestOf n clock link bc errors packet l ≡ outcome (turn (faulted true n) abort) l
     by true e q =
-        delivered-own n clock link bc errors packet l 0x05 e d .is ∙ ap (ownOutcome n l) (read-faulty n clock link packet l s two idle named bad) ∙ faulty-outcome n l
+        delivered-own n clock link bc errors packet l 0x05 e d .is ∙ ap (ownOutcome n l) (read-faulty n clock link packet l s two idle named bad) ∙ sym (zero-told n ZeroLength.Abort true l)
     by false e q =
-        delivered-own n clock link bc errors packet l 0x46 q d .is ∙ ap (ownOutcome n l) (load-faulty n clock link packet l s two idle named bad) ∙ faulty-outcome n l
+        delivered-own n clock link bc errors packet l 0x46 q d .is ∙ ap (ownOutcome n l) (load-faulty n clock link packet l s two idle named bad) ∙ sym (zero-told n ZeroLength.Abort true l)
 
 -- what is handed out
 module _ (n : Node) (packet : List ℕ) (l : Lent) (r : Reply) (some : 0 < r .words) where
@@ -155,15 +151,6 @@ module _ (n : Node) (packet : List ℕ) (l : Lent) (r : Reply) (some : 0 < r .wo
       at : (t : Target) → namedBy n (getD packet 1 0) ≡ t → Hands (readAt n (l .flash) t)
       at Target.Missing e = no-words ZeroLength.End
       at (Target.At s) e = by s e (seen n (l .flash) s) refl
-
--- the reply that an answer is, or else another
-abbrev replyIn : Answer → Reply → Reply
-replyIn (Answer.Refused x) r = r
-replyIn Answer.Started r = r
-replyIn (Answer.Reply x) r = x
-replyIn (Answer.Ask a) r = r
-replyIn Answer.Waiting r = r
-replyIn (Answer.Erased count) r = r
 
 hands-out : (n : Node) (clock link bc : ℕ) (errors : Bool) (packet : List ℕ) (l : Lent) (r : Reply) → isCommand 0x05 packet ≡ true
     → requestOf n clock link bc errors packet l .turn .answer ≡ Answer.Reply r → 0 < r .words

@@ -22,8 +22,8 @@ use Rattle.flash.specs.declared.Target.{Target}
 use Rattle.flash.proofs.Statuses.{status-quiet, status-good}
 use Rattle.flash.proofs.Kept.{kept-true}
 use Rattle.flash.proofs.Searches.{found-told}
-use Rattle.group.specs.declared.ZeroLength.{ZeroLength}
 use Rattle.memory.specs.Segment.{Memories}
+use Rattle.group.specs.declared.ZeroLength.{ZeroLength}
 use Rattle.node.specs.Effect.{Lent, lent, says, answers, Outcome, ownOutcome}
 use Rattle.node.specs.Settings.{statusIn}
 use Rattle.node.specs.Files.{isErasing, namedBy, seen, readBy, readAt, readOf, placedFor, writeAt, writeOf}
@@ -34,10 +34,10 @@ use Rattle.node.specs.declared.Node.{Node}
 use Rattle.node.specs.declared.Verdict.{Verdict}
 use Rattle.node.proofs.Why.{request-why, placed-tells}
 use Rattle.demands.specs.Machine.{Call, logodwen, flashOf}
-use Rattle.demands.specs.Requests.{isCommand}
+use Rattle.demands.specs.Requests.{end, isCommand}
 use Rattle.demands.specs.Flash.{erasingSite}
-use Rattle.demands.specs.Files.{end, fileName, setsAttribute, Runs, ReadsBack}
-use Rattle.demands.proofs.Verdicts.{verdictOn, requestEffect}
+use Rattle.demands.specs.Files.{fileName, setsAttribute, Runs, ReadsBack}
+use Rattle.demands.proofs.Taken.{verdictOn, requestEffect}
 use Rattle.demands.proofs.Commands.{command-told, not-end, ended-own, delivered-own}
 use Rattle.demands.proofs.Sound.{Sound, call-keeps, refused-same, reached-sound}
 use Rattle.demands.proofs.NoStaleRecord.{data-front}

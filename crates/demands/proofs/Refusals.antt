@@ -7,7 +7,7 @@ use mathlib.Core.List.{List, [], _∷_}
 use native.Mathlib.Omega.{arith}
 use lib.ListN.{length, getD}
 use lib.Dec.{ltb, leb, eqb}
-use borrow.Author.Tests.{lt-ltb, eq-eqb}
+use borrow.Author.Tests.{lt-ltb, eqb-false}
 use Rattle.base.specs.Pick.{pick}
 use Rattle.flash.specs.Geometry.{isSector, sizeOf}
 use Rattle.flash.specs.declared.Erasing.{Erasing}
@@ -28,11 +28,12 @@ use Rattle.node.specs.declared.Pending.{Pending}
 use Rattle.node.specs.declared.Refusal.{Refusal}
 use Rattle.node.specs.declared.Verdict.{Verdict}
 use Rattle.node.proofs.Ranges.{and-both, mask-below, ranges-told}
+use Rattle.node.proofs.Verdicts.{request-fine, reply-fine, poll-fine, erase-fine}
 use Rattle.demands.specs.Machine.{logodwen, Call, turnOf, isRefused}
 use Rattle.demands.specs.Reached.{Reached}
 use Rattle.demands.specs.Refusals.{numberOf, Cause, FirstOf, FlashSize, ErasingIn, AskIn, GatheringIn, PendingIn, IsState, IsPending, IsAsked, startCauses, requestCauses, replyCauses, pollCauses, eraseCauses, Exactly, Unchanged, RefusedExactly, NeverRefusedBy5, ZerosRefused}
 use Rattle.demands.proofs.Tests.{Tells, leb-tells, ltb-tells, eqb-tells, yes-tells, no-tells, and-tells, or-tells, not-tells, same-tells}
-use Rattle.demands.proofs.Verdicts.{verdictOn, requestEffect, request-fine, reply-fine, poll-fine, erase-fine, request-taken, reply-taken, poll-taken}
+use Rattle.demands.proofs.Taken.{verdictOn, requestEffect, request-taken, reply-taken, poll-taken, judged-unchanged}
 use Rattle.demands.proofs.Sound.{reached-sound}
 
 -- the tests of a state
@@ -153,10 +154,6 @@ judged-number : (v : Verdict) (n : Node) (l : Lent) (e : Effect) → isRefused (
 judged-number Verdict.Fine n l e h = done-number (e .answer) h
 judged-number (Verdict.No r) n l e h = refl
 
-judged-unchanged : (v : Verdict) (n : Node) (l : Lent) (e : Effect) → isRefused (e .answer) ≡ false → Unchanged (judged v n l e) n l
-judged-unchanged Verdict.Fine n l e t h = absurd (false≢true (sym t ∙ h))
-judged-unchanged (Verdict.No r) n l e t h = (refl, refl)
-
 numbered : (a : Answer) (tests : List Test) (causes : List Cause) → numberOf a ≡ verdictNumber (firstOf tests) → Decides tests causes → Exactly causes a
 numbered a tests causes e d i = let q = first-is tests causes d i in (λ h. q .0 (sym e ∙ h), λ h. e ∙ q .1 h)
 
@@ -255,24 +252,21 @@ first-none [] i n e = n e
 first-none (c ∷ causes) i n (inl h) = n .0 (h .0) (h .1)
 first-none (c ∷ causes) i n (inr h) = first-none causes i (n .1) (h .1)
 
-differs : (k : ℕ) → eqb k 5 ≡ false → k ≡ 5 → ⊥
-differs k h e = false≢true (sym h ∙ eq-eqb k 5 e)
-
 other : {A : Type 0} (k : ℕ) → eqb k 5 ≡ false → k ≡ 5 → A → ⊥
-other k h e a = differs k h e
+other k h e a = eqb-false k 5 h e
 
 not-5 : (n : Node) → IsState n → (c : Call) (flash : List ℕ) → numberOf (turnOf logodwen c n flash .answer) ≡ 5 → ⊥
 not-5 n s (Call.Start kind ports subdetector program version tests clock) flash h =
-    first-none (startCauses kind ports subdetector flash) 5 (other 1 refl, (other 4 refl, differs 0 refl)) (start-exactly kind ports subdetector program version tests clock flash .0 5 .0 h)
+    first-none (startCauses kind ports subdetector flash) 5 (other 1 refl, (other 4 refl, eqb-false 0 5 refl)) (start-exactly kind ports subdetector program version tests clock flash .0 5 .0 h)
 not-5 n s (Call.Request clock link bc errors packet m reply) flash h =
-    first-none (requestCauses n link packet (lent flash m reply)) 5 (other 1 refl, (other 2 refl, (other 3 refl, (other 4 refl, (λ e k. k s, (other 6 refl, differs 0 refl))))))
+    first-none (requestCauses n link packet (lent flash m reply)) 5 (other 1 refl, (other 2 refl, (other 3 refl, (other 4 refl, (λ e k. k s, (other 6 refl, eqb-false 0 5 refl))))))
     (request-exactly n clock link bc errors packet (lent flash m reply) .0 5 .0 h)
 not-5 n s (Call.Reply clock slave bc errors status address words reply) flash h =
-    first-none (replyCauses n slave reply) 5 (other 2 refl, (other 4 refl, (λ e k. k s, (other 7 refl, differs 0 refl)))) (reply-exactly n clock slave bc errors status address words reply .0 5 .0 h)
+    first-none (replyCauses n slave reply) 5 (other 2 refl, (other 4 refl, (λ e k. k s, (other 7 refl, eqb-false 0 5 refl)))) (reply-exactly n clock slave bc errors status address words reply .0 5 .0 h)
 not-5 n s (Call.Poll clock reply) flash h =
-    first-none (pollCauses n reply) 5 (other 2 refl, (λ e k. k s, (other 7 refl, differs 0 refl))) (poll-exactly n clock reply .0 5 .0 h)
+    first-none (pollCauses n reply) 5 (other 2 refl, (λ e k. k s, (other 7 refl, eqb-false 0 5 refl))) (poll-exactly n clock reply .0 5 .0 h)
 not-5 n s (Call.Erase budget) flash h =
-    first-none (eraseCauses n flash) 5 (other 1 refl, (λ e k. k s, differs 0 refl)) (erase-exactly n budget flash .0 5 .0 h)
+    first-none (eraseCauses n flash) 5 (other 1 refl, (λ e k. k s, eqb-false 0 5 refl)) (erase-exactly n budget flash .0 5 .0 h)
 
 reached-state : (n : Node) (flash : List ℕ) → Reached logodwen n flash → IsState n
 reached-state n flash r = state-tells n .told (ranges-told n (reached-sound r .valid .ranges))

@@ -5,7 +5,8 @@ use Rattle.memory.specs.Command.{Read, Written, Performed}
 use Rattle.memory.specs.Load.{Loaded}
 use Rattle.group.specs.Fragment.{Assembly}
 use Rattle.group.specs.Ending.{Sent}
-use Rattle.demands.specs.Settled.{BaseSettled, FcsSettled, ImageSettled, FlashSettled, MemorySettled, GroupSettled, NodeSettled, Settled}
+use Rattle.node.specs.Effect.{Outcome}
+use Rattle.demands.specs.Settled.{BaseSettled, FcsSettled, ImageSettled, FlashSettled, MemorySettled, GroupSettled, ReportSettled, NodeSettled, Settled}
 
 pub base-settled : BaseSettled
 base-settled =
@@ -106,20 +107,37 @@ group-settled =
       judge-has-room = λ κs given x y v w p q. (p ∙ sym q, refl);
       judge-kind-of = λ κs given x y v w p q. (p ∙ sym q, refl);
       judge-tally-number = λ κs given x y v w p q. (p ∙ sym q, refl);
+      slaves-ticks-since = λ κs given x y v w p q. (p ∙ sym q, refl);
       slaves-is-late = λ κs given x y v w p q. (p ∙ sym q, refl);
       slaves-first-slave = λ κs given x y v w p q. (p ∙ sym q, refl);
       slaves-next-slave = λ κs given x y v w p q. (p ∙ sym q, refl);
       slaves-slaves-above = λ κs given x y v w p q. (p ∙ sym q, refl);
     }
 
+pub report-settled : ReportSettled
+report-settled =
+    record {
+      count = λ κs given x y v w p q. (p ∙ sym q, refl);
+      own-status = λ κs given x y v w p q. (p ∙ sym q, refl);
+      node-status = λ κs given x y v w p q. (p ∙ sym q, refl);
+      attributes = λ κs given x y v w p q. (p ∙ sym q, refl);
+      has-masks = λ κs given x y v w p q. (p ∙ sym q, refl);
+    }
+
 pub node-settled : NodeSettled
 node-settled =
     record {
+      start = λ κs given x y v w p q. (p ∙ sym q, refl);
+      request = λ κs given x y v w p q. (ap (λ (o : Outcome). o .turn) (p ∙ sym q), λ i. (v .0, (v .1 .0, (v .1 .1 .0, (v .1 .1 .1 .0, (v .1 .1 .1 .1 .0, (v .1 .1 .1 .1 .1 .0, ((p ∙ sym q) i .after .flash, ((p ∙ sym q) i .after .memories .pm, ((p ∙ sym q) i .after .memories .dm, ((p ∙ sym q) i .after .memories .io, ((p ∙ sym q) i .after .reply, v .1 .1 .1 .1 .1 .1 .1 .1 .1 .1 .1))))))))))));
+      reply = λ κs given x y v w p q. (ap (λ (o : Outcome). o .turn) (p ∙ sym q), λ i. (v .0, (v .1 .0, (v .1 .1 .0, (v .1 .1 .1 .0, (v .1 .1 .1 .1 .0, (v .1 .1 .1 .1 .1 .0, (v .1 .1 .1 .1 .1 .1 .0, (v .1 .1 .1 .1 .1 .1 .1 .0, ((p ∙ sym q) i .after .reply, v .1 .1 .1 .1 .1 .1 .1 .1 .1))))))))));
+      poll = λ κs given x y v w p q. (ap (λ (o : Outcome). o .turn) (p ∙ sym q), λ i. (v .0, (v .1 .0, ((p ∙ sym q) i .after .reply, v .1 .1 .1))));
+      erase = λ κs given x y v w p q. (ap (λ (o : Outcome). o .turn) (p ∙ sym q), λ i. (v .0, (v .1 .0, ((p ∙ sym q) i .after .flash, v .1 .1 .1))));
       refusals-request-verdict = λ κs given x y v w p q. (p ∙ sym q, refl);
       refusals-reply-verdict = λ κs given x y v w p q. (p ∙ sym q, refl);
       refusals-poll-verdict = λ κs given x y v w p q. (p ∙ sym q, refl);
       refusals-erase-verdict = λ κs given x y v w p q. (p ∙ sym q, refl);
       refusals-start-verdict = λ κs given x y v w p q. (p ∙ sym q, refl);
+      routing-word-at = λ κs given x y v w p q. (p ∙ sym q, refl);
       routing-route-of = λ κs given x y v w p q. (p ∙ sym q, refl);
       valid-size-ok = λ κs given x y v w p q. (p ∙ sym q, refl);
       valid-kind-ok = λ κs given x y v w p q. (p ∙ sym q, refl);
@@ -136,5 +154,6 @@ settled =
       flash = flash-settled;
       memory = memory-settled;
       group = group-settled;
+      report = report-settled;
       node = node-settled;
     }

@@ -9,7 +9,7 @@ use borrow.Author.Tests.{ne-eqb, eqb-true, eqb-false}
 use Rattle.base.specs.Pick.{pick}
 use Rattle.base.proofs.Pick.{pick-case}
 use Rattle.group.specs.Slaves.{hasSlave, slavesFrom, slavesOf}
-use Rattle.demands.specs.Groups.{ComesBefore, Ascending, isAmong, Exactly}
+use Rattle.demands.specs.Groups.{ComesBefore, Ascending, isAmong, ExactlyThose}
 
 before-from : (n b set s : ℕ) → s < b → ComesBefore s (slavesFrom n b set)
 unfolding slavesFrom
@@ -51,7 +51,7 @@ members-from (suc n) b set s p q = by (eqb b s) refl (members-from n (b + 1) set
         let r : isAmong rest s ≡ hasSlave set s = next (omega arith) (omega arith) in
         pick-case (λ (x : List ℕ). isAmong x s ≡ hasSlave set s) (hasSlave set b) (λ t. passed b s rest e ∙ r) (λ t. r)
 
-pub slaves-exactly : (set : ℕ) → Exactly set (slavesOf set)
+pub slaves-exactly : (set : ℕ) → ExactlyThose set (slavesOf set)
 slaves-exactly set =
     record {
       ascending = ascending-from 24 0 set;

@@ -8,8 +8,8 @@ use lib.ListN.{length}
 use lib.Dec.{leb, eqb}
 use borrow.Author.Tests.{le-leb}
 use Rattle.base.specs.Pick.{pick}
-use Rattle.base.proofs.Pick.{yes, pick-case, and-right}
 use Rattle.base.specs.Words.{Below}
+use Rattle.base.proofs.Pick.{yes, pick-case, and-right}
 use Rattle.flash.specs.Geometry.{unitOf}
 use Rattle.flash.specs.Change.{erased, erasingAfter}
 use Rattle.flash.specs.declared.Erasing.{Erasing}
@@ -27,9 +27,10 @@ use Rattle.node.specs.declared.Verdict.{Verdict}
 use Rattle.node.proofs.Why.{Quiet, request-why, reply-quiet, poll-quiet}
 use Rattle.node.proofs.Directories.{Fresh, why-fresh, step-fresh}
 use Rattle.node.proofs.Ranges.{and-both, Ranges, size-some, why-erasing, step-erasing, sets-mode, sets-masks, request-pending, reply-pending, poll-pending}
+use Rattle.node.proofs.Verdicts.{request-fine, reply-fine, poll-fine, start-fine}
 use Rattle.demands.specs.Machine.{Call, logodwen, turnOf, flashOf, isRefused}
 use Rattle.demands.specs.Reached.{Lends16, stateAfter, Reached}
-use Rattle.demands.proofs.Verdicts.{verdictOn, requestEffect, request-fine, reply-fine, poll-fine, start-fine, request-taken, reply-taken, poll-taken}
+use Rattle.demands.proofs.Taken.{verdictOn, requestEffect, request-taken, reply-taken, poll-taken, judged-unchanged}
 
 -- no change changes the size of the flash
 pub change-size : (c : Change) (e : Erasing) (flash : List ℕ) → length (flashAfter c e flash) ≡ length flash
@@ -210,17 +211,13 @@ call-keeps (Call.Poll clock reply) n flash b = poll-keeps clock reply n flash
 call-keeps (Call.Erase budget) n flash b = erase-keeps budget n flash
 
 -- a refused call leaves the host with the state it had
-judged-same : (v : Verdict) (n : Node) (l : Lent) (e : Effect) → isRefused (e .answer) ≡ false → isRefused (judged v n l e .turn .answer) ≡ true → judged v n l e .turn .node ≡ n
-judged-same Verdict.Fine n l e t h = absurd (false≢true (sym t ∙ h))
-judged-same (Verdict.No r) n l e t h = refl
-
 pub refused-same : (c : Call) (n : Node) (flash : List ℕ) → isRefused (turnOf logodwen c n flash .answer) ≡ true → stateAfter logodwen c n flash ≡ n
 unfolding requestOf replyOf pollOf eraseOf
 refused-same (Call.Start kind ports subdetector program version tests clock) n flash h = sym (yes _ h refl)
-refused-same (Call.Request clock link bc errors packet m reply) n flash h = judged-same (verdictOn n link packet (lent flash m reply)) n (lent flash m reply) (requestEffect n clock link bc errors packet (lent flash m reply)) (request-taken n clock link bc errors packet (lent flash m reply)) h
-refused-same (Call.Reply clock slave bc errors status address words reply) n flash h = judged-same (replyVerdict n slave (length reply)) n (lentReply reply) (replyEffect n clock errors status address bc words reply) (reply-taken n clock errors status address bc words reply) h
-refused-same (Call.Poll clock reply) n flash h = judged-same (pollVerdict n (length reply)) n (lentReply reply) (pollEffect n clock reply) (poll-taken n clock reply) h
-refused-same (Call.Erase budget) n flash h = judged-same (eraseVerdict n (length flash)) n (lentFlash flash) (eraseEffect n budget flash) refl h
+refused-same (Call.Request clock link bc errors packet m reply) n flash h = judged-unchanged (verdictOn n link packet (lent flash m reply)) n (lent flash m reply) (requestEffect n clock link bc errors packet (lent flash m reply)) (request-taken n clock link bc errors packet (lent flash m reply)) h .0
+refused-same (Call.Reply clock slave bc errors status address words reply) n flash h = judged-unchanged (replyVerdict n slave (length reply)) n (lentReply reply) (replyEffect n clock errors status address bc words reply) (reply-taken n clock errors status address bc words reply) h .0
+refused-same (Call.Poll clock reply) n flash h = judged-unchanged (pollVerdict n (length reply)) n (lentReply reply) (pollEffect n clock reply) (poll-taken n clock reply) h .0
+refused-same (Call.Erase budget) n flash h = judged-unchanged (eraseVerdict n (length flash)) n (lentFlash flash) (eraseEffect n budget flash) refl h .0
 
 first-sound : (kind ports subdetector program version tests clock : ℕ) (flash : List ℕ) → isRefused (startOf kind ports subdetector program version tests clock flash .answer) ≡ false
     → Sound (startOf kind ports subdetector program version tests clock flash .node) flash

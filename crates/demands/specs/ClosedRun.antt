@@ -5,14 +5,14 @@ use mathlib.Core.Path.{_≡_}
 use mathlib.Core.Bool.{false}
 use mathlib.Core.List.{List, [], _∷_, _++_}
 use lib.ListN.{take, replicate}
-use Rattle.group.specs.Ending.{replied}
 use Rattle.memory.specs.Segment.{memories}
+use Rattle.group.specs.Ending.{replied}
 use Rattle.node.specs.Effect.{Outcome, Lent, lent}
 use Rattle.node.specs.declared.Answer.{Answer}
 use Rattle.node.specs.declared.Turn.{Turn}
 use Rattle.demands.specs.Machine.{Machine}
+use Rattle.demands.specs.Requests.{end}
 use Rattle.demands.specs.Anchors.{blank, file}
-use Rattle.demands.specs.Files.{end}
 
 -- No memories, and a reply buffer of zeros.
 abbrev pub with : List ℕ → Lent

@@ -7,9 +7,9 @@ use mathlib.Core.List.{List, [], _∷_, _++_}
 use lib.Dec.{eqb}
 use lib.ListN.{length}
 use Rattle.base.specs.Pick.{pick}
+use Rattle.memory.specs.Segment.{Memories}
 use Rattle.group.specs.Time.{isLate}
 use Rattle.group.specs.Kind.{answer, Answer as SlaveAnswer}
-use Rattle.memory.specs.Segment.{Memories}
 use Rattle.node.specs.Refusals.{isPending}
 use Rattle.node.specs.Route.{bcOf}
 use Rattle.node.specs.Effect.{lent, Outcome}

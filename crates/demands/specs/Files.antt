@@ -18,26 +18,18 @@ use Rattle.flash.specs.Search.{isNamed}
 use Rattle.flash.specs.declared.Erasing.{Erasing}
 use Rattle.flash.specs.declared.Found.{Found}
 use Rattle.flash.specs.declared.Target.{Target}
-use Rattle.group.specs.Ending.{replied, zeroReply}
-use Rattle.group.specs.declared.Reply.{Reply}
-use Rattle.group.specs.declared.ZeroLength.{ZeroLength}
 use Rattle.memory.specs.Segment.{Memories}
+use Rattle.group.specs.Ending.{replied}
+use Rattle.group.specs.declared.Reply.{Reply}
 use Rattle.node.specs.State.{turn, faulted}
 use Rattle.node.specs.Effect.{Outcome, outcome, Lent, lent}
 use Rattle.node.specs.Files.{namedBy, placedFor}
 use Rattle.node.specs.declared.Answer.{Answer}
 use Rattle.node.specs.declared.Node.{Node}
 use Rattle.demands.specs.Machine.{Machine, Call, turnOf, flashOf, isRefused}
-use Rattle.demands.specs.Requests.{Delivered, isCommand}
+use Rattle.demands.specs.Requests.{end, abort, Delivered, isCommand}
 use Rattle.demands.specs.Reached.{Lends16, stateAfter, Reached}
 use Rattle.demands.specs.Flash.{erasingSite}
-
--- END and ABORT.
-abbrev pub end : Answer
-end = Answer.Reply (zeroReply ZeroLength.End)
-
-abbrev pub abort : Answer
-abort = Answer.Reply (zeroReply ZeroLength.Abort)
 
 -- A valid and exact file.
 abbrev pub IsFile : List ℕ → Type 0
@@ -93,8 +85,10 @@ pub record Spares (M : Machine) (s name : ℕ) (c : Call) (n : Node) (flash : Li
 -- whatever flash they were lent.
 pub data Runs (M : Machine) (s name : ℕ) (n : Node) (flash : List ℕ) : Node → List ℕ → Type 0 where
   Here : Runs M s name n flash n flash
-  Then : {m : Node} {after : List ℕ} → Runs M s name n flash m after → (c : Call) → Lends16 c → Spares M s name c m after → Runs M s name n flash (stateAfter M c m after) (flashOf M c m after)
-  Refused : {m : Node} {after : List ℕ} → Runs M s name n flash m after → (c : Call) (other : List ℕ) → isRefused (turnOf M c m other .answer) ≡ true → Runs M s name n flash (stateAfter M c m other) after
+  Then : {m : Node} {after : List ℕ} → Runs M s name n flash m after → (c : Call) → Lends16 c → Spares M s name c m after
+      → Runs M s name n flash (stateAfter M c m after) (flashOf M c m after)
+  Refused : {m : Node} {after : List ℕ} → Runs M s name n flash m after → (c : Call) (other : List ℕ) → isRefused (turnOf M c m other .answer) ≡ true
+      → Runs M s name n flash (stateAfter M c m other) after
 
 -- In a state reached, a File Write that put its file into sector s and was answered END; then any calls that spare it; then a File Read
 -- of its name, with no erasure in progress, answers the very words, of files up to 12,286 words.

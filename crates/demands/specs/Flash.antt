@@ -1,5 +1,5 @@
--- Demand 3, of the flash: a call changes words of one file sector at most, the one named, placed or being erased; no bit goes from 0
--- to 1 but by erasing; and an erasure sets what it counts, all of its sector and nothing else. 01 'Flash'. Assumes nothing.
+-- Demands 2 and 3, of the flash: a call changes words of one file sector at most, the one named, placed or being erased; no bit goes
+-- from 0 to 1 but by erasing; and an erasure sets what it counts, all of its sector and nothing else. 01 'Flash'. Assumes nothing.
 use Prim.Native.Nat.{ℕ, min, _+_, _≤_, _<_}
 use mathlib.Core.Path.{_≡_}
 use mathlib.Core.Bool.{Bool, true}
@@ -12,14 +12,12 @@ use Rattle.flash.specs.Status.{isEmpty, progress}
 use Rattle.flash.specs.Change.{restOf, sum, OnlySector, bitOf}
 use Rattle.flash.specs.declared.Erasing.{Erasing}
 use Rattle.flash.specs.declared.Found.{Found}
-use Rattle.group.specs.Ending.{zeroReply}
-use Rattle.group.specs.declared.ZeroLength.{ZeroLength}
 use Rattle.node.specs.Effect.{Outcome, Lent}
 use Rattle.node.specs.Files.{namedBy, placedFor, foundBy, toErase}
 use Rattle.node.specs.declared.Answer.{Answer}
 use Rattle.node.specs.declared.Node.{Node}
 use Rattle.demands.specs.Machine.{Machine, Call, flashOf}
-use Rattle.demands.specs.Requests.{Delivered, isCommand}
+use Rattle.demands.specs.Requests.{end, Delivered, isCommand}
 
 -- The sector that a request may change: where File Write places its file, and the one of the name that Attribute Set is given.
 abbrev pub requestSite : Node → List ℕ → List ℕ → Found
@@ -121,8 +119,8 @@ pub record Begins (M : Machine) (n : Node) (flash packet : List ℕ) (o : Outcom
 -- Any Erase answered END, on any state and flash; and one that names a sector is answered END, unless an erasure is in progress.
 pub record Erases (M : Machine) : Type 0 where
   pub begins : (n : Node) (clock link bc : ℕ) (errors : Bool) (packet : List ℕ) (l : Lent) → isCommand 0x47 packet ≡ true
-      → M .request n clock link bc errors packet l .turn .answer ≡ Answer.Reply (zeroReply ZeroLength.End)
+      → M .request n clock link bc errors packet l .turn .answer ≡ end
       → Begins M n (l .flash) packet (M .request n clock link bc errors packet l)
   pub starts : (n : Node) (clock link bc : ℕ) (errors : Bool) (packet : List ℕ) (l : Lent) (s : ℕ) → isCommand 0x47 packet ≡ true
       → Delivered M n clock link bc errors packet l → length packet ≡ 2 → n .erasing ≡ Erasing.Nothing → toErase n (getD packet 1 0) ≡ Found.At s
-      → M .request n clock link bc errors packet l .turn .answer ≡ Answer.Reply (zeroReply ZeroLength.End)
+      → M .request n clock link bc errors packet l .turn .answer ≡ end

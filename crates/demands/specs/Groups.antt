@@ -148,14 +148,14 @@ isAmong [] s = false
 isAmong (t ∷ ss) s = eqb t s || isAmong ss s
 
 -- Exactly the slaves of a set: 0 to 23, those whose bit is set, ascending.
-pub record Exactly (set : ℕ) (ss : List ℕ) : Type 0 where
+pub record ExactlyThose (set : ℕ) (ss : List ℕ) : Type 0 where
   pub ascending : Ascending ss
   pub members : (s : ℕ) → s < 24 → isAmong ss s ≡ hasSlave set s
   pub others : (s : ℕ) → 24 ≤ s → isAmong ss s ≡ false
 
 -- When every slave has been heard, the slaves asked are those of the set, ascending, each once.
 abbrev pub EachAskedOnce : Machine → Type 0
-EachAskedOnce M = (r : GroupRun M) → AllHeard r → Exactly (setAsked (r .node) (r .packet)) (atLast r .asked)
+EachAskedOnce M = (r : GroupRun M) → AllHeard r → ExactlyThose (setAsked (r .node) (r .packet)) (atLast r .asked)
 
 -- With more to come, the fragments so far stand at the front of the buffer, and the next slave is being asked.
 abbrev pub FragmentsStand : Machine → Type 0

@@ -8,8 +8,8 @@ use lib.ListN.{length, take}
 use Rattle.base.specs.Pick.{pick}
 use Rattle.base.specs.Words.{Below}
 use Rattle.flash.specs.Directory.{directoryOf}
-use Rattle.group.specs.Ending.{replied}
 use Rattle.memory.specs.Segment.{Memories}
+use Rattle.group.specs.Ending.{replied}
 use Rattle.node.specs.Effect.{Outcome, lent}
 use Rattle.node.specs.declared.Answer.{Answer}
 use Rattle.node.specs.declared.Node.{Node}
@@ -40,11 +40,15 @@ stateAfter M (Call.Erase budget) n flash = turnOf M (Call.Erase budget) n flash 
 -- The states reached, each with the flash that it is kept with. Memories, reply buffer, clock and packet are fresh at every call.
 pub data Reached (M : Machine) : Node → List ℕ → Type 0 where
   -- an accepted start, on any flash
-  First : (kind ports subdetector program version tests clock : ℕ) (flash : List ℕ) → isRefused (M .start kind ports subdetector program version tests clock flash .answer) ≡ false → Reached M (M .start kind ports subdetector program version tests clock flash .node) flash
+  First : (kind ports subdetector program version tests clock : ℕ) (flash : List ℕ)
+      → isRefused (M .start kind ports subdetector program version tests clock flash .answer) ≡ false
+      → Reached M (M .start kind ports subdetector program version tests clock flash .node) flash
   -- then any call, lent that state and that flash, accepted or refused
-  Then : {n : Node} {flash : List ℕ} → Reached M n flash → (c : Call) → Lends16 c → Reached M (stateAfter M c n flash) (flashOf M c n flash)
+  Then : {n : Node} {flash : List ℕ} → Reached M n flash → (c : Call) → Lends16 c
+      → Reached M (stateAfter M c n flash) (flashOf M c n flash)
   -- or a call refused, whatever flash it was lent
-  Refused : {n : Node} {flash : List ℕ} → Reached M n flash → (c : Call) (other : List ℕ) → isRefused (turnOf M c n other .answer) ≡ true → Reached M (stateAfter M c n other) flash
+  Refused : {n : Node} {flash : List ℕ} → Reached M n flash → (c : Call) (other : List ℕ) → isRefused (turnOf M c n other .answer) ≡ true
+      → Reached M (stateAfter M c n other) flash
 
 -- No stale record: the directory kept is the one worked out afresh.
 abbrev pub NoStaleRecord : Machine → Type 0

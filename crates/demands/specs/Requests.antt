@@ -1,14 +1,25 @@
--- Requests that come to a command: the condition under which the demands speak of one. 01 'Requests'. Assumes nothing.
+-- Requests that come to a command, the condition under which the demands speak of one, and the answers END and ABORT. 01 'Requests'.
+-- Assumes nothing.
 use Prim.Native.Nat.{ℕ, _%_, _≤_}
 use mathlib.Core.Path.{_≡_}
 use mathlib.Core.Bool.{Bool, false, _&&_}
 use mathlib.Core.List.{List}
 use lib.ListN.{length, getD}
 use lib.Dec.{eqb}
+use Rattle.group.specs.Ending.{zeroReply}
+use Rattle.group.specs.declared.ZeroLength.{ZeroLength}
 use Rattle.node.specs.Effect.{Lent}
 use Rattle.node.specs.Route.{firstByte, secondByte}
+use Rattle.node.specs.declared.Answer.{Answer}
 use Rattle.node.specs.declared.Node.{Node}
 use Rattle.demands.specs.Machine.{Machine, isRefused}
+
+-- END and ABORT.
+abbrev pub end : Answer
+end = Answer.Reply (zeroReply ZeroLength.End)
+
+abbrev pub abort : Answer
+abort = Answer.Reply (zeroReply ZeroLength.Abort)
 
 -- A request that no refusal and none of steps 1 to 3 answers: no receive errors, 1 to 8,192 words, BC 11.
 pub record Delivered (M : Machine) (n : Node) (clock link bc : ℕ) (errors : Bool) (packet : List ℕ) (l : Lent) : Type 0 where

@@ -12,6 +12,7 @@ use Rattle.image.proofs as Image
 use Rattle.flash.proofs as Flash
 use Rattle.memory.proofs as Memory
 use Rattle.group.proofs as Group
+use Rattle.report.proofs as Report
 use Rattle.node.proofs as Node
 
 -- Whatever a function is given and lent, any two results that its statement allows are the same: what it returns, in a given sense,
@@ -115,18 +116,33 @@ pub record GroupSettled : Type 0 where
   pub judge-has-room : Settles Group.judge.has_room.Kinds.ps Group.judge.has_room.Kinds.r Group.judge.has_room.Reads.Learnt
   pub judge-kind-of : Settles Group.judge.kind_of.Kinds.ps Group.judge.kind_of.Kinds.r Group.judge.kind_of.Reads.Learnt
   pub judge-tally-number : Settles Group.judge.tally_number.Kinds.ps Group.judge.tally_number.Kinds.r Group.judge.tally_number.Reads.Learnt
+  pub slaves-ticks-since : Settles Group.slaves.ticks_since.Kinds.ps Group.slaves.ticks_since.Kinds.r Group.slaves.ticks_since.Reads.Learnt
   pub slaves-is-late : Settles Group.slaves.is_late.Kinds.ps Group.slaves.is_late.Kinds.r Group.slaves.is_late.Reads.Learnt
   pub slaves-first-slave : Settles Group.slaves.first_slave.Kinds.ps Group.slaves.first_slave.Kinds.r Group.slaves.first_slave.Reads.Learnt
   pub slaves-next-slave : Settles Group.slaves.next_slave.Kinds.ps Group.slaves.next_slave.Kinds.r Group.slaves.next_slave.Reads.Learnt
   pub slaves-slaves-above : Settles Group.slaves.slaves_above.Kinds.ps Group.slaves.slaves_above.Kinds.r Group.slaves.slaves_above.Reads.Learnt
 
--- The node.
+-- What a node reports of itself.
+pub record ReportSettled : Type 0 where
+  pub count : Settles Report.count.Kinds.ps Report.count.Kinds.r Report.count.Reads.Learnt
+  pub own-status : Settles Report.own_status.Kinds.ps Report.own_status.Kinds.r Report.own_status.Reads.Learnt
+  pub node-status : Settles Report.node_status.Kinds.ps Report.node_status.Kinds.r Report.node_status.Reads.Learnt
+  pub attributes : Settles Report.attributes.Kinds.ps Report.attributes.Kinds.r Report.attributes.Reads.Learnt
+  pub has-masks : Settles Report.has_masks.Kinds.ps Report.has_masks.Kinds.r Report.has_masks.Reads.Learnt
+
+-- The node: the five calls, and the parts that decide before anything is done.
 pub record NodeSettled : Type 0 where
+  pub start : Settles Node.Node.start.Kinds.ps Node.Node.start.Kinds.r Node.Node.start.Reads.Learnt
+  pub request : Settles Node.Node.request.Kinds.ps Node.Node.request.Kinds.r Node.Node.request.Reads.Learnt
+  pub reply : Settles Node.Node.reply.Kinds.ps Node.Node.reply.Kinds.r Node.Node.reply.Reads.Learnt
+  pub poll : Settles Node.Node.poll.Kinds.ps Node.Node.poll.Kinds.r Node.Node.poll.Reads.Learnt
+  pub erase : Settles Node.Node.erase.Kinds.ps Node.Node.erase.Kinds.r Node.Node.erase.Reads.Learnt
   pub refusals-request-verdict : Settles Node.refusals.request_verdict.Kinds.ps Node.refusals.request_verdict.Kinds.r Node.refusals.request_verdict.Reads.Learnt
   pub refusals-reply-verdict : Settles Node.refusals.reply_verdict.Kinds.ps Node.refusals.reply_verdict.Kinds.r Node.refusals.reply_verdict.Reads.Learnt
   pub refusals-poll-verdict : Settles Node.refusals.poll_verdict.Kinds.ps Node.refusals.poll_verdict.Kinds.r Node.refusals.poll_verdict.Reads.Learnt
   pub refusals-erase-verdict : Settles Node.refusals.erase_verdict.Kinds.ps Node.refusals.erase_verdict.Kinds.r Node.refusals.erase_verdict.Reads.Learnt
   pub refusals-start-verdict : Settles Node.refusals.start_verdict.Kinds.ps Node.refusals.start_verdict.Kinds.r Node.refusals.start_verdict.Reads.Learnt
+  pub routing-word-at : Settles Node.routing.word_at.Kinds.ps Node.routing.word_at.Kinds.r Node.routing.word_at.Reads.Learnt
   pub routing-route-of : Settles Node.routing.route_of.Kinds.ps Node.routing.route_of.Kinds.r Node.routing.route_of.Reads.Learnt
   pub valid-size-ok : Settles Node.valid.size_ok.Kinds.ps Node.valid.size_ok.Kinds.r Node.valid.size_ok.Reads.Learnt
   pub valid-kind-ok : Settles Node.valid.kind_ok.Kinds.ps Node.valid.kind_ok.Kinds.r Node.valid.kind_ok.Reads.Learnt
@@ -141,4 +157,5 @@ pub record Settled : Type 0 where
   pub flash : FlashSettled
   pub memory : MemorySettled
   pub group : GroupSettled
+  pub report : ReportSettled
   pub node : NodeSettled

@@ -5,7 +5,7 @@ pub mod Loads
 pub mod Masks
 pub mod Hearing
 pub mod Access
-pub mod Taken
+pub mod Verdicts
 pub mod Blanks
 pub mod Routes
 pub mod Why

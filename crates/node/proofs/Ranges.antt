@@ -175,7 +175,7 @@ module _ (ports : ℕ) (n : Node) (clock : ℕ) (h : Heard) (words reply : List 
     abbrev from : Bool
     from = eqb (g .from) 1 || eqb (g .from) 2
 
-    gathers-pending : pendingOk ports (gathers n a g clock h words reply .pending) ≡ true
+    pub gathers-pending : pendingOk ports (gathers n a g clock h words reply .pending) ≡ true
     gathers-pending = by yet refl
       where
         by : (ss : List ℕ) → yet ≡ ss → pendingOk ports (goesOn n a g clock after (nextOf ss) .pending) ≡ true

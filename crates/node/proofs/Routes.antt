@@ -1,11 +1,12 @@
 -- What a request's route tells of its packet: to show something of every route, show it of each kind. Assumes nothing.
 use Prim.Native.Nat.{ℕ, _≤_}
-use mathlib.Core.Path.{_≡_, refl}
-use mathlib.Core.Bool.{Bool, _&&_, _||_, not}
-use mathlib.Core.List.{List}
+use mathlib.Core.Path.{_≡_, refl, sym, ap, _∙_}
+use mathlib.Core.Bool.{Bool, true, false, _&&_, _||_, not, false≢true}
+use mathlib.Core.List.{List, [], _∷_}
+use native.Mathlib.Omega.{arith}
 use lib.ListN.{length, getD}
 use lib.Dec.{ltb, leb, eqb}
-use borrow.Author.Tests.{leb-true, eqb-true}
+use borrow.Author.Tests.{leb-true, eqb-true, eqb-false}
 use Rattle.base.proofs.Pick.{pick-case}
 use Rattle.group.specs.Slaves.{slavesOf, nextOf}
 use Rattle.group.specs.declared.Next.{Next}
@@ -17,6 +18,11 @@ use Rattle.node.specs.declared.Route.{Route}
 pub record Command (packet : List ℕ) (id : ℕ) : Type 0 where
   pub own : firstByte (getD packet 0 0) ≡ 0x2E
   pub number : secondByte (getD packet 0 0) ≡ id
+
+-- .. which is there
+pub command-words : (packet : List ℕ) (id : ℕ) → Command packet id → 1 ≤ length packet
+command-words [] id c = absurd (eqb-false 0 0x2E refl (c .own))
+command-words (w ∷ packet) id c = omega arith
 
 -- the slaves that a group request names, and the word from which it is sent on
 pub data Named (masks packet : List ℕ) : ℕ → ℕ → Type 0 where
@@ -58,3 +64,22 @@ module _ (P : Route → Type 0) (n : Node) (link bc : ℕ) (errors : Bool) (pack
       pick-case P errors (λ _. wrong)
       (λ _. pick-case P (eqb (length packet) 0) (λ e. pick-case P (drops (n .pending) link bc) (λ _. dropped (eqb-true (length packet) 0 e)) (λ _. unserved))
       (λ _. pick-case P (ltb 8192 (length packet) || not (eqb (bcOf bc) 3)) (λ _. wrong) (λ _. addressed-case)))
+
+-- so the node's own command has a word
+isOwn : Route → Bool
+isOwn Route.Wrong = false
+isOwn Route.Unserved = false
+isOwn Route.Dropped = false
+isOwn (Route.Slave a) = false
+isOwn (Route.Group a set) = false
+isOwn (Route.Own id) = true
+
+pub own-words : (n : Node) (link bc : ℕ) (errors : Bool) (packet : List ℕ) (id : ℕ) → routeOf n link bc errors packet ≡ Route.Own id → 1 ≤ length packet
+unfolding isOwn
+own-words n link bc errors packet id =
+    route-case (λ r. r ≡ Route.Own id → 1 ≤ length packet) n link bc errors packet (other Route.Wrong refl) (other Route.Unserved refl)
+    (λ _. other Route.Dropped refl) (λ i c _. command-words packet i c) (λ s _. other (Route.Slave (asking s 1)) refl)
+    (λ set from s _ _. other (Route.Group (asking s from) set) refl)
+  where
+    other : (r : Route) → isOwn r ≡ false → r ≡ Route.Own id → 1 ≤ length packet
+    other r h e = absurd (false≢true (sym h ∙ ap isOwn e))

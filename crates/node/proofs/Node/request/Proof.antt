@@ -9,7 +9,8 @@ use Rattle.node.specs.declared.Turn.{Turn}
 use Rattle.node.specs.declared.Verdict.{Verdict}
 use Rattle.node.specs.Calls.{judged, routed, requestOf, given}
 use Rattle.node.specs.Route.{routeOf}
-use Rattle.node.proofs.Taken.{request-room, own-words}
+use Rattle.node.proofs.Routes.{own-words}
+use Rattle.node.proofs.Verdicts.{request-fine}
 use borrow.Author.Needs.{needs}
 use Rattle.node.proofs.Node.request.Statement.{statement}
 use Rattle.node.proofs.Node.request.Tie as tie
@@ -24,7 +25,7 @@ route-of-requires : tie.Need-route-of-requires
 route-of-requires c κs = search needs
 
 take-request-requires : tie.Need-take-request-requires
-take-request-requires c κs = let s = c .before .before .before .before .before .before .before .before .before .before .before .before .before .before .before .args in let l : Lent = lent (s .flash .now) (memories (s .pm .now) (s .dm .now) (s .io .now)) (s .reply .now) in (λ id e. own-words (s .self) (s .link) (s .bc) (s .errors) (s .packet .now) id (sym (c .before .before .before .before .before .route-of .ensures) ∙ e), request-room (s .self) (s .link) (length (s .packet .now)) (length (s .flash .now)) (length (s .pm .now)) (length (s .dm .now)) (length (s .io .now)) (length (s .reply .now)) (sym (c .before .before .before .before .before .before .before .before .request-verdict .ensures) ∙ c .before .before .before .before .before .before .enum-told .given .1))
+take-request-requires c κs = let s = c .before .before .before .before .before .before .before .before .before .before .before .before .before .before .before .args in let l : Lent = lent (s .flash .now) (memories (s .pm .now) (s .dm .now) (s .io .now)) (s .reply .now) in (λ id e. own-words (s .self) (s .link) (s .bc) (s .errors) (s .packet .now) id (sym (c .before .before .before .before .before .route-of .ensures) ∙ e), request-fine (s .self) (s .link) (length (s .packet .now)) (length (s .flash .now)) (length (s .pm .now)) (length (s .dm .now)) (length (s .io .now)) (length (s .reply .now)) (sym (c .before .before .before .before .before .before .before .before .request-verdict .ensures) ∙ c .before .before .before .before .before .before .enum-told .given .1) .buffer)
 
 enum-known-verdict : tie.Need-enum-known-verdict
 enum-known-verdict c = search needs
