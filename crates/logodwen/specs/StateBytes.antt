@@ -137,9 +137,9 @@ nodeIn bytes =
 -- Two runs of bytes are the same.
 unfoldable pub alike : List ℕ → List ℕ → Bool
 alike [] [] = true
-alike [] (b ∷ bs) = false
-alike (a ∷ as) [] = false
-alike (a ∷ as) (b ∷ bs) = eqb a b && alike as bs
+alike [] (y ∷ ys) = false
+alike (x ∷ xs) [] = false
+alike (x ∷ xs) (y ∷ ys) = eqb x y && alike xs ys
 
 -- Bytes are those of a state: they are 172, they are the very bytes of the node that they stand for, and its state is one of 01's.
 unfoldable pub areState : List ℕ → Bool

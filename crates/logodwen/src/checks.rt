@@ -71,7 +71,8 @@ pub fn request_check(
         return Verdict::No(Refusal::State);
     }
     let node = node_in(state);
-    if node::refusals::is_pending(node.pending) & (1 <= packet) {
+    let pending = node.pending;
+    if node::refusals::is_pending(pending) & (1 <= packet) {
         return Verdict::No(Refusal::Busy);
     }
     Verdict::Fine
@@ -93,7 +94,8 @@ pub fn reply_check(slave: u32, packet: usize, state: &[u8], reply: usize) -> Ver
         return Verdict::No(Refusal::State);
     }
     let node = node_in(state);
-    if !node::refusals::is_asked(node.pending, slave) {
+    let pending = node.pending;
+    if !node::refusals::is_asked(pending, slave) {
         return Verdict::No(Refusal::Unasked);
     }
     Verdict::Fine
@@ -109,7 +111,8 @@ pub fn poll_check(state: &[u8], reply: usize) -> Verdict
         return Verdict::No(Refusal::State);
     }
     let node = node_in(state);
-    if !node::refusals::is_pending(node.pending) {
+    let pending = node.pending;
+    if !node::refusals::is_pending(pending) {
         return Verdict::No(Refusal::Unasked);
     }
     Verdict::Fine

@@ -33,10 +33,12 @@ fn tally_number(tally: Tally) -> u16
 {
     match tally {
         Tally::Nothing => 0,
-        Tally::Zero(ZeroLength::Next) => 1,
-        Tally::Zero(ZeroLength::Abort) => 2,
-        Tally::Zero(ZeroLength::Error) => 3,
-        Tally::Zero(ZeroLength::End) => 4,
+        Tally::Zero(zero) => match zero {
+            ZeroLength::Next => 1,
+            ZeroLength::Abort => 2,
+            ZeroLength::Error => 3,
+            ZeroLength::End => 4,
+        },
         Tally::Whole => 5,
         Tally::Mixed => 6,
     }
@@ -100,7 +102,8 @@ fn wait_of(pending: Pending) -> Wait
         },
         Pending::Group(ask, gathering) => {
             let built = gathering.built;
-            let tally = tally_number(built.tally);
+            let built_tally = built.tally;
+            let tally = tally_number(built_tally);
             Wait {
                 pending: 2,
                 link: ask.link,
@@ -187,8 +190,10 @@ fn put_numbers(node: Node, bytes: &mut [u8])
 {
     let given = node.given;
     let counts = node.counts;
-    let progress = progress_of(node.erasing);
-    let wait = wait_of(node.pending);
+    let erasing = node.erasing;
+    let pending = node.pending;
+    let progress = progress_of(erasing);
+    let wait = wait_of(pending);
     put_first(given, node.mode, counts, bytes);
     put_middle(given, progress, wait, bytes);
     put_last(wait, bytes);

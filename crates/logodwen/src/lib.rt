@@ -73,7 +73,8 @@ pub extern "C" fn logodwen1_start(
         clock,
         flash,
     );
-    encode(turn.node, state);
+    let node = turn.node;
+    encode(node, state);
     0
 }
 
@@ -110,8 +111,10 @@ pub extern "C" fn logodwen1_request(
             let errors = receive_error != 0;
             let turn =
                 on_request(node, clock, link, bc, errors, packet, flash, pm, dm, io, reply);
-            encode(turn.node, state);
-            answer_number(turn.answer)
+            let next = turn.node;
+            let answer = turn.answer;
+            encode(next, state);
+            answer_number(answer)
         }
         Verdict::No(refusal) => refusal_number(refusal) as u64,
     }
@@ -139,8 +142,10 @@ pub extern "C" fn logodwen1_reply(
             let errors = receive_error != 0;
             let turn =
                 on_reply(node, clock, slave, bc, errors, rx_status, rx_address, packet, reply);
-            encode(turn.node, state);
-            answer_number(turn.answer)
+            let next = turn.node;
+            let answer = turn.answer;
+            encode(next, state);
+            answer_number(answer)
         }
         Verdict::No(refusal) => refusal_number(refusal) as u64,
     }
@@ -156,8 +161,10 @@ pub extern "C" fn logodwen1_poll(clock: u32, state: &mut [u8], reply: &mut [u8])
         Verdict::Fine => {
             let node = node_in(state);
             let turn = on_poll(node, clock, reply);
-            encode(turn.node, state);
-            answer_number(turn.answer)
+            let next = turn.node;
+            let answer = turn.answer;
+            encode(next, state);
+            answer_number(answer)
         }
         Verdict::No(refusal) => refusal_number(refusal) as u64,
     }
@@ -173,8 +180,10 @@ pub extern "C" fn logodwen1_erase(budget: u64, state: &mut [u8], flash: &mut [u8
         Verdict::Fine => {
             let node = node_in(state);
             let turn = on_erase(node, budget as usize, flash);
-            encode(turn.node, state);
-            answer_number(turn.answer)
+            let next = turn.node;
+            let answer = turn.answer;
+            encode(next, state);
+            answer_number(answer)
         }
         Verdict::No(refusal) => refusal_number(refusal) as u64,
     }

@@ -1,0 +1,50 @@
+use borrow.Author.Needs.{needs}
+use Rattle.logodwen.proofs.codec.put_numbers.Statement.{statement}
+use Rattle.logodwen.proofs.codec.put_numbers.Tie as tie
+use Rattle.logodwen.proofs.codec.put_numbers.Reads as reads
+use Rattle.logodwen.proofs.codec.put_numbers.Lts as lts
+use Rattle.logodwen.proofs.codec.progress_of.Reads as progress-of-reads
+use Rattle.logodwen.proofs.codec.put_first.Reads as put-first-reads
+use Rattle.logodwen.proofs.codec.put_last.Reads as put-last-reads
+use Rattle.logodwen.proofs.codec.put_middle.Reads as put-middle-reads
+use Rattle.logodwen.proofs.codec.wait_of.Reads as wait-of-reads
+
+-- src/codec.rt:195:9
+progress-of-requires : tie.Need-progress-of-requires
+progress-of-requires c κs = search needs
+
+-- src/codec.rt:196:9
+wait-of-requires : tie.Need-wait-of-requires
+wait-of-requires c κs = search needs
+
+-- src/codec.rt:197:5
+put-first-requires : tie.Need-put-first-requires
+put-first-requires c κs = search needs
+
+-- src/codec.rt:198:5
+put-middle-requires : tie.Need-put-middle-requires
+put-middle-requires c κs = search needs
+
+-- src/codec.rt:199:5
+put-last-requires : tie.Need-put-last-requires
+put-last-requires c κs = search needs
+
+-- src/codec.rt:187:1
+same-length : tie.Need-same-length
+same-length c = search needs
+
+-- src/codec.rt:187:1
+returns : tie.Need-returns
+returns c = ?
+
+pub put-numbers-spec : {M : Type 1} → statement M
+put-numbers-spec =
+    tie.close
+    (tie.spec
+    progress-of-requires
+    wait-of-requires
+    put-first-requires
+    put-middle-requires
+    put-last-requires
+    same-length
+    returns)

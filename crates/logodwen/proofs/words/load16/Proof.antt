@@ -1,0 +1,68 @@
+use Rattle.logodwen.proofs.words.load16.Statement.{statement}
+use Rattle.logodwen.proofs.words.load16.Tie as tie
+use Rattle.logodwen.proofs.words.load16.Reads as reads
+use Rattle.logodwen.proofs.words.load16.Lts as lts
+use Rattle.logodwen.proofs.words.word16.Reads as word16-reads
+
+abbrev Inv-loop : tie.InvT-loop
+Inv-loop bytes words₀ n i₀ words i = ?
+
+abbrev μ-loop : tie.MeasureT-loop
+μ-loop bytes words₀ n i₀ words i = ?
+
+-- src/words.rt:81:5
+loop-holds : tie.Need-loop-holds Inv-loop μ-loop
+loop-holds c = ?
+
+-- src/words.rt:82:34
+mul-word16 : tie.Need-mul-word16 Inv-loop μ-loop
+mul-word16 c = ?
+
+-- src/words.rt:82:20
+word16-requires : tie.Need-word16-requires Inv-loop μ-loop
+word16-requires c κs = ?
+
+-- src/words.rt:82:9
+mul-words : tie.Need-mul-words Inv-loop μ-loop
+mul-words c = ?
+
+-- src/words.rt:82:9
+slice-write-words : tie.Need-slice-write-words Inv-loop μ-loop
+slice-write-words c = ?
+
+-- src/words.rt:83:9
+add-i : tie.Need-add-i Inv-loop μ-loop
+add-i c = ?
+
+-- src/words.rt:81:5
+loop-less : tie.Need-loop-less Inv-loop μ-loop
+loop-less c = ?
+
+-- src/words.rt:81:5
+loop-again : tie.Need-loop-again Inv-loop μ-loop
+loop-again c = ?
+
+-- src/words.rt:75:1
+same-length : tie.Need-same-length Inv-loop μ-loop
+same-length c = ?
+
+-- src/words.rt:75:1
+returns : tie.Need-returns Inv-loop μ-loop
+returns c = ?
+
+pub load16-spec : {M : Type 1} → statement M
+load16-spec =
+    tie.close
+    (tie.spec
+    Inv-loop
+    μ-loop
+    loop-holds
+    mul-word16
+    word16-requires
+    mul-words
+    slice-write-words
+    add-i
+    loop-less
+    loop-again
+    same-length
+    returns)

@@ -1,0 +1,45 @@
+use borrow.Author.Needs.{needs}
+use Rattle.logodwen.proofs.words.put16.Statement.{statement}
+use Rattle.logodwen.proofs.words.put16.Tie as tie
+use Rattle.logodwen.proofs.words.put16.Reads as reads
+use Rattle.logodwen.proofs.words.put16.Lts as lts
+
+-- src/words.rt:59:17
+cast-bytes : tie.Need-cast-bytes
+cast-bytes c = search needs
+
+-- src/words.rt:59:5
+slice-write-bytes : tie.Need-slice-write-bytes
+slice-write-bytes c = search needs
+
+-- src/words.rt:60:21
+cast-bytes-2 : tie.Need-cast-bytes-2
+cast-bytes-2 c = search needs
+
+-- src/words.rt:60:11
+add-bytes : tie.Need-add-bytes
+add-bytes c = search needs
+
+-- src/words.rt:60:5
+slice-write-bytes-2 : tie.Need-slice-write-bytes-2
+slice-write-bytes-2 c = ?
+
+-- src/words.rt:55:1
+same-length : tie.Need-same-length
+same-length c = search needs
+
+-- src/words.rt:55:1
+returns : tie.Need-returns
+returns c = ?
+
+pub put16-spec : {M : Type 1} → statement M
+put16-spec =
+    tie.close
+    (tie.spec
+    cast-bytes
+    slice-write-bytes
+    cast-bytes-2
+    add-bytes
+    slice-write-bytes-2
+    same-length
+    returns)
