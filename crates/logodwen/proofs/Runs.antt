@@ -6,11 +6,11 @@ use native.Mathlib.Nat.{suc-mul, mul-le-mul-right, mul-div-cancel, zero-add, suc
 use native.Mathlib.Numerals.{add-one}
 use mathlib.Core.List.{List, [], _∷_, _++_, append-assoc, append-nil}
 use mathlib.Core.Path.{_≡_, refl, sym, ap, _∙_}
-use lib.ListN.{length, getD, take, drop, set, length-append, length-drop, take-append-drop, drop-of-length-le}
+use lib.ListN.{length, getD, take, drop, set, length-set, length-append, length-drop, take-append-drop, drop-of-length-le}
 use lib.Seq.{take-at, drop-at, take-add, drop-drop, drop-cons, take-suc, length-take-le, take-length, take-take, take-nil}
 use Rattle.base.specs.Words.{part, laid, Below}
 use Rattle.base.proofs.Part.{below-take, below-drop}
-use Rattle.base.proofs.Laid.{length-laid, laid-none, laid-two, laid-snoc, laid-laid, laid-whole}
+use Rattle.base.proofs.Laid.{length-laid, take-laid, laid-none, laid-cons, laid-two, laid-snoc, laid-laid, laid-whole}
 use Rattle.logodwen.specs.Bytes.{valueOf, digitsOf, numberAt, wordsIn, wordsOf, bytesOf, storeWords, Loaded}
 
 -- one word
@@ -142,3 +142,81 @@ pub stored-end : (k : ℕ) (ws bs₀ : List ℕ) {bs : List ℕ} {i : ℕ} → i
 stored-end k ws bs₀ {bs} {i} lo hi e =
     let same : i ≡ length ws = omega arith in
     e ∙ ap (storedTo k ws bs₀) same ∙ ap (λ (l : List ℕ). storeWords k l bs₀) (take-length ws)
+
+-- a word read byte by byte
+
+value-step : (k at next : ℕ) (bs : List ℕ) → at < length bs → next ≡ at + 1 → numberAt (suc k) at bs ≡ getD bs at 0 + 256 * numberAt k next bs
+unfolding valueOf
+value-step k at next bs h e = rw (e, add-one, drop-cons bs at 0 h)
+
+value-none : (at : ℕ) (bs : List ℕ) → numberAt 0 at bs ≡ 0
+unfolding valueOf
+value-none at bs = refl
+
+pub byte-at : (bs : List ℕ) (at : ℕ) → at < length bs → numberAt 1 at bs ≡ getD bs at 0
+byte-at bs at h = omega (arith, value-step 0 at (at + 1) bs h refl, value-none (at + 1) bs)
+
+pub word-two : (bs : List ℕ) (at : ℕ) → at + 2 ≤ length bs → numberAt 2 at bs ≡ getD bs at 0 + 256 * getD bs (at + 1) 0
+word-two bs at h = omega (arith, value-step 1 at (at + 1) bs (omega arith) refl, byte-at bs (at + 1) (omega arith))
+
+pub word-four : (bs : List ℕ) (at : ℕ) → at + 4 ≤ length bs
+    → numberAt 4 at bs ≡ getD bs at 0 + 256 * (getD bs (at + 1) 0 + 256 * (getD bs (at + 2) 0 + 256 * getD bs (at + 3) 0))
+word-four bs at h =
+    omega (arith, value-step 3 at (at + 1) bs (omega arith) refl, value-step 2 (at + 1) (at + 2) bs (omega arith) (omega arith), value-step 1 (at + 2) (at + 3) bs (omega arith) (omega arith), byte-at bs (at + 3) (omega arith))
+
+-- .. and stored byte by byte
+
+pub put-one : (bs : List ℕ) (at v : ℕ) → at + 1 ≤ length bs → set bs at v ≡ laid bs at (v ∷ [])
+put-one bs at v h = laid-none (set bs at v) (at + 1) ∙ sym (laid-cons bs at v [] h)
+
+pub put-two : (bs : List ℕ) (at v w : ℕ) → at + 2 ≤ length bs → set (set bs at v) (at + 1) w ≡ laid bs at (v ∷ w ∷ [])
+put-two bs at v w h = laid-none (set (set bs at v) (at + 1) w) (at + 2) ∙ sym (laid-two bs at v w [] (omega arith))
+
+pub put-four : (bs : List ℕ) (at t u v w : ℕ) → at + 4 ≤ length bs
+    → set (set (set (set bs at t) (at + 1) u) (at + 2) v) (at + 3) w ≡ laid bs at (t ∷ u ∷ v ∷ w ∷ [])
+put-four bs at t u v w h =
+    let half = set (set bs at t) (at + 1) u in
+    let long : length half ≡ length bs = length-set (set bs at t) (at + 1) u ∙ length-set bs at t in
+    let e : at + 2 + 1 ≡ at + 3 = omega arith in
+    ap (λ (i : ℕ). set (set half (at + 2) v) i w) (sym e) ∙ put-two half (at + 2) v w (omega arith) ∙ sym (laid-two bs at t u (v ∷ w ∷ []) (omega arith))
+
+-- what a load gives to a call
+
+pub loaded-count : {k : ℕ} {bs before after : List ℕ} {n : ℕ} → Loaded k bs before after n → n ≤ length after
+unfolding laid
+loaded-count {k} {bs} {before} {after} {n} l =
+    let e : length after ≡ length (wordsOf k bs) + length (drop (0 + length (wordsOf k bs)) before) = ap length (l .words) ∙ length-append (wordsOf k bs) (drop (0 + length (wordsOf k bs)) before) in
+    omega (arith, e, length-words-of k bs, l .count)
+
+-- the part that it filled
+pub loaded-front : {k : ℕ} {bs before after : List ℕ} {n : ℕ} → Loaded k bs before after n → take n after ≡ wordsOf k bs
+loaded-front {k} {bs} {before} {after} {n} l =
+    ap (take n) (l .words) ∙ take-laid before 0 (wordsOf k bs) n (omega (arith, length-words-of k bs, l .count)) (omega arith)
+
+-- the whole, where it filled all
+pub loaded-full : {k : ℕ} {bs before after : List ℕ} {n : ℕ} → Loaded k bs before after n → length before ≡ length bs / k → after ≡ wordsOf k bs
+loaded-full {k} {bs} {before} l len = l .words ∙ laid-whole before (wordsOf k bs) (length-words-of k bs ∙ sym len)
+
+-- words of a part
+
+drop-take : (m n : ℕ) (l : List ℕ) → drop m (take (m + n) l) ≡ take n (drop m l)
+drop-take zero n l = rw zero-add
+drop-take (suc m) n [] = rw (suc-add, take-nil)
+drop-take (suc m) n (x ∷ l) = rw suc-add (drop-take m n l)
+
+pub words-take : (k n : ℕ) (bs : List ℕ) → wordsIn k n (take (n * k) bs) ≡ wordsIn k n bs
+unfolding wordsIn
+words-take k zero bs = refl
+words-take k (suc n) bs =
+    let e : suc n * k ≡ k + n * k = omega arith in
+    let first : take k (take (k + n * k) bs) ≡ take k bs = take-take k (k + n * k) bs (omega arith) in
+    rw (e, first, drop-take, words-take k n (drop k bs))
+
+-- n words that are loaded from a part of just their bytes
+pub loaded-part : (k n : ℕ) (bs before after : List ℕ) (m : ℕ) → 0 < k → n * k ≤ length bs → length before ≡ n → Loaded k (take (n * k) bs) before after m
+    → after ≡ wordsIn k n bs
+unfolding wordsOf
+loaded-part k n bs before after m pos fits len l =
+    let long : length (take (n * k) bs) ≡ n * k = length-take-le (n * k) bs fits in
+    let count : n * k / k ≡ n = mul-div-cancel n pos in
+    loaded-full l (len ∙ rw (long, count)) ∙ rw (long, count, words-take)

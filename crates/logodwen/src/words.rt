@@ -17,6 +17,18 @@ fn wide32(byte: u8) -> u32
     byte as u32
 }
 
+fn long16(word: u16) -> u64
+    ensures { λ r. ⌜ r ≡ word ⌝ }
+{
+    word as u64
+}
+
+fn long32(word: u32) -> u64
+    ensures { λ r. ⌜ r ≡ word ⌝ }
+{
+    word as u64
+}
+
 // A byte.
 pub fn byte(bytes: &[u8], at: usize) -> u8
     requires { ⌜ at < length (now bytes) ⌝ }
@@ -106,7 +118,7 @@ pub fn store16(words: &[u16], bytes: &mut [u8])
 {
     let mut i = 0;
     while i < words.len() {
-        put16(bytes, i * 2, words[i] as u64);
+        put16(bytes, i * 2, long16(words[i]));
         i += 1;
     }
 }
@@ -118,7 +130,7 @@ pub fn store32(words: &[u32], bytes: &mut [u8])
 {
     let mut i = 0;
     while i < words.len() {
-        put32(bytes, i * 4, words[i] as u64);
+        put32(bytes, i * 4, long32(words[i]));
         i += 1;
     }
 }

@@ -1,3 +1,5 @@
+use Rattle.base.proofs.Pick.{yes, no, via, and-yes, and-no}
+use Rattle.logodwen.specs.Number.{answerNumber}
 use borrow.Author.Needs.{needs}
 use Rattle.logodwen.proofs.calls.answer_number.Statement.{statement}
 use Rattle.logodwen.proofs.calls.answer_number.Tie as tie
@@ -76,11 +78,11 @@ returns-2 c = search needs
 
 -- src/calls.rt:31:1
 returns-3 : tie.Need-returns-3
-returns-3 c = ?
+returns-3 c = via answerNumber (c .before .before .before .answer2 .given .1) (c .done .ensures)
 
 -- src/calls.rt:31:1
 returns-4 : tie.Need-returns-4
-returns-4 c = ?
+returns-4 c = via answerNumber (c .before .before .before .before .answer3 .given .1) (c .done2 .ensures)
 
 -- src/calls.rt:31:1
 returns-5 : tie.Need-returns-5
@@ -88,7 +90,7 @@ returns-5 c = search needs
 
 -- src/calls.rt:31:1
 returns-6 : tie.Need-returns-6
-returns-6 c = ?
+returns-6 c = via answerNumber (c .before .before .answer4 .given .1) (c .done4 .ensures)
 
 pub answer-number-spec : {M : Type 1} → statement M
 answer-number-spec =

@@ -1,3 +1,7 @@
+use mathlib.Core.Path.{_≡_, refl, sym, ap, ap₂, _∙_}
+use Rattle.logodwen.proofs.Runs.{byte-at, word-two, word-four, put-one, put-two, put-four, loadedTo, loaded-none, loaded-again, loaded-all, storedTo, stored-none, stored-again, stored-end, length-words-of, loaded-count, loaded-front, loaded-full, loaded-part}
+use Rattle.node.specs.Calls.{startOf, requestOf, replyOf, pollOf, eraseOf}
+use Rattle.logodwen.proofs.Exchange.{left-flash, left-reply, reply-part, reply-full, front-back, front-fits, left-memories, left-runs, take-min, request-cut}
 use borrow.Author.Needs.{needs}
 use Rattle.logodwen.proofs.calls.on_erase.Statement.{statement}
 use Rattle.logodwen.proofs.calls.on_erase.Tie as tie
@@ -42,7 +46,7 @@ same-length c = search needs
 
 -- src/calls.rt:234:1
 returns : tie.Need-returns
-returns c = ?
+returns c = left-flash (eraseOf (c .before .before .before .before .before .before .before .before .before .before .before .before .before .before .args .node) (c .before .before .before .before .before .before .before .before .before .before .before .before .before .before .args .budget)) (loaded-full (c .before .before .before .before .before .before .before .before .before .load16 .ensures) (c .before .before .before .before .before .before .before .before .before .before .before .before .room-32768 .ensures ∙ sym (c .before .before .before .before .before .before .before .before .before .before .before .before .before .before .pre))) (c .before .before .before .before .before .before .erase .ensures) (c .before .before .store16 .ensures)
 
 pub on-erase-spec : {M : Type 1} → statement M
 on-erase-spec =

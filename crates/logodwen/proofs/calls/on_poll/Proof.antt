@@ -1,3 +1,8 @@
+use mathlib.Core.Path.{_≡_, refl, sym, ap, ap₂, _∙_}
+use Rattle.logodwen.proofs.Runs.{byte-at, word-two, word-four, put-one, put-two, put-four, loadedTo, loaded-none, loaded-again, loaded-all, storedTo, stored-none, stored-again, stored-end, length-words-of, loaded-count, loaded-front, loaded-full, loaded-part}
+use native.Mathlib.Omega.{arith}
+use Rattle.node.specs.Calls.{startOf, requestOf, replyOf, pollOf, eraseOf}
+use Rattle.logodwen.proofs.Exchange.{left-flash, left-reply, reply-part, reply-full, front-back, front-fits, left-memories, left-runs, take-min, request-cut}
 use borrow.Author.Needs.{needs}
 use Rattle.logodwen.proofs.calls.on_poll.Statement.{statement}
 use Rattle.logodwen.proofs.calls.on_poll.Tie as tie
@@ -18,7 +23,7 @@ slice-reshare-prefix-load16 c = search needs
 
 -- src/calls.rt:228:12
 slice-aggregate-load16 : tie.Need-slice-aggregate-load16
-slice-aggregate-load16 c = ?
+slice-aggregate-load16 c = sym (reply-part (c .before .before .before .args .reply .now) (c .before .before .before .pre))
 
 -- src/calls.rt:228:29
 slice-aggregate-load16-2 : tie.Need-slice-aggregate-load16-2
@@ -26,7 +31,7 @@ slice-aggregate-load16-2 c = search needs
 
 -- src/calls.rt:228:5
 load16-requires : tie.Need-load16-requires
-load16-requires c κs = ?
+load16-requires c κs = omega (arith, reply-part (c .before .before .before .before .args .reply .now) (c .before .before .before .before .pre), c .before .before .room-12288 .ensures)
 
 -- src/calls.rt:229:33
 slice-aggregate-poll : tie.Need-slice-aggregate-poll
@@ -50,7 +55,7 @@ same-length c = search needs
 
 -- src/calls.rt:223:1
 returns : tie.Need-returns
-returns c = ?
+returns c = left-reply (pollOf (c .before .before .before .before .before .before .before .before .before .before .before .before .before .before .args .node) (c .before .before .before .before .before .before .before .before .before .before .before .before .before .before .args .clock)) (reply-full (c .before .before .before .before .before .before .before .before .before .load16 .ensures) (c .before .before .before .before .before .before .before .before .before .before .before .before .room-12288 .ensures) (c .before .before .before .before .before .before .before .before .before .before .before .before .before .before .pre)) (c .before .before .before .before .before .before .poll .ensures) (c .before .before .store16 .ensures)
 
 pub on-poll-spec : {M : Type 1} → statement M
 on-poll-spec =

@@ -1,3 +1,12 @@
+use mathlib.Core.Path.{_≡_, refl, sym, ap, ap₂, _∙_}
+use Rattle.logodwen.proofs.Runs.{byte-at, word-two, word-four, put-one, put-two, put-four, loadedTo, loaded-none, loaded-again, loaded-all, storedTo, stored-none, stored-again, stored-end, length-words-of, loaded-count, loaded-front, loaded-full, loaded-part}
+use native.Mathlib.Omega.{arith}
+use Prim.Native.Nat.{ℕ, _+_, _*_, _-_, _/_, _≤_, _<_}
+use mathlib.Core.List.{List, [], _∷_, _++_}
+use Rattle.logodwen.specs.Bytes.{digitsOf, numberAt, wordsIn, wordsOf, bytesOf, storeWords, Loaded}
+use Rattle.node.specs.Calls.{startOf, requestOf, replyOf, pollOf, eraseOf}
+use Rattle.logodwen.proofs.Exchange.{left-flash, left-reply, reply-part, reply-full, front-back, front-fits, left-memories, left-runs, take-min, request-cut}
+use lib.Seq.{length-take-le}
 use borrow.Author.Needs.{needs}
 use Rattle.logodwen.proofs.calls.on_reply.Statement.{statement}
 use Rattle.logodwen.proofs.calls.on_reply.Tie as tie
@@ -31,7 +40,7 @@ slice-reshare-prefix-load16 c = search needs
 
 -- src/calls.rt:208:12
 slice-aggregate-load16-2 : tie.Need-slice-aggregate-load16-2
-slice-aggregate-load16-2 c = ?
+slice-aggregate-load16-2 c = sym (reply-part (c .before .before .before .before .before .before .before .before .args .reply .now) (c .before .before .before .before .before .before .before .before .pre .1))
 
 -- src/calls.rt:208:29
 slice-aggregate-load16-3 : tie.Need-slice-aggregate-load16-3
@@ -39,7 +48,7 @@ slice-aggregate-load16-3 c = search needs
 
 -- src/calls.rt:208:5
 load16-requires-2 : tie.Need-load16-requires-2
-load16-requires-2 c κs = ?
+load16-requires-2 c κs = omega (arith, reply-part (c .before .before .before .before .before .before .before .before .before .args .reply .now) (c .before .before .before .before .before .before .before .before .before .pre .1), c .before .before .before .before .before .room-12288 .ensures)
 
 -- src/calls.rt:216:9
 array-share-prefix-packet-words : tie.Need-array-share-prefix-packet-words
@@ -47,7 +56,7 @@ array-share-prefix-packet-words c = search needs
 
 -- src/calls.rt:216:9
 slice-aggregate-reply : tie.Need-slice-aggregate-reply
-slice-aggregate-reply c = ?
+slice-aggregate-reply c = sym (length-take-le _ _ (loaded-count (c .before .before .before .before .before .before .load16 .ensures)))
 
 -- src/calls.rt:217:9
 slice-aggregate-reply-2 : tie.Need-slice-aggregate-reply-2
@@ -63,7 +72,7 @@ slice-aggregate-store16 c = search needs
 
 -- src/calls.rt:219:5
 store16-requires : tie.Need-store16-requires
-store16-requires c κs = ?
+store16-requires c κs = omega (arith, c .before .before .before .reply .kept .1 .1 .1 .1 .1 .1 .1 .1 .0, c .before .before .before .before .before .before .before .load162 .kept .1 .0, c .before .before .before .before .before .before .before .before .before .before .before .before .before .room-12288 .ensures, c .before .before .before .before .before .before .before .before .before .before .before .before .before .before .before .before .before .pre .1)
 
 -- src/calls.rt:191:1
 same-length : tie.Need-same-length
@@ -71,7 +80,7 @@ same-length c = search needs
 
 -- src/calls.rt:191:1
 returns : tie.Need-returns
-returns c = ?
+returns c = left-reply (λ (r : List ℕ). replyOf (c .before .before .before .before .before .before .before .before .before .before .before .before .before .before .before .before .before .before .before .before .args .node) (c .before .before .before .before .before .before .before .before .before .before .before .before .before .before .before .before .before .before .before .before .args .clock) (c .before .before .before .before .before .before .before .before .before .before .before .before .before .before .before .before .before .before .before .before .args .slave) (c .before .before .before .before .before .before .before .before .before .before .before .before .before .before .before .before .before .before .before .before .args .bc) (c .before .before .before .before .before .before .before .before .before .before .before .before .before .before .before .before .before .before .before .before .args .errors) (c .before .before .before .before .before .before .before .before .before .before .before .before .before .before .before .before .before .before .before .before .args .status) (c .before .before .before .before .before .before .before .before .before .before .before .before .before .before .before .before .before .before .before .before .args .address) (wordsOf 2 (c .before .before .before .before .before .before .before .before .before .before .before .before .before .before .before .before .before .before .before .before .args .packet .now)) r) (reply-full (c .before .before .before .before .before .before .before .before .before .before .load162 .ensures) (c .before .before .before .before .before .before .before .before .before .before .before .before .before .before .before .before .room-12288 .ensures) (c .before .before .before .before .before .before .before .before .before .before .before .before .before .before .before .before .before .before .before .before .pre .1)) (c .before .before .before .before .before .before .reply .ensures ∙ ap (λ (p : List ℕ). replyOf (c .before .before .before .before .before .before .before .before .before .before .before .before .before .before .before .before .before .before .before .before .args .node) (c .before .before .before .before .before .before .before .before .before .before .before .before .before .before .before .before .before .before .before .before .args .clock) (c .before .before .before .before .before .before .before .before .before .before .before .before .before .before .before .before .before .before .before .before .args .slave) (c .before .before .before .before .before .before .before .before .before .before .before .before .before .before .before .before .before .before .before .before .args .bc) (c .before .before .before .before .before .before .before .before .before .before .before .before .before .before .before .before .before .before .before .before .args .errors) (c .before .before .before .before .before .before .before .before .before .before .before .before .before .before .before .before .before .before .before .before .args .status) (c .before .before .before .before .before .before .before .before .before .before .before .before .before .before .before .before .before .before .before .before .args .address) p (c .before .before .before .before .before .before .before .before .before .before .load162 .last .1 .0)) (loaded-front (c .before .before .before .before .before .before .before .before .before .before .before .before .before .before .load16 .ensures))) (c .before .before .store16 .ensures)
 
 pub on-reply-spec : {M : Type 1} → statement M
 on-reply-spec =

@@ -1,3 +1,6 @@
+use mathlib.Core.Path.{_≡_, refl, sym, ap, ap₂, _∙_}
+use Rattle.logodwen.proofs.Runs.{byte-at, word-two, word-four, put-one, put-two, put-four, loadedTo, loaded-none, loaded-again, loaded-all, storedTo, stored-none, stored-again, stored-end, length-words-of, loaded-count, loaded-front, loaded-full, loaded-part}
+use Rattle.node.specs.Calls.{startOf, requestOf, replyOf, pollOf, eraseOf}
 use borrow.Author.Needs.{needs}
 use Rattle.logodwen.proofs.calls.on_start.Statement.{statement}
 use Rattle.logodwen.proofs.calls.on_start.Tie as tie
@@ -29,7 +32,7 @@ start-requires c κs = search needs
 
 -- src/calls.rt:81:1
 returns : tie.Need-returns
-returns c = ?
+returns c = c .start .ensures ∙ ap (startOf (c .before .before .before .before .before .before .before .args .kind) (c .before .before .before .before .before .before .before .args .ports) (c .before .before .before .before .before .before .before .args .subdetector) (c .before .before .before .before .before .before .before .args .«program_version») (c .before .before .before .before .before .before .before .args .«subdetector_version») (c .before .before .before .before .before .before .before .args .«start_tests») (c .before .before .before .before .before .before .before .args .clock)) (loaded-full (c .before .before .before .load16 .ensures) (c .before .before .before .before .before .room-32768 .ensures ∙ sym (c .before .before .before .before .before .before .before .pre)))
 
 pub on-start-spec : {M : Type 1} → statement M
 on-start-spec =

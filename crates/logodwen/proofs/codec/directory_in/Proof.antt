@@ -1,3 +1,7 @@
+use Rattle.logodwen.proofs.Runs.{byte-at, word-two, word-four, put-one, put-two, put-four, loadedTo, loaded-none, loaded-again, loaded-all, storedTo, stored-none, stored-again, stored-end, length-words-of, loaded-count, loaded-front, loaded-full, loaded-part}
+use mathlib.Core.Path.{_≡_, refl, sym, ap, ap₂, _∙_}
+use native.Mathlib.Omega.{arith}
+use lib.ListN.{length, getD, take, drop, length-set, length-drop, length-append}
 use borrow.Author.Needs.{needs}
 use Rattle.logodwen.proofs.codec.directory_in.Statement.{statement}
 use Rattle.logodwen.proofs.codec.directory_in.Tie as tie
@@ -27,7 +31,7 @@ load16-requires c κs = search needs
 
 -- src/codec.rt:223:1
 returns : tie.Need-returns
-returns c = ?
+returns c = loaded-part 2 32 _ _ _ _ (omega arith) (simp length-drop (omega arith)) refl (c .before .load16 .ensures)
 
 pub directory-in-spec : {M : Type 1} → statement M
 directory-in-spec =

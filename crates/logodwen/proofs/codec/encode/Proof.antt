@@ -1,3 +1,10 @@
+use native.Mathlib.Omega.{arith}
+use mathlib.Core.Path.{_≡_, refl, sym, ap, ap₂, _∙_}
+use Prim.Native.Nat.{ℕ, _+_, _*_, _-_, _/_, _≤_, _<_}
+use lib.ListN.{length, getD, take, drop, length-set, length-drop, length-append}
+use borrow.Rule.Slice.PartMut.{putMid, same-len-mid}
+use Rattle.base.proofs.Part.{length-part}
+use Rattle.logodwen.proofs.Encoding.{encoded}
 use borrow.Author.Needs.{needs}
 use Rattle.logodwen.proofs.codec.encode.Statement.{statement}
 use Rattle.logodwen.proofs.codec.encode.Tie as tie
@@ -27,9 +34,23 @@ part-store32-start c = search needs
 part-store32-end : tie.Need-part-store32-end
 part-store32-end c = search needs
 
+masks-long : (c : tie.Start) → length (c .args .node .masks) ≡ 16
+masks-long c = search needs
+
+directory-long : (c : tie.Start) → length (c .args .node .directory) ≡ 32
+directory-long c = search needs
+
+after-numbers : (c : tie.After-put-numbers) → 44 + 64 ≤ length (c .put-numbers .last .1 .0)
+after-numbers c = omega (arith, c .put-numbers .kept .1 .0, c .before .before .before .pre)
+
+after-masks : (c : tie.After-store32) → 108 + 64 ≤ length (putMid 44 64 (c .before .before .before .before .before .before .put-numbers .last .1 .0) (c .store32 .last .1 .0))
+after-masks c =
+    let room = after-numbers (c .before .before .before .before .before .before) in
+    omega (arith, c .before .before .before .before .before .before .put-numbers .kept .1 .0, c .before .before .before .before .before .before .before .before .before .pre, same-len-mid 44 64 (c .before .before .before .before .before .before .put-numbers .last .1 .0) (c .store32 .last .1 .0) (c .store32 .kept .1 .0))
+
 -- src/codec.rt:209:5
 store32-requires : tie.Need-store32-requires
-store32-requires c κs = ?
+store32-requires c κs = let long = masks-long (c .before .before .before .before .before .before .before .before) in omega (arith, length-part (c .before .before .before .before .before .put-numbers .last .1 .0) 44 64 (after-numbers (c .before .before .before .before .before)))
 
 -- src/codec.rt:211:13
 slice-aggregate-store16 : tie.Need-slice-aggregate-store16
@@ -49,7 +70,7 @@ part-store16-end c = search needs
 
 -- src/codec.rt:211:5
 store16-requires : tie.Need-store16-requires
-store16-requires c κs = ?
+store16-requires c κs = let long = directory-long (c .before .before .before .before .before .before .before .before .before .before .before .before .before .before) in omega (arith, length-part (putMid 44 64 (c .before .before .before .before .before .before .before .before .before .before .before .put-numbers .last .1 .0) (c .before .before .before .before .before .store32 .last .1 .0)) 108 64 (after-masks (c .before .before .before .before .before)))
 
 -- src/codec.rt:203:1
 same-length : tie.Need-same-length
@@ -57,7 +78,7 @@ same-length c = search needs
 
 -- src/codec.rt:203:1
 returns : tie.Need-returns
-returns c = ?
+returns c = encoded (c .before .before .before .before .before .before .before .before .before .before .before .before .before .before .before .before .before .args .node) (c .before .before .before .before .before .before .before .before .before .before .before .before .before .before .before .before .before .args .bytes .now) (c .before .before .before .before .before .before .before .before .before .before .before .before .before .before .before .before .before .pre) (masks-long (c .before .before .before .before .before .before .before .before .before .before .before .before .before .before .before .before .before)) (directory-long (c .before .before .before .before .before .before .before .before .before .before .before .before .before .before .before .before .before)) (c .before .before .before .before .before .before .before .before .before .before .before .before .before .before .put-numbers .ensures) (c .before .before .before .before .before .before .before .before .store32 .ensures) (c .before .before .store16 .ensures)
 
 pub encode-spec : {M : Type 1} → statement M
 encode-spec =

@@ -57,7 +57,7 @@ cast-t13 c = search needs
 
 -- src/codec.rt:232:1
 returns : tie.Need-returns
-returns c = ?
+returns c = λ i. record { kind = (c .before .before .before .before .before .before .before .byte .ensures) i; ports = (c .before .before .before .before .before .before .byte2 .ensures) i; subdetector = (c .before .before .before .before .before .byte3 .ensures) i; «program_version» = (c .before .before .before .before .word16 .ensures) i; «subdetector_version» = (c .before .before .before .word162 .ensures) i; «start_tests» = (c .before .before .word163 .ensures) i; «start_clock» = (c .before .word32 .ensures) i; «flash_words» = (c .word322 .ensures) i }
 
 pub given-in-spec : {M : Type 1} → statement M
 given-in-spec =

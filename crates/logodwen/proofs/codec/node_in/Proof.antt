@@ -1,3 +1,6 @@
+use mathlib.Core.Path.{_≡_, refl, sym, ap, ap₂, _∙_}
+use Rattle.logodwen.specs.StateBytes.{tallyOf, progressOf, erasingOf, wait, waitOf, pendingOf, givenIn, nodeIn, encodeOf, alike, areState, numbersOf, sizes}
+use Rattle.node.specs.State.{node, counts}
 use borrow.Author.Needs.{needs}
 use Rattle.logodwen.proofs.codec.node_in.Statement.{statement}
 use Rattle.logodwen.proofs.codec.node_in.Tie as tie
@@ -59,7 +62,8 @@ cast-t10 c = search needs
 
 -- src/codec.rt:275:1
 returns : tie.Need-returns
-returns c = ?
+unfolding nodeIn
+returns c = λ i. node ((c .before .before .before .before .before .before .before .before .before .masks-in .ensures) i) ((c .before .before .before .before .before .before .before .before .directory-in .ensures) i) ((c .before .before .before .before .before .before .before .given-in .ensures) i) ((c .byte .ensures) i) (counts ((c .before .before .word16 .ensures) i) ((c .before .word162 .ensures) i)) ((c .before .before .before .before .before .erasing-of .ensures ∙ ap erasingOf (c .before .before .before .before .before .before .progress-in .ensures)) i) ((c .before .before .before .pending-of .ensures ∙ ap pendingOf (c .before .before .before .before .wait-in .ensures)) i)
 
 pub node-in-spec : {M : Type 1} → statement M
 node-in-spec =

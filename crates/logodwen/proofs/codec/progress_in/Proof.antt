@@ -24,7 +24,7 @@ cast-t5 c = search needs
 
 -- src/codec.rt:248:1
 returns : tie.Need-returns
-returns c = ?
+returns c = λ i. record { sector = (c .before .byte .ensures) i; done = (c .word32 .ensures) i }
 
 pub progress-in-spec : {M : Type 1} → statement M
 progress-in-spec = tie.close (tie.spec byte-requires cast-t3 word32-requires cast-t5 returns)

@@ -1,3 +1,6 @@
+use mathlib.Core.Path.{_≡_, refl, sym, ap, ap₂, _∙_}
+use Rattle.base.proofs.Pick.{yes, no, via, and-yes, and-no}
+use Rattle.logodwen.specs.StateBytes.{tallyOf, progressOf, erasingOf, wait, waitOf, pendingOf, givenIn, nodeIn, encodeOf, alike, areState, numbersOf, sizes}
 use borrow.Author.Needs.{needs}
 use Rattle.logodwen.proofs.codec.progress_of.Statement.{statement}
 use Rattle.logodwen.proofs.codec.progress_of.Tie as tie
@@ -14,7 +17,7 @@ enum-known-erasing c = search needs
 
 -- src/codec.rt:61:1
 returns : tie.Need-returns
-returns c = ?
+returns c = via progressOf (c .enum-told .given .1) refl
 
 -- src/codec.rt:61:1
 returns-2 : tie.Need-returns-2

@@ -1,3 +1,5 @@
+use Rattle.logodwen.specs.Places.{putAll, packed, total}
+use native.Mathlib.Omega.{arith}
 use borrow.Author.Needs.{needs}
 use Rattle.logodwen.proofs.codec.put_first.Statement.{statement}
 use Rattle.logodwen.proofs.codec.put_first.Tie as tie
@@ -48,7 +50,7 @@ cast-put16-2 c = search needs
 
 -- src/codec.rt:156:5
 put16-requires-2 : tie.Need-put16-requires-2
-put16-requires-2 c κs = ?
+put16-requires-2 c κs = omega (arith, c .before .before .before .before .before .before .before .before .before .before .before .before .before .before .before .before .before .before .before .before .before .before .before .put8 .kept .0, c .before .before .before .before .before .before .before .before .before .before .before .before .before .before .before .before .before .before .put82 .kept .0, c .before .before .before .before .before .before .before .before .before .before .before .before .before .put83 .kept .0, c .before .before .before .before .before .before .before .before .before .put84 .kept .0, c .before .before .before .before .put16 .kept .0, c .before .before .before .before .before .before .before .before .before .before .before .before .before .before .before .before .before .before .before .before .before .before .before .before .before .before .before .pre)
 
 -- src/codec.rt:157:21
 cast-put16-3 : tie.Need-cast-put16-3
@@ -56,7 +58,7 @@ cast-put16-3 c = search needs
 
 -- src/codec.rt:157:5
 put16-requires-3 : tie.Need-put16-requires-3
-put16-requires-3 c κs = ?
+put16-requires-3 c κs = omega (arith, c .before .before .before .before .before .before .before .before .before .before .before .before .before .before .before .before .before .before .before .before .before .before .before .before .before .before .before .before .put8 .kept .0, c .before .before .before .before .before .before .before .before .before .before .before .before .before .before .before .before .before .before .before .before .before .before .before .put82 .kept .0, c .before .before .before .before .before .before .before .before .before .before .before .before .before .before .before .before .before .before .put83 .kept .0, c .before .before .before .before .before .before .before .before .before .before .before .before .before .before .put84 .kept .0, c .before .before .before .before .before .before .before .before .before .put16 .kept .0, c .before .before .before .before .put162 .kept .0, c .before .before .before .before .before .before .before .before .before .before .before .before .before .before .before .before .before .before .before .before .before .before .before .before .before .before .before .before .before .before .before .before .pre)
 
 -- src/codec.rt:158:22
 cast-put16-4 : tie.Need-cast-put16-4
@@ -64,7 +66,7 @@ cast-put16-4 c = search needs
 
 -- src/codec.rt:158:5
 put16-requires-4 : tie.Need-put16-requires-4
-put16-requires-4 c κs = ?
+put16-requires-4 c κs = omega (arith, c .before .before .before .before .before .before .before .before .before .before .before .before .before .before .before .before .before .before .before .before .before .before .before .before .before .before .before .before .before .before .before .before .before .put8 .kept .0, c .before .before .before .before .before .before .before .before .before .before .before .before .before .before .before .before .before .before .before .before .before .before .before .before .before .before .before .before .put82 .kept .0, c .before .before .before .before .before .before .before .before .before .before .before .before .before .before .before .before .before .before .before .before .before .before .before .put83 .kept .0, c .before .before .before .before .before .before .before .before .before .before .before .before .before .before .before .before .before .before .before .put84 .kept .0, c .before .before .before .before .before .before .before .before .before .before .before .before .before .before .put16 .kept .0, c .before .before .before .before .before .before .before .before .before .put162 .kept .0, c .before .before .before .before .put163 .kept .0, c .before .before .before .before .before .before .before .before .before .before .before .before .before .before .before .before .before .before .before .before .before .before .before .before .before .before .before .before .before .before .before .before .before .before .before .before .before .pre)
 
 -- src/codec.rt:159:22
 cast-put16-5 : tie.Need-cast-put16-5
@@ -72,15 +74,16 @@ cast-put16-5 c = search needs
 
 -- src/codec.rt:159:5
 put16-requires-5 : tie.Need-put16-requires-5
-put16-requires-5 c κs = ?
+put16-requires-5 c κs = omega (arith, c .before .before .before .before .before .before .before .before .before .before .before .before .before .before .before .before .before .before .before .before .before .before .before .before .before .before .before .before .before .before .before .before .before .before .before .before .before .before .put8 .kept .0, c .before .before .before .before .before .before .before .before .before .before .before .before .before .before .before .before .before .before .before .before .before .before .before .before .before .before .before .before .before .before .before .before .before .put82 .kept .0, c .before .before .before .before .before .before .before .before .before .before .before .before .before .before .before .before .before .before .before .before .before .before .before .before .before .before .before .before .put83 .kept .0, c .before .before .before .before .before .before .before .before .before .before .before .before .before .before .before .before .before .before .before .before .before .before .before .before .put84 .kept .0, c .before .before .before .before .before .before .before .before .before .before .before .before .before .before .before .before .before .before .before .put16 .kept .0, c .before .before .before .before .before .before .before .before .before .before .before .before .before .before .put162 .kept .0, c .before .before .before .before .before .before .before .before .before .put163 .kept .0, c .before .before .before .before .put164 .kept .0, c .before .before .before .before .before .before .before .before .before .before .before .before .before .before .before .before .before .before .before .before .before .before .before .before .before .before .before .before .before .before .before .before .before .before .before .before .before .before .before .before .before .before .pre)
 
 -- src/codec.rt:147:1
 same-length : tie.Need-same-length
-same-length c = ?
+same-length c = omega (arith, c .before .before .before .before .before .before .before .before .before .before .before .before .before .before .before .before .before .before .before .before .before .before .before .before .before .before .before .before .before .before .before .before .before .before .before .before .before .before .before .before .before .put8 .kept .0, c .before .before .before .before .before .before .before .before .before .before .before .before .before .before .before .before .before .before .before .before .before .before .before .before .before .before .before .before .before .before .before .before .before .before .before .before .put82 .kept .0, c .before .before .before .before .before .before .before .before .before .before .before .before .before .before .before .before .before .before .before .before .before .before .before .before .before .before .before .before .before .before .before .put83 .kept .0, c .before .before .before .before .before .before .before .before .before .before .before .before .before .before .before .before .before .before .before .before .before .before .before .before .before .before .before .put84 .kept .0, c .before .before .before .before .before .before .before .before .before .before .before .before .before .before .before .before .before .before .before .before .before .before .put16 .kept .0, c .before .before .before .before .before .before .before .before .before .before .before .before .before .before .before .before .before .put162 .kept .0, c .before .before .before .before .before .before .before .before .before .before .before .before .put163 .kept .0, c .before .before .before .before .before .before .before .put164 .kept .0, c .before .before .put165 .kept .0)
 
 -- src/codec.rt:147:1
 returns : tie.Need-returns
-returns c = ?
+unfolding putAll
+returns c = rw (c .before .before .put165 .ensures, c .before .before .before .before .before .before .before .put164 .ensures, c .before .before .before .before .before .before .before .before .before .before .before .before .put163 .ensures, c .before .before .before .before .before .before .before .before .before .before .before .before .before .before .before .before .before .put162 .ensures, c .before .before .before .before .before .before .before .before .before .before .before .before .before .before .before .before .before .before .before .before .before .before .put16 .ensures, c .before .before .before .before .before .before .before .before .before .before .before .before .before .before .before .before .before .before .before .before .before .before .before .before .before .before .before .put84 .ensures, c .before .before .before .before .before .before .before .before .before .before .before .before .before .before .before .before .before .before .before .before .before .before .before .before .before .before .before .before .before .before .before .put83 .ensures, c .before .before .before .before .before .before .before .before .before .before .before .before .before .before .before .before .before .before .before .before .before .before .before .before .before .before .before .before .before .before .before .before .before .before .before .before .put82 .ensures, c .before .before .before .before .before .before .before .before .before .before .before .before .before .before .before .before .before .before .before .before .before .before .before .before .before .before .before .before .before .before .before .before .before .before .before .before .before .before .before .before .before .put8 .ensures)
 
 pub put-first-spec : {M : Type 1} → statement M
 put-first-spec =

@@ -1,3 +1,4 @@
+use Rattle.logodwen.specs.Places.{putAll, packed, total}
 use borrow.Author.Needs.{needs}
 use Rattle.logodwen.proofs.codec.put_last.Statement.{statement}
 use Rattle.logodwen.proofs.codec.put_last.Tie as tie
@@ -31,7 +32,8 @@ same-length c = search needs
 
 -- src/codec.rt:177:1
 returns : tie.Need-returns
-returns c = ?
+unfolding putAll
+returns c = rw (c .before .before .put323 .ensures, c .before .before .before .before .before .before .put322 .ensures, c .before .before .before .before .before .before .before .before .before .before .before .put32 .ensures)
 
 pub put-last-spec : {M : Type 1} → statement M
 put-last-spec =

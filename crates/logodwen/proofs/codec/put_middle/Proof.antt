@@ -1,3 +1,5 @@
+use Rattle.logodwen.specs.Places.{putAll, packed, total}
+use native.Mathlib.Omega.{arith}
 use borrow.Author.Needs.{needs}
 use Rattle.logodwen.proofs.codec.put_middle.Statement.{statement}
 use Rattle.logodwen.proofs.codec.put_middle.Tie as tie
@@ -48,7 +50,7 @@ cast-put8-3 c = search needs
 
 -- src/codec.rt:172:5
 put8-requires-4 : tie.Need-put8-requires-4
-put8-requires-4 c κs = ?
+put8-requires-4 c κs = omega (arith, c .before .before .before .before .before .before .before .before .before .before .before .before .before .before .before .before .before .before .before .before .before .before .before .before .before .before .before .put8 .kept .0, c .before .before .before .before .before .before .before .before .before .before .before .before .before .before .before .before .before .before .before .before .before .before .put82 .kept .0, c .before .before .before .before .before .before .before .before .before .before .before .before .before .before .before .before .before .put32 .kept .0, c .before .before .before .before .before .before .before .before .before .before .before .before .before .put322 .kept .0, c .before .before .before .before .before .before .before .before .before .put323 .kept .0, c .before .before .before .before .put83 .kept .0, c .before .before .before .before .before .before .before .before .before .before .before .before .before .before .before .before .before .before .before .before .before .before .before .before .before .before .before .before .before .before .pre)
 
 -- src/codec.rt:173:21
 cast-put8-4 : tie.Need-cast-put8-4
@@ -56,7 +58,7 @@ cast-put8-4 c = search needs
 
 -- src/codec.rt:173:5
 put8-requires-5 : tie.Need-put8-requires-5
-put8-requires-5 c κs = ?
+put8-requires-5 c κs = omega (arith, c .before .before .before .before .before .before .before .before .before .before .before .before .before .before .before .before .before .before .before .before .before .before .before .before .before .before .before .before .before .before .before .before .put8 .kept .0, c .before .before .before .before .before .before .before .before .before .before .before .before .before .before .before .before .before .before .before .before .before .before .before .before .before .before .before .put82 .kept .0, c .before .before .before .before .before .before .before .before .before .before .before .before .before .before .before .before .before .before .before .before .before .before .put32 .kept .0, c .before .before .before .before .before .before .before .before .before .before .before .before .before .before .before .before .before .before .put322 .kept .0, c .before .before .before .before .before .before .before .before .before .before .before .before .before .before .put323 .kept .0, c .before .before .before .before .before .before .before .before .before .put83 .kept .0, c .before .before .before .before .put84 .kept .0, c .before .before .before .before .before .before .before .before .before .before .before .before .before .before .before .before .before .before .before .before .before .before .before .before .before .before .before .before .before .before .before .before .before .before .before .pre)
 
 -- src/codec.rt:174:21
 cast-put8-5 : tie.Need-cast-put8-5
@@ -64,15 +66,16 @@ cast-put8-5 c = search needs
 
 -- src/codec.rt:174:5
 put8-requires-6 : tie.Need-put8-requires-6
-put8-requires-6 c κs = ?
+put8-requires-6 c κs = omega (arith, c .before .before .before .before .before .before .before .before .before .before .before .before .before .before .before .before .before .before .before .before .before .before .before .before .before .before .before .before .before .before .before .before .before .before .before .before .before .put8 .kept .0, c .before .before .before .before .before .before .before .before .before .before .before .before .before .before .before .before .before .before .before .before .before .before .before .before .before .before .before .before .before .before .before .before .put82 .kept .0, c .before .before .before .before .before .before .before .before .before .before .before .before .before .before .before .before .before .before .before .before .before .before .before .before .before .before .before .put32 .kept .0, c .before .before .before .before .before .before .before .before .before .before .before .before .before .before .before .before .before .before .before .before .before .before .before .put322 .kept .0, c .before .before .before .before .before .before .before .before .before .before .before .before .before .before .before .before .before .before .before .put323 .kept .0, c .before .before .before .before .before .before .before .before .before .before .before .before .before .before .put83 .kept .0, c .before .before .before .before .before .before .before .before .before .put84 .kept .0, c .before .before .before .before .put85 .kept .0, c .before .before .before .before .before .before .before .before .before .before .before .before .before .before .before .before .before .before .before .before .before .before .before .before .before .before .before .before .before .before .before .before .before .before .before .before .before .before .before .before .pre)
 
 -- src/codec.rt:162:1
 same-length : tie.Need-same-length
-same-length c = ?
+same-length c = omega (arith, c .before .before .before .before .before .before .before .before .before .before .before .before .before .before .before .before .before .before .before .before .before .before .before .before .before .before .before .before .before .before .before .before .before .before .before .before .before .before .before .before .put8 .kept .0, c .before .before .before .before .before .before .before .before .before .before .before .before .before .before .before .before .before .before .before .before .before .before .before .before .before .before .before .before .before .before .before .before .before .before .before .put82 .kept .0, c .before .before .before .before .before .before .before .before .before .before .before .before .before .before .before .before .before .before .before .before .before .before .before .before .before .before .before .before .before .before .put32 .kept .0, c .before .before .before .before .before .before .before .before .before .before .before .before .before .before .before .before .before .before .before .before .before .before .before .before .before .before .put322 .kept .0, c .before .before .before .before .before .before .before .before .before .before .before .before .before .before .before .before .before .before .before .before .before .before .put323 .kept .0, c .before .before .before .before .before .before .before .before .before .before .before .before .before .before .before .before .before .put83 .kept .0, c .before .before .before .before .before .before .before .before .before .before .before .before .put84 .kept .0, c .before .before .before .before .before .before .before .put85 .kept .0, c .before .before .put86 .kept .0)
 
 -- src/codec.rt:162:1
 returns : tie.Need-returns
-returns c = ?
+unfolding putAll
+returns c = rw (c .before .before .put86 .ensures, c .before .before .before .before .before .before .before .put85 .ensures, c .before .before .before .before .before .before .before .before .before .before .before .before .put84 .ensures, c .before .before .before .before .before .before .before .before .before .before .before .before .before .before .before .before .before .put83 .ensures, c .before .before .before .before .before .before .before .before .before .before .before .before .before .before .before .before .before .before .before .before .before .before .put323 .ensures, c .before .before .before .before .before .before .before .before .before .before .before .before .before .before .before .before .before .before .before .before .before .before .before .before .before .before .put322 .ensures, c .before .before .before .before .before .before .before .before .before .before .before .before .before .before .before .before .before .before .before .before .before .before .before .before .before .before .before .before .before .before .put32 .ensures, c .before .before .before .before .before .before .before .before .before .before .before .before .before .before .before .before .before .before .before .before .before .before .before .before .before .before .before .before .before .before .before .before .before .before .before .put82 .ensures, c .before .before .before .before .before .before .before .before .before .before .before .before .before .before .before .before .before .before .before .before .before .before .before .before .before .before .before .before .before .before .before .before .before .before .before .before .before .before .before .before .put8 .ensures)
 
 pub put-middle-spec : {M : Type 1} → statement M
 put-middle-spec =

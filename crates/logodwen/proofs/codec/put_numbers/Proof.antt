@@ -1,3 +1,8 @@
+use Rattle.logodwen.specs.Places.{putAll, packed, total}
+use native.Mathlib.Omega.{arith}
+use mathlib.Core.Path.{_≡_, refl, sym, ap, ap₂, _∙_}
+use Rattle.logodwen.specs.StateBytes.{tallyOf, progressOf, erasingOf, wait, waitOf, pendingOf, givenIn, nodeIn, encodeOf, alike, areState, numbersOf, sizes}
+use Rattle.logodwen.proofs.Packing.{put-all}
 use borrow.Author.Needs.{needs}
 use Rattle.logodwen.proofs.codec.put_numbers.Statement.{statement}
 use Rattle.logodwen.proofs.codec.put_numbers.Tie as tie
@@ -35,7 +40,8 @@ same-length c = search needs
 
 -- src/codec.rt:187:1
 returns : tie.Need-returns
-returns c = ?
+unfolding putAll total
+returns c = rw (c .before .before .put-last .ensures, c .before .before .before .before .before .before .put-middle .ensures, c .before .before .before .before .before .before .before .before .before .before .put-first .ensures, c .before .before .before .before .before .before .before .before .before .before .before .before .wait-of .ensures, c .before .before .before .before .before .before .before .before .before .before .before .before .before .progress-of .ensures) (put-all sizes (numbersOf (c .before .before .before .before .before .before .before .before .before .before .before .before .before .before .before .before .before .args .node)) (c .before .before .before .before .before .before .before .before .before .before .before .before .before .before .before .before .before .args .bytes .now) 0 refl (omega (arith, c .before .before .before .before .before .before .before .before .before .before .before .before .before .before .before .before .before .pre)))
 
 pub put-numbers-spec : {M : Type 1} → statement M
 put-numbers-spec =

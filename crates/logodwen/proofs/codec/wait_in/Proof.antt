@@ -64,7 +64,7 @@ cast-t15 c = search needs
 
 -- src/codec.rt:258:1
 returns : tie.Need-returns
-returns c = ?
+returns c = λ i. record { pending = (c .before .before .before .before .before .before .before .byte .ensures) i; link = (c .before .before .before .before .before .before .byte2 .ensures) i; slave = (c .before .before .before .before .before .byte3 .ensures) i; from = (c .before .before .before .before .byte4 .ensures) i; tally = (c .before .before .before .byte5 .ensures) i; set = (c .before .before .word32 .ensures) i; at = (c .before .word322 .ensures) i; words = (c .word323 .ensures) i }
 
 pub wait-in-spec : {M : Type 1} → statement M
 wait-in-spec =

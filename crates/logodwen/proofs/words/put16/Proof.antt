@@ -1,3 +1,7 @@
+use Rattle.logodwen.specs.Bytes.{digitsOf, numberAt, wordsIn, wordsOf, bytesOf, storeWords, Loaded}
+use Rattle.logodwen.proofs.Runs.{byte-at, word-two, word-four, put-one, put-two, put-four, loadedTo, loaded-none, loaded-again, loaded-all, storedTo, stored-none, stored-again, stored-end, length-words-of, loaded-count, loaded-front, loaded-full, loaded-part}
+use native.Mathlib.Omega.{arith}
+use lib.ListN.{length, getD, take, drop, length-set, length-drop, length-append}
 use borrow.Author.Needs.{needs}
 use Rattle.logodwen.proofs.words.put16.Statement.{statement}
 use Rattle.logodwen.proofs.words.put16.Tie as tie
@@ -22,7 +26,7 @@ add-bytes c = search needs
 
 -- src/words.rt:60:5
 slice-write-bytes-2 : tie.Need-slice-write-bytes-2
-slice-write-bytes-2 c = ?
+slice-write-bytes-2 c = simp length-set (omega arith)
 
 -- src/words.rt:55:1
 same-length : tie.Need-same-length
@@ -30,7 +34,8 @@ same-length c = search needs
 
 -- src/words.rt:55:1
 returns : tie.Need-returns
-returns c = ?
+unfolding digitsOf
+returns c = put-two (c .args .bytes .now) (c .args .at) _ _ (c .pre)
 
 pub put16-spec : {M : Type 1} → statement M
 put16-spec =

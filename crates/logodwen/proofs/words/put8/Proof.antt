@@ -1,3 +1,5 @@
+use Rattle.logodwen.specs.Bytes.{digitsOf, numberAt, wordsIn, wordsOf, bytesOf, storeWords, Loaded}
+use Rattle.logodwen.proofs.Runs.{byte-at, word-two, word-four, put-one, put-two, put-four, loadedTo, loaded-none, loaded-again, loaded-all, storedTo, stored-none, stored-again, stored-end, length-words-of, loaded-count, loaded-front, loaded-full, loaded-part}
 use borrow.Author.Needs.{needs}
 use Rattle.logodwen.proofs.words.put8.Statement.{statement}
 use Rattle.logodwen.proofs.words.put8.Tie as tie
@@ -18,7 +20,8 @@ same-length c = search needs
 
 -- src/words.rt:47:1
 returns : tie.Need-returns
-returns c = ?
+unfolding digitsOf
+returns c = put-one (c .args .bytes .now) (c .args .at) _ (c .pre)
 
 pub put8-spec : {M : Type 1} → statement M
 put8-spec = tie.close (tie.spec cast-bytes slice-write-bytes same-length returns)

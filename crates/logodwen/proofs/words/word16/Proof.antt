@@ -1,3 +1,5 @@
+use native.Mathlib.Omega.{arith}
+use Rattle.logodwen.proofs.Runs.{byte-at, word-two, word-four, put-one, put-two, put-four, loadedTo, loaded-none, loaded-again, loaded-all, storedTo, stored-none, stored-again, stored-end, length-words-of, loaded-count, loaded-front, loaded-full, loaded-part}
 use borrow.Author.Needs.{needs}
 use Rattle.logodwen.proofs.words.word16.Statement.{statement}
 use Rattle.logodwen.proofs.words.word16.Tie as tie
@@ -35,7 +37,7 @@ add-result c = search needs
 
 -- src/words.rt:29:1
 returns : tie.Need-returns
-returns c = ?
+returns c = omega (arith, word-two (c .before .before .before .before .before .args .bytes .now) (c .before .before .before .before .before .args .at) (c .before .before .before .before .before .pre))
 
 pub word16-spec : {M : Type 1} → statement M
 word16-spec =

@@ -1,0 +1,86 @@
+use borrow.Author.Needs.{needs}
+use Rattle.logodwen.proofs.logodwen1_poll.Statement.{statement}
+use Rattle.logodwen.proofs.logodwen1_poll.Tie as tie
+use Rattle.logodwen.proofs.logodwen1_poll.Reads as reads
+use Rattle.logodwen.proofs.logodwen1_poll.Lts as lts
+use Rattle.logodwen.proofs.calls.answer_number.Reads as answer-number-reads
+use Rattle.logodwen.proofs.calls.on_poll.Reads as on-poll-reads
+use Rattle.logodwen.proofs.checks.poll_check.Reads as poll-check-reads
+use Rattle.logodwen.proofs.checks.refusal_number.Reads as refusal-number-reads
+use Rattle.logodwen.proofs.codec.encode.Reads as encode-reads
+use Rattle.logodwen.proofs.codec.node_in.Reads as node-in-reads
+
+-- src/lib.rt:159:9
+poll-check-requires : tie.Need-poll-check-requires
+poll-check-requires c κs = search needs
+
+-- src/lib.rt:162:32
+enum-told : tie.Need-enum-told
+enum-told c = search needs
+
+-- src/lib.rt:162:17
+node-in-requires : tie.Need-node-in-requires
+node-in-requires c κs = ?
+
+-- src/lib.rt:163:17
+on-poll-requires : tie.Need-on-poll-requires
+on-poll-requires c κs = ?
+
+-- src/lib.rt:166:13
+encode-requires : tie.Need-encode-requires
+encode-requires c κs = ?
+
+-- src/lib.rt:167:13
+answer-number-requires : tie.Need-answer-number-requires
+answer-number-requires c κs = search needs
+
+-- src/lib.rt:169:21
+enum-known-verdict : tie.Need-enum-known-verdict
+enum-known-verdict c = search needs
+
+-- src/lib.rt:169:33
+refusal-number-requires : tie.Need-refusal-number-requires
+refusal-number-requires c κs = search needs
+
+-- src/lib.rt:169:33
+cast-result : tie.Need-cast-result
+cast-result c = search needs
+
+-- src/lib.rt:155:1
+same-length : tie.Need-same-length
+same-length c = search needs
+
+-- src/lib.rt:155:1
+same-length-2 : tie.Need-same-length-2
+same-length-2 c = search needs
+
+-- src/lib.rt:155:1
+returns : tie.Need-returns
+returns c = ?
+
+-- src/lib.rt:155:1
+same-length-3 : tie.Need-same-length-3
+same-length-3 c = search needs
+
+-- src/lib.rt:155:1
+returns-2 : tie.Need-returns-2
+returns-2 c = ?
+
+pub logodwen1-poll-spec : {M : Type 1} → statement M
+logodwen1-poll-spec =
+    tie.close
+    (tie.spec
+    poll-check-requires
+    enum-told
+    node-in-requires
+    on-poll-requires
+    encode-requires
+    answer-number-requires
+    enum-known-verdict
+    refusal-number-requires
+    cast-result
+    same-length
+    same-length-2
+    returns
+    same-length-3
+    returns-2)
