@@ -6,7 +6,6 @@ use native.Mathlib.Nat.{min-zero, zero-min, suc-min-suc}
 use mathlib.Core.List.{List, [], _∷_, _++_}
 use mathlib.Core.Path.{_≡_, refl, sym, ap, _∙_}
 use mathlib.Core.Bool.{Bool, true, false}
-use mathlib.Core.Logic.{Dec}
 use native.Mathlib.Decide.{decLe}
 use lib.ListN.{length, take, drop, length-append}
 use lib.Seq.{length-take-le, take-at, take-all}
@@ -26,26 +25,30 @@ use Rattle.logodwen.proofs.Runs.{length-words-of, loaded-full}
 
 -- where the flash, or the reply buffer, is the only run
 
-pub left-flash : (call : List ℕ → Outcome) {t : Turn} {before words given after end : List ℕ} → given ≡ words → outcome t (lentFlash after) ≡ call given
+pub left-flash : (call : List ℕ → Outcome) (before words : List ℕ) {t : Turn} {given after end : List ℕ} → given ≡ words → outcome t (lentFlash after) ≡ call given
     → end ≡ storeWords 2 after before → outcome t (lentFlash end) ≡ inBytes (call words) (lentFlash before)
 unfolding laid bytesOf
-left-flash call {t} {before} {words} {given} {after} {end} e made stored =
+left-flash call before words {t} e made stored =
     ap (λ (l : List ℕ). outcome t (lentFlash l)) stored ∙ ap (λ (o : Outcome). inBytes o (lentFlash before)) (made ∙ ap call e)
 
-pub left-reply : (call : List ℕ → Outcome) {t : Turn} {before words given after end : List ℕ} → given ≡ words → outcome t (lentReply after) ≡ call given
+pub left-reply : (call : List ℕ → Outcome) (before words : List ℕ) {t : Turn} {given after end : List ℕ} → given ≡ words → outcome t (lentReply after) ≡ call given
     → end ≡ storeWords 2 after before → outcome t (lentReply end) ≡ inBytes (call words) (lentReply before)
 unfolding laid bytesOf
-left-reply call {t} {before} {words} {given} {after} {end} e made stored =
+left-reply call before words {t} e made stored =
     ap (λ (l : List ℕ). outcome t (lentReply l)) stored ∙ ap (λ (o : Outcome). inBytes o (lentReply before)) (made ∙ ap call e)
+
+pub left-nothing : {t u : Turn} → t ≡ u → outcome t (lentReply []) ≡ inBytes (outcome u (lentReply [])) (lentReply [])
+unfolding laid bytesOf
+left-nothing e = ap (λ (t : Turn). outcome t (lentReply [])) e
 
 -- the first 12,288 words of a reply buffer
 
 pub reply-part : (reply : List ℕ) → 12288 ≤ length reply / 2 → length (take 24576 reply) ≡ 24576
 reply-part reply h = length-take-le 24576 reply (omega arith)
 
-pub reply-full : {reply before after : List ℕ} {n : ℕ} → Loaded 2 (take 24576 reply) before after n → length before ≡ 12288 → 12288 ≤ length reply / 2
+pub reply-full : (reply : List ℕ) {before after : List ℕ} {n : ℕ} → Loaded 2 (take 24576 reply) before after n → length before ≡ 12288 → 12288 ≤ length reply / 2
     → after ≡ replyWords reply
-reply-full {reply} {before} l len h = loaded-full l (omega (arith, reply-part reply h))
+reply-full reply l len h = loaded-full l (omega (arith, reply-part reply h))
 
 -- the front of a buffer that is lent and comes back
 
@@ -64,15 +67,15 @@ pub left-memories : (call : Memories → Outcome) (before : Memories) {t : Turn}
 left-memories call before {t} {flash} {reply} e made p d i =
     (λ j. outcome t (lent flash (memories (p j) (d j) (i j)) reply)) ∙ ap (λ (o : Outcome). memoriesInBytes o before) (made ∙ ap call e)
 
-othersLeft : List ℕ → List ℕ → Outcome → Outcome
+abbrev othersLeft : List ℕ → List ℕ → Outcome → Outcome
 othersLeft flash reply o = outcome (o .turn) (lent (storeWords 2 (o .after .flash) flash) (o .after .memories) (storeWords 2 (o .after .reply) reply))
 
-pub left-runs : (call : List ℕ → List ℕ → List ℕ → Outcome) (m : Memories) {t : Turn} {packet flash reply packet₁ flash₁ reply₁ packet₀ flash₀ flash₂ reply₂ flash₃ reply₃ : List ℕ} {m₂ : Memories}
+pub left-runs : (call : List ℕ → List ℕ → List ℕ → Outcome) (m : Memories) (flash reply : List ℕ) {t : Turn} {packet₁ flash₁ reply₁ packet₀ flash₀ flash₂ reply₂ flash₃ reply₃ : List ℕ} {m₂ : Memories}
     → packet₁ ≡ packet₀ → flash₁ ≡ flash₀ → reply₁ ≡ replyWords reply
     → outcome t (lent flash₂ m₂ reply₂) ≡ memoriesInBytes (call packet₁ flash₁ reply₁) m
     → flash₃ ≡ storeWords 2 flash₂ flash → reply₃ ≡ storeWords 2 reply₂ reply
     → outcome t (lent flash₃ m₂ reply₃) ≡ inBytes (call packet₀ flash₀ (replyWords reply)) (lent flash m reply)
-left-runs call m {t} {packet} {flash} {reply} {m₂ = m₂} p f r made fs rs =
+left-runs call m flash reply {t} {m₂ = m₂} p f r made fs rs =
     (λ j. outcome t (lent (fs j) m₂ (rs j)))
     ∙ ap (othersLeft flash reply) (made ∙ (λ j. memoriesInBytes (call (p j) (f j) (r j)) m))
 

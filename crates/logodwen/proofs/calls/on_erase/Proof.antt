@@ -1,3 +1,4 @@
+use Rattle.logodwen.specs.Bytes.{digitsOf, numberAt, wordsIn, wordsOf, bytesOf, storeWords, Loaded}
 use mathlib.Core.Path.{_≡_, refl, sym, ap, ap₂, _∙_}
 use Rattle.logodwen.proofs.Runs.{byte-at, word-two, word-four, put-one, put-two, put-four, loadedTo, loaded-none, loaded-again, loaded-all, storedTo, stored-none, stored-again, stored-end, length-words-of, loaded-count, loaded-front, loaded-full, loaded-part}
 use Rattle.node.specs.Calls.{startOf, requestOf, replyOf, pollOf, eraseOf}
@@ -46,7 +47,7 @@ same-length c = search needs
 
 -- src/calls.rt:234:1
 returns : tie.Need-returns
-returns c = left-flash (eraseOf (c .before .before .before .before .before .before .before .before .before .before .before .before .before .before .args .node) (c .before .before .before .before .before .before .before .before .before .before .before .before .before .before .args .budget)) (loaded-full (c .before .before .before .before .before .before .before .before .before .load16 .ensures) (c .before .before .before .before .before .before .before .before .before .before .before .before .room-32768 .ensures ∙ sym (c .before .before .before .before .before .before .before .before .before .before .before .before .before .before .pre))) (c .before .before .before .before .before .before .erase .ensures) (c .before .before .store16 .ensures)
+returns c = left-flash (eraseOf (c .before .before .before .before .before .before .before .before .before .before .before .before .before .before .args .node) (c .before .before .before .before .before .before .before .before .before .before .before .before .before .before .args .budget)) (c .before .before .before .before .before .before .before .before .before .before .before .before .before .before .args .flash .now) (wordsOf 2 (c .before .before .before .before .before .before .before .before .before .before .before .before .before .before .args .flash .now)) (loaded-full (c .before .before .before .before .before .before .before .before .before .load16 .ensures) (c .before .before .before .before .before .before .before .before .before .before .before .before .room-32768 .ensures ∙ sym (c .before .before .before .before .before .before .before .before .before .before .before .before .before .before .pre))) (c .before .before .before .before .before .before .erase .ensures) (c .before .before .store16 .ensures)
 
 pub on-erase-spec : {M : Type 1} → statement M
 on-erase-spec =

@@ -1,3 +1,4 @@
+use Rattle.logodwen.specs.Entry.{memoryWords, replyWords, runWords, inBytes}
 use mathlib.Core.Path.{_≡_, refl, sym, ap, ap₂, _∙_}
 use Rattle.logodwen.proofs.Runs.{byte-at, word-two, word-four, put-one, put-two, put-four, loadedTo, loaded-none, loaded-again, loaded-all, storedTo, stored-none, stored-again, stored-end, length-words-of, loaded-count, loaded-front, loaded-full, loaded-part}
 use native.Mathlib.Omega.{arith}
@@ -55,7 +56,7 @@ same-length c = search needs
 
 -- src/calls.rt:223:1
 returns : tie.Need-returns
-returns c = left-reply (pollOf (c .before .before .before .before .before .before .before .before .before .before .before .before .before .before .args .node) (c .before .before .before .before .before .before .before .before .before .before .before .before .before .before .args .clock)) (reply-full (c .before .before .before .before .before .before .before .before .before .load16 .ensures) (c .before .before .before .before .before .before .before .before .before .before .before .before .room-12288 .ensures) (c .before .before .before .before .before .before .before .before .before .before .before .before .before .before .pre)) (c .before .before .before .before .before .before .poll .ensures) (c .before .before .store16 .ensures)
+returns c = left-reply (pollOf (c .before .before .before .before .before .before .before .before .before .before .before .before .before .before .args .node) (c .before .before .before .before .before .before .before .before .before .before .before .before .before .before .args .clock)) (c .before .before .before .before .before .before .before .before .before .before .before .before .before .before .args .reply .now) (replyWords (c .before .before .before .before .before .before .before .before .before .before .before .before .before .before .args .reply .now)) (reply-full (c .before .before .before .before .before .before .before .before .before .before .before .before .before .before .args .reply .now) (c .before .before .before .before .before .before .before .before .before .load16 .ensures) (c .before .before .before .before .before .before .before .before .before .before .before .before .room-12288 .ensures) (c .before .before .before .before .before .before .before .before .before .before .before .before .before .before .pre)) (c .before .before .before .before .before .before .poll .ensures) (c .before .before .store16 .ensures)
 
 pub on-poll-spec : {M : Type 1} → statement M
 on-poll-spec =

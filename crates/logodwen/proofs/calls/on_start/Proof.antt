@@ -32,7 +32,7 @@ start-requires c κs = search needs
 
 -- src/calls.rt:81:1
 returns : tie.Need-returns
-returns c = c .start .ensures ∙ ap (startOf (c .before .before .before .before .before .before .before .args .kind) (c .before .before .before .before .before .before .before .args .ports) (c .before .before .before .before .before .before .before .args .subdetector) (c .before .before .before .before .before .before .before .args .«program_version») (c .before .before .before .before .before .before .before .args .«subdetector_version») (c .before .before .before .before .before .before .before .args .«start_tests») (c .before .before .before .before .before .before .before .args .clock)) (loaded-full (c .before .before .before .load16 .ensures) (c .before .before .before .before .before .room-32768 .ensures ∙ sym (c .before .before .before .before .before .before .before .pre)))
+returns c = c .start .ensures ∙ ap (startOf (c .before .before .before .before .before .before .before .args .kind) (c .before .before .before .before .before .before .before .args .ports) (c .before .before .before .before .before .before .before .args .subdetector) (c .before .before .before .before .before .before .before .args .program-version) (c .before .before .before .before .before .before .before .args .subdetector-version) (c .before .before .before .before .before .before .before .args .start-tests) (c .before .before .before .before .before .before .before .args .clock)) (loaded-full (c .before .before .before .load16 .ensures) (c .before .before .before .before .before .room-32768 .ensures ∙ sym (c .before .before .before .before .before .before .before .pre)))
 
 pub on-start-spec : {M : Type 1} → statement M
 on-start-spec =

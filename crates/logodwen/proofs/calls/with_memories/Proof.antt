@@ -108,7 +108,7 @@ request-requires c κs = search needs
 
 -- src/calls.rt:143:13
 array-share-prefix-pm-words : tie.Need-array-share-prefix-pm-words
-array-share-prefix-pm-words c = front-fits _ _ _ (pm-count (c .before .before .before .before .before .before .before))
+array-share-prefix-pm-words c = front-fits (c .before .before .before .before .before .before .before .before .before .before .before .before .before .before .before .before .before .before .before .before .before .before .load32 .result) (c .before .before .before .before .before .before .before .request .last .1 .1 .1 .1 .1 .1 .1 .0) (c .before .before .before .before .before .before .before .before .before .before .before .before .before .before .before .before .before .before .before .before .before .before .load32 .last .1 .0) (pm-count (c .before .before .before .before .before .before .before))
 
 -- src/calls.rt:143:13
 slice-aggregate-store32 : tie.Need-slice-aggregate-store32
@@ -120,7 +120,7 @@ store32-requires c κs = omega (arith, ap length (pm-back (c .before .before .be
 
 -- src/calls.rt:144:13
 array-share-prefix-dm-words : tie.Need-array-share-prefix-dm-words
-array-share-prefix-dm-words c = front-fits _ _ _ (dm-count (c .before .before .before .before .before .before .before .before .before .before .before .before))
+array-share-prefix-dm-words c = front-fits (c .before .before .before .before .before .before .before .before .before .before .before .before .before .before .before .before .before .before .before .before .before .before .before .load16 .result) (c .before .before .before .before .before .before .before .before .before .before .before .before .request .last .1 .1 .1 .1 .1 .1 .1 .1 .0) (c .before .before .before .before .before .before .before .before .before .before .before .before .before .before .before .before .before .before .before .before .before .before .before .load16 .last .1 .0) (dm-count (c .before .before .before .before .before .before .before .before .before .before .before .before))
 
 -- src/calls.rt:144:13
 slice-aggregate-store16 : tie.Need-slice-aggregate-store16
@@ -132,7 +132,7 @@ store16-requires c κs = omega (arith, ap length (dm-back (c .before .before .be
 
 -- src/calls.rt:145:13
 array-share-prefix-io-words : tie.Need-array-share-prefix-io-words
-array-share-prefix-io-words c = front-fits _ _ _ (io-count (c .before .before .before .before .before .before .before .before .before .before .before .before .before .before .before .before .before))
+array-share-prefix-io-words c = front-fits (c .before .before .before .before .before .before .before .before .before .before .before .before .before .before .before .before .before .before .before .before .before .before .before .before .load162 .result) (c .before .before .before .before .before .before .before .before .before .before .before .before .before .before .before .before .before .request .last .1 .1 .1 .1 .1 .1 .1 .1 .1 .0) (c .before .before .before .before .before .before .before .before .before .before .before .before .before .before .before .before .before .before .before .before .before .before .before .before .load162 .last .1 .0) (io-count (c .before .before .before .before .before .before .before .before .before .before .before .before .before .before .before .before .before))
 
 -- src/calls.rt:145:13
 slice-aggregate-store16-2 : tie.Need-slice-aggregate-store16-2

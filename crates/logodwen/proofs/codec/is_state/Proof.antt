@@ -1,3 +1,11 @@
+use mathlib.Core.Path.{_≡_, refl, sym, ap, ap₂, _∙_}
+use mathlib.Core.Bool.{Bool, true, false, _&&_, _||_, not}
+use Prim.Native.Nat.{ℕ, _+_, _*_, _-_, _/_, _≤_, _<_}
+use mathlib.Core.List.{List, [], _∷_, _++_}
+use Rattle.base.proofs.Pick.{yes, no, via, and-yes, and-no}
+use borrow.Author.Tests.{eq-eqb, ne-eqb, le-leb, lt-leb, lt-ltb, le-ltb}
+use Rattle.logodwen.specs.StateBytes.{tallyOf, progressOf, erasingOf, wait, waitOf, pendingOf, givenIn, nodeIn, encodeOf, alike, areState, numbersOf, sizes}
+use Rattle.node.specs.Valid.{stateOk}
 use borrow.Author.Needs.{needs}
 use Rattle.logodwen.proofs.codec.is_state.Statement.{statement}
 use Rattle.logodwen.proofs.codec.is_state.Tie as tie
@@ -10,7 +18,8 @@ use Rattle.node.proofs.valid.state_ok.Reads as state-ok-reads
 
 -- src/codec.rt:318:9
 returns : tie.Need-returns
-returns c = ?
+unfolding areState
+returns c = and-no _ (ne-eqb _ _ (c .if1 .taken))
 
 -- src/codec.rt:320:9
 node-in-requires : tie.Need-node-in-requires
@@ -38,7 +47,8 @@ state-ok-requires c κs = search needs
 
 -- src/codec.rt:314:1
 returns-2 : tie.Need-returns-2
-returns-2 c = ?
+unfolding areState
+returns-2 c = and-yes (eq-eqb _ _ (c .before .before .before .before .before .before .before .if1 .left)) (ap₂ _&&_ (c .before .same .ensures ∙ ap (λ (l : List ℕ). alike l (c .before .before .before .before .before .before .before .before .before .args .bytes .now)) (c .before .before .before .before .encode .ensures ∙ ap encodeOf (c .before .before .before .before .before .before .node-in .ensures))) (c .state-ok .ensures ∙ ap stateOk (c .before .before .before .before .before .before .node-in .ensures)))
 
 pub is-state-spec : {M : Type 1} → statement M
 is-state-spec =

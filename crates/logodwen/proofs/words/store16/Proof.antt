@@ -25,12 +25,12 @@ mul-put16 : tie.Need-mul-put16 Inv-loop μ-loop
 mul-put16 c = omega arith
 
 -- src/words.rt:109:29
-mul-put16-2 : tie.Need-mul-put16-2 Inv-loop μ-loop
-mul-put16-2 c = omega arith
+mul-long16 : tie.Need-mul-long16 Inv-loop μ-loop
+mul-long16 c = omega arith
 
 -- src/words.rt:109:29
-shared-slice-read-put16 : tie.Need-shared-slice-read-put16 Inv-loop μ-loop
-shared-slice-read-put16 c = omega arith
+shared-slice-read-long16 : tie.Need-shared-slice-read-long16 Inv-loop μ-loop
+shared-slice-read-long16 c = omega arith
 
 -- src/words.rt:109:29
 long16-requires : tie.Need-long16-requires Inv-loop μ-loop
@@ -68,8 +68,8 @@ store16-spec =
     μ-loop
     loop-holds
     mul-put16
-    mul-put16-2
-    shared-slice-read-put16
+    mul-long16
+    shared-slice-read-long16
     long16-requires
     put16-requires
     add-i

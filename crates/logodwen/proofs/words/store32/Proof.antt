@@ -25,12 +25,12 @@ mul-put32 : tie.Need-mul-put32 Inv-loop μ-loop
 mul-put32 c = omega arith
 
 -- src/words.rt:121:29
-mul-put32-2 : tie.Need-mul-put32-2 Inv-loop μ-loop
-mul-put32-2 c = omega arith
+mul-long32 : tie.Need-mul-long32 Inv-loop μ-loop
+mul-long32 c = omega arith
 
 -- src/words.rt:121:29
-shared-slice-read-put32 : tie.Need-shared-slice-read-put32 Inv-loop μ-loop
-shared-slice-read-put32 c = omega arith
+shared-slice-read-long32 : tie.Need-shared-slice-read-long32 Inv-loop μ-loop
+shared-slice-read-long32 c = omega arith
 
 -- src/words.rt:121:29
 long32-requires : tie.Need-long32-requires Inv-loop μ-loop
@@ -68,8 +68,8 @@ store32-spec =
     μ-loop
     loop-holds
     mul-put32
-    mul-put32-2
-    shared-slice-read-put32
+    mul-long32
+    shared-slice-read-long32
     long32-requires
     put32-requires
     add-i
