@@ -21,6 +21,7 @@ use Rattle.node.specs.declared.Verdict.{Verdict}
 use Rattle.logodwen.specs.StateBytes.{encodeOf, nodeIn, alike, areState}
 use Rattle.logodwen.specs.Number.{answerNumber}
 use Rattle.logodwen.specs.Causes.{keptOk, linkOk, requestCheck, replyCheck, pollCheck, eraseCheck}
+use Rattle.logodwen.proofs.Small.{one-of}
 use Rattle.logodwen.specs.Entry.{Answered, answered, inBytes, told, entered}
 
 pub entered-fine : (v : Verdict) (state : List ℕ) (runs : Lent) (o : Outcome) {t : Turn} {l : Lent} {number : ℕ} {after : List ℕ} → v ≡ Verdict.Fine
@@ -114,18 +115,13 @@ erase-fine state flash h =
 
 -- start's numbers are small where they are not refused, and the node's start is then done
 
-either-small : (kind : ℕ) (t u : Bool) → eqb kind 1 ≡ t → eqb kind 2 ≡ u → (t || u) ≡ true → kind ≤ 2
-either-small kind true u a b h = omega (arith, eqb-true kind 1 a)
-either-small kind false true a b h = omega (arith, eqb-true kind 2 b)
-either-small kind false false a b h = absurd (false≢true h)
-
 pub start-small : (kind ports subdetector : ℕ) → (not (portsOk ports) || not (kindOk kind) || ltb 7 subdetector) ≡ false → (kind ≤ 2) × (ports ≤ 4) × (subdetector ≤ 7)
 start-small kind ports subdetector h =
     let a = neither (not (portsOk ports) || not (kindOk kind)) (ltb 7 subdetector) h in
     let b = neither (not (portsOk ports)) (not (kindOk kind)) (a .0) in
     let p : portsOk ports ≡ true = not-false (portsOk ports) (b .0) in
     let k : kindOk kind ≡ true = not-false (kindOk kind) (b .1) in
-    (either-small kind (eqb kind 1) (eqb kind 2) refl refl k, leb-true ports 4 (and-right (leb 1 ports) (leb ports 4) p), ltb-false 7 subdetector (a .1))
+    (one-of kind 1 2 2 (omega arith) (omega arith) k, leb-true ports 4 (and-right (leb 1 ports) (leb ports 4) p), ltb-false 7 subdetector (a .1))
 
 pub start-done : (kind ports subdetector program version tests clock : ℕ) (flash : List ℕ) → length flash ≡ 32768
     → (not (portsOk ports) || not (kindOk kind) || ltb 7 subdetector) ≡ false

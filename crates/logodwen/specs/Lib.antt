@@ -4,3 +4,4 @@ pub mod StateBytes
 pub mod Number
 pub mod Causes
 pub mod Entry
+pub mod Kept

@@ -21,10 +21,7 @@ use node::Turn;
 fn done(kind: u64, who: u64, from: u64, words: u64) -> u64
     ensures { λ r. ⌜ r ≡ fields kind who from words ⌝ }
 {
-    kind % 256 * 256
-        + who % 256 * 65536
-        + from % 256 * 16777216
-        + words % 4294967296 * 4294967296
+    kind % 256 * 256 + who % 256 * 65536 + from % 256 * 16777216 + words % 4294967296 * 4294967296
 }
 
 // What a call answers, as one number.

@@ -109,8 +109,19 @@ pub extern "C" fn logodwen1_request(
         Verdict::Fine => {
             let node = node_in(state);
             let errors = receive_error != 0;
-            let turn =
-                on_request(node, clock, link, bc, errors, packet, flash, pm, dm, io, reply);
+            let turn = on_request(
+                node,
+                clock,
+                link,
+                bc,
+                errors,
+                packet,
+                flash,
+                pm,
+                dm,
+                io,
+                reply,
+            );
             let next = turn.node;
             let answer = turn.answer;
             encode(next, state);
@@ -140,8 +151,17 @@ pub extern "C" fn logodwen1_reply(
         Verdict::Fine => {
             let node = node_in(state);
             let errors = receive_error != 0;
-            let turn =
-                on_reply(node, clock, slave, bc, errors, rx_status, rx_address, packet, reply);
+            let turn = on_reply(
+                node,
+                clock,
+                slave,
+                bc,
+                errors,
+                rx_status,
+                rx_address,
+                packet,
+                reply,
+            );
             let next = turn.node;
             let answer = turn.answer;
             encode(next, state);

@@ -1,75 +1,56 @@
-use mathlib.Core.Path.{_≡_, refl, sym, ap, ap₂, _∙_}
-use mathlib.Core.Bool.{Bool, true, false, _&&_, _||_, not}
-use Prim.Native.Nat.{ℕ, _+_, _*_, _-_, _/_, _≤_, _<_}
-use lib.Dec.{eqb, leb, ltb}
-use Rattle.base.proofs.Pick.{yes, no, via, and-yes, and-no}
-use borrow.Author.Tests.{eq-eqb, ne-eqb, lt-ltb, le-ltb, not-false}
-use Rattle.logodwen.proofs.Entering.{entered-fine, entered-refused, state-long, RequestFine, request-fine, ReplyFine, reply-fine, poll-fine, erase-fine, start-small, start-done}
-use Rattle.logodwen.specs.Causes.{keptOk, requestCheck, replyCheck, pollCheck, eraseCheck, startCheck}
+-- `logodwen::checks::request_check` meets its contract. Assumes nothing.
+use mathlib.Core.Path.{refl, sym, ap, _∙_}
+use mathlib.Core.Bool.{Bool, _&&_, _||_, not}
+use lib.Dec.{eqb, leb}
+use Rattle.base.proofs.Pick.{yes, no}
+use borrow.Author.Tests.{lt-ltb, le-ltb, not-false}
+use Rattle.logodwen.proofs.Entering.{state-long}
+use Rattle.logodwen.specs.Causes.{requestCheck}
 use Rattle.node.specs.declared.Node.{Node}
-use Rattle.node.specs.Refusals.{isPending, isAsked}
+use Rattle.node.specs.Refusals.{isPending}
 use borrow.Author.Needs.{needs}
 use Rattle.logodwen.proofs.checks.request_check.Statement.{statement}
 use Rattle.logodwen.proofs.checks.request_check.Tie as tie
-use Rattle.logodwen.proofs.checks.request_check.Reads as reads
-use Rattle.logodwen.proofs.checks.request_check.Lts as lts
-use Rattle.logodwen.proofs.checks.kept_ok.Reads as kept-ok-reads
-use Rattle.logodwen.proofs.checks.link_ok.Reads as link-ok-reads
-use Rattle.logodwen.proofs.codec.is_state.Reads as is-state-reads
-use Rattle.logodwen.proofs.codec.node_in.Reads as node-in-reads
-use Rattle.node.proofs.refusals.is_pending.Reads as is-pending-reads
 
--- src/checks.rt:58:28
 kept-ok-requires : tie.Need-kept-ok-requires
 kept-ok-requires c κs = search needs
 
--- src/checks.rt:59:9
 returns : tie.Need-returns
 unfolding requestCheck
 returns c = yes _ (sym (ap (λ (x : Bool). not (eqb (c .before .before .before .args .flash) 32768) || not x) (c .before .kept-ok .ensures)) ∙ c .if1 .taken) (refl)
 
--- src/checks.rt:62:9
 returns-2 : tie.Need-returns-2
 unfolding requestCheck
 returns-2 c = no _ (sym (ap (λ (x : Bool). not (eqb (c .before .before .before .before .args .flash) 32768) || not x) (c .before .before .kept-ok .ensures)) ∙ c .before .if1 .left) (yes _ (lt-ltb _ _ (c .if2 .taken)) (refl))
 
--- src/checks.rt:65:9
 returns-3 : tie.Need-returns-3
 unfolding requestCheck
 returns-3 c = no _ (sym (ap (λ (x : Bool). not (eqb (c .before .before .before .before .before .args .flash) 32768) || not x) (c .before .before .before .kept-ok .ensures)) ∙ c .before .before .if1 .left) (no _ (le-ltb _ _ (c .before .if2 .left)) (yes _ (c .if3 .taken) (refl)))
 
--- src/checks.rt:67:9
 link-ok-requires : tie.Need-link-ok-requires
 link-ok-requires c κs = search needs
 
--- src/checks.rt:68:9
 returns-4 : tie.Need-returns-4
 unfolding requestCheck
 returns-4 c = no _ (sym (ap (λ (x : Bool). not (eqb (c .before .before .before .before .before .before .before .args .flash) 32768) || not x) (c .before .before .before .before .before .kept-ok .ensures)) ∙ c .before .before .before .before .if1 .left) (no _ (le-ltb _ _ (c .before .before .before .if2 .left)) (no _ (c .before .before .if3 .left) (yes _ (sym (ap not (c .before .link-ok .ensures)) ∙ c .if4 .taken) (refl))))
 
--- src/checks.rt:70:9
 is-state-requires : tie.Need-is-state-requires
 is-state-requires c κs = search needs
 
--- src/checks.rt:71:9
 returns-5 : tie.Need-returns-5
 unfolding requestCheck
 returns-5 c = no _ (sym (ap (λ (x : Bool). not (eqb (c .before .before .before .before .before .before .before .before .before .args .flash) 32768) || not x) (c .before .before .before .before .before .before .before .kept-ok .ensures)) ∙ c .before .before .before .before .before .before .if1 .left) (no _ (le-ltb _ _ (c .before .before .before .before .before .if2 .left)) (no _ (c .before .before .before .before .if3 .left) (no _ (sym (ap not (c .before .before .before .link-ok .ensures)) ∙ c .before .before .if4 .left) (yes _ (sym (ap not (c .before .is-state .ensures)) ∙ c .if5 .taken) (refl)))))
 
--- src/checks.rt:73:9
 node-in-requires : tie.Need-node-in-requires
 node-in-requires c κs = state-long (c .before .before .before .before .before .before .before .before .before .args .state .now) (not-false _ (sym (ap not (c .before .is-state .ensures)) ∙ c .if5 .left))
 
--- src/checks.rt:75:8
 is-pending-requires : tie.Need-is-pending-requires
 is-pending-requires c κs = search needs
 
--- src/checks.rt:76:9
 returns-6 : tie.Need-returns-6
 unfolding requestCheck
 returns-6 c = no _ (sym (ap (λ (x : Bool). not (eqb (c .before .before .before .before .before .before .before .before .before .before .before .before .args .flash) 32768) || not x) (c .before .before .before .before .before .before .before .before .before .before .kept-ok .ensures)) ∙ c .before .before .before .before .before .before .before .before .before .if1 .left) (no _ (le-ltb _ _ (c .before .before .before .before .before .before .before .before .if2 .left)) (no _ (c .before .before .before .before .before .before .before .if3 .left) (no _ (sym (ap not (c .before .before .before .before .before .before .link-ok .ensures)) ∙ c .before .before .before .before .before .if4 .left) (no _ (sym (ap not (c .before .before .before .before .is-state .ensures)) ∙ c .before .before .before .if5 .left) (yes _ (sym (ap (λ (x : Bool). x && leb 1 (c .before .before .before .before .before .before .before .before .before .before .before .before .args .packet)) (c .before .is-pending .ensures ∙ ap (λ (n : Node). isPending (n .pending)) (c .before .before .node-in .ensures))) ∙ c .if6 .taken) (refl))))))
 
--- src/checks.rt:46:1
 returns-7 : tie.Need-returns-7
 unfolding requestCheck
 returns-7 c = no _ (sym (ap (λ (x : Bool). not (eqb (c .before .before .before .before .before .before .before .before .before .before .before .before .args .flash) 32768) || not x) (c .before .before .before .before .before .before .before .before .before .before .kept-ok .ensures)) ∙ c .before .before .before .before .before .before .before .before .before .if1 .left) (no _ (le-ltb _ _ (c .before .before .before .before .before .before .before .before .if2 .left)) (no _ (c .before .before .before .before .before .before .before .if3 .left) (no _ (sym (ap not (c .before .before .before .before .before .before .link-ok .ensures)) ∙ c .before .before .before .before .before .if4 .left) (no _ (sym (ap not (c .before .before .before .before .is-state .ensures)) ∙ c .before .before .before .if5 .left) (no _ (sym (ap (λ (x : Bool). x && leb 1 (c .before .before .before .before .before .before .before .before .before .before .before .before .args .packet)) (c .before .is-pending .ensures ∙ ap (λ (n : Node). isPending (n .pending)) (c .before .before .node-in .ensures))) ∙ c .if6 .left) (refl))))))

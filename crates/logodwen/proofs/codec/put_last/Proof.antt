@@ -1,36 +1,27 @@
-use Rattle.logodwen.specs.Places.{putAll, packed, total}
+-- `logodwen::codec::put_last` meets its contract. Assumes nothing.
+use Rattle.logodwen.specs.Places.{putAll}
 use borrow.Author.Needs.{needs}
 use Rattle.logodwen.proofs.codec.put_last.Statement.{statement}
 use Rattle.logodwen.proofs.codec.put_last.Tie as tie
-use Rattle.logodwen.proofs.codec.put_last.Reads as reads
-use Rattle.logodwen.proofs.codec.put_last.Lts as lts
-use Rattle.logodwen.proofs.words.put32.Reads as put32-reads
 
--- src/codec.rt:181:22
 cast-put32 : tie.Need-cast-put32
 cast-put32 c = search needs
 
--- src/codec.rt:181:5
 put32-requires : tie.Need-put32-requires
 put32-requires c κs = search needs
 
--- src/codec.rt:182:22
 cast-put32-2 : tie.Need-cast-put32-2
 cast-put32-2 c = search needs
 
--- src/codec.rt:182:5
 put32-requires-2 : tie.Need-put32-requires-2
 put32-requires-2 c κs = search needs
 
--- src/codec.rt:183:5
 put32-requires-3 : tie.Need-put32-requires-3
 put32-requires-3 c κs = search needs
 
--- src/codec.rt:177:1
 same-length : tie.Need-same-length
 same-length c = search needs
 
--- src/codec.rt:177:1
 returns : tie.Need-returns
 unfolding putAll
 returns c = rw (c .before .before .put323 .ensures, c .before .before .before .before .before .before .put322 .ensures, c .before .before .before .before .before .before .before .before .before .before .before .put32 .ensures)

@@ -1,78 +1,58 @@
-use Rattle.logodwen.specs.Places.{putAll, packed, total}
+-- `logodwen::codec::put_middle` meets its contract. Assumes nothing.
+use Rattle.logodwen.specs.Places.{putAll}
 use native.Mathlib.Omega.{arith}
 use borrow.Author.Needs.{needs}
 use Rattle.logodwen.proofs.codec.put_middle.Statement.{statement}
 use Rattle.logodwen.proofs.codec.put_middle.Tie as tie
-use Rattle.logodwen.proofs.codec.put_middle.Reads as reads
-use Rattle.logodwen.proofs.codec.put_middle.Lts as lts
-use Rattle.logodwen.proofs.words.put32.Reads as put32-reads
-use Rattle.logodwen.proofs.words.put8.Reads as put8-reads
 
--- src/codec.rt:166:5
 put8-requires : tie.Need-put8-requires
 put8-requires c κs = search needs
 
--- src/codec.rt:167:21
 cast-put8 : tie.Need-cast-put8
 cast-put8 c = search needs
 
--- src/codec.rt:167:5
 put8-requires-2 : tie.Need-put8-requires-2
 put8-requires-2 c κs = search needs
 
--- src/codec.rt:168:22
 cast-put32 : tie.Need-cast-put32
 cast-put32 c = search needs
 
--- src/codec.rt:168:5
 put32-requires : tie.Need-put32-requires
 put32-requires c κs = search needs
 
--- src/codec.rt:169:5
 put32-requires-2 : tie.Need-put32-requires-2
 put32-requires-2 c κs = search needs
 
--- src/codec.rt:170:5
 put32-requires-3 : tie.Need-put32-requires-3
 put32-requires-3 c κs = search needs
 
--- src/codec.rt:171:21
 cast-put8-2 : tie.Need-cast-put8-2
 cast-put8-2 c = search needs
 
--- src/codec.rt:171:5
 put8-requires-3 : tie.Need-put8-requires-3
 put8-requires-3 c κs = search needs
 
--- src/codec.rt:172:21
 cast-put8-3 : tie.Need-cast-put8-3
 cast-put8-3 c = search needs
 
--- src/codec.rt:172:5
 put8-requires-4 : tie.Need-put8-requires-4
 put8-requires-4 c κs = omega (arith, c .before .before .before .before .before .before .before .before .before .before .before .before .before .before .before .before .before .before .before .before .before .before .before .before .before .before .before .put8 .kept .0, c .before .before .before .before .before .before .before .before .before .before .before .before .before .before .before .before .before .before .before .before .before .before .put82 .kept .0, c .before .before .before .before .before .before .before .before .before .before .before .before .before .before .before .before .before .put32 .kept .0, c .before .before .before .before .before .before .before .before .before .before .before .before .before .put322 .kept .0, c .before .before .before .before .before .before .before .before .before .put323 .kept .0, c .before .before .before .before .put83 .kept .0, c .before .before .before .before .before .before .before .before .before .before .before .before .before .before .before .before .before .before .before .before .before .before .before .before .before .before .before .before .before .before .pre)
 
--- src/codec.rt:173:21
 cast-put8-4 : tie.Need-cast-put8-4
 cast-put8-4 c = search needs
 
--- src/codec.rt:173:5
 put8-requires-5 : tie.Need-put8-requires-5
 put8-requires-5 c κs = omega (arith, c .before .before .before .before .before .before .before .before .before .before .before .before .before .before .before .before .before .before .before .before .before .before .before .before .before .before .before .before .before .before .before .before .put8 .kept .0, c .before .before .before .before .before .before .before .before .before .before .before .before .before .before .before .before .before .before .before .before .before .before .before .before .before .before .before .put82 .kept .0, c .before .before .before .before .before .before .before .before .before .before .before .before .before .before .before .before .before .before .before .before .before .before .put32 .kept .0, c .before .before .before .before .before .before .before .before .before .before .before .before .before .before .before .before .before .before .put322 .kept .0, c .before .before .before .before .before .before .before .before .before .before .before .before .before .before .put323 .kept .0, c .before .before .before .before .before .before .before .before .before .put83 .kept .0, c .before .before .before .before .put84 .kept .0, c .before .before .before .before .before .before .before .before .before .before .before .before .before .before .before .before .before .before .before .before .before .before .before .before .before .before .before .before .before .before .before .before .before .before .before .pre)
 
--- src/codec.rt:174:21
 cast-put8-5 : tie.Need-cast-put8-5
 cast-put8-5 c = search needs
 
--- src/codec.rt:174:5
 put8-requires-6 : tie.Need-put8-requires-6
 put8-requires-6 c κs = omega (arith, c .before .before .before .before .before .before .before .before .before .before .before .before .before .before .before .before .before .before .before .before .before .before .before .before .before .before .before .before .before .before .before .before .before .before .before .before .before .put8 .kept .0, c .before .before .before .before .before .before .before .before .before .before .before .before .before .before .before .before .before .before .before .before .before .before .before .before .before .before .before .before .before .before .before .before .put82 .kept .0, c .before .before .before .before .before .before .before .before .before .before .before .before .before .before .before .before .before .before .before .before .before .before .before .before .before .before .before .put32 .kept .0, c .before .before .before .before .before .before .before .before .before .before .before .before .before .before .before .before .before .before .before .before .before .before .before .put322 .kept .0, c .before .before .before .before .before .before .before .before .before .before .before .before .before .before .before .before .before .before .before .put323 .kept .0, c .before .before .before .before .before .before .before .before .before .before .before .before .before .before .put83 .kept .0, c .before .before .before .before .before .before .before .before .before .put84 .kept .0, c .before .before .before .before .put85 .kept .0, c .before .before .before .before .before .before .before .before .before .before .before .before .before .before .before .before .before .before .before .before .before .before .before .before .before .before .before .before .before .before .before .before .before .before .before .before .before .before .before .before .pre)
 
--- src/codec.rt:162:1
 same-length : tie.Need-same-length
 same-length c = omega (arith, c .before .before .before .before .before .before .before .before .before .before .before .before .before .before .before .before .before .before .before .before .before .before .before .before .before .before .before .before .before .before .before .before .before .before .before .before .before .before .before .before .put8 .kept .0, c .before .before .before .before .before .before .before .before .before .before .before .before .before .before .before .before .before .before .before .before .before .before .before .before .before .before .before .before .before .before .before .before .before .before .before .put82 .kept .0, c .before .before .before .before .before .before .before .before .before .before .before .before .before .before .before .before .before .before .before .before .before .before .before .before .before .before .before .before .before .before .put32 .kept .0, c .before .before .before .before .before .before .before .before .before .before .before .before .before .before .before .before .before .before .before .before .before .before .before .before .before .before .put322 .kept .0, c .before .before .before .before .before .before .before .before .before .before .before .before .before .before .before .before .before .before .before .before .before .before .put323 .kept .0, c .before .before .before .before .before .before .before .before .before .before .before .before .before .before .before .before .before .put83 .kept .0, c .before .before .before .before .before .before .before .before .before .before .before .before .put84 .kept .0, c .before .before .before .before .before .before .before .put85 .kept .0, c .before .before .put86 .kept .0)
 
--- src/codec.rt:162:1
 returns : tie.Need-returns
 unfolding putAll
 returns c = rw (c .before .before .put86 .ensures, c .before .before .before .before .before .before .before .put85 .ensures, c .before .before .before .before .before .before .before .before .before .before .before .before .put84 .ensures, c .before .before .before .before .before .before .before .before .before .before .before .before .before .before .before .before .before .put83 .ensures, c .before .before .before .before .before .before .before .before .before .before .before .before .before .before .before .before .before .before .before .before .before .before .put323 .ensures, c .before .before .before .before .before .before .before .before .before .before .before .before .before .before .before .before .before .before .before .before .before .before .before .before .before .before .put322 .ensures, c .before .before .before .before .before .before .before .before .before .before .before .before .before .before .before .before .before .before .before .before .before .before .before .before .before .before .before .before .before .before .put32 .ensures, c .before .before .before .before .before .before .before .before .before .before .before .before .before .before .before .before .before .before .before .before .before .before .before .before .before .before .before .before .before .before .before .before .before .before .before .put82 .ensures, c .before .before .before .before .before .before .before .before .before .before .before .before .before .before .before .before .before .before .before .before .before .before .before .before .before .before .before .before .before .before .before .before .before .before .before .before .before .before .before .before .put8 .ensures)

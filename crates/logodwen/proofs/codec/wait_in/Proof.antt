@@ -1,68 +1,50 @@
+-- `logodwen::codec::wait_in` meets its contract. Assumes nothing.
 use borrow.Author.Needs.{needs}
 use Rattle.logodwen.proofs.codec.wait_in.Statement.{statement}
 use Rattle.logodwen.proofs.codec.wait_in.Tie as tie
-use Rattle.logodwen.proofs.codec.wait_in.Reads as reads
-use Rattle.logodwen.proofs.codec.wait_in.Lts as lts
-use Rattle.logodwen.proofs.words.byte.Reads as byte-reads
-use Rattle.logodwen.proofs.words.word32.Reads as word32-reads
 
--- src/codec.rt:263:18
 byte-requires : tie.Need-byte-requires
 byte-requires c κs = search needs
 
--- src/codec.rt:263:18
 cast-t3 : tie.Need-cast-t3
 cast-t3 c = search needs
 
--- src/codec.rt:264:15
 byte-requires-2 : tie.Need-byte-requires-2
 byte-requires-2 c κs = search needs
 
--- src/codec.rt:264:15
 cast-t5 : tie.Need-cast-t5
 cast-t5 c = search needs
 
--- src/codec.rt:265:16
 byte-requires-3 : tie.Need-byte-requires-3
 byte-requires-3 c κs = search needs
 
--- src/codec.rt:265:16
 cast-t7 : tie.Need-cast-t7
 cast-t7 c = search needs
 
--- src/codec.rt:266:15
 byte-requires-4 : tie.Need-byte-requires-4
 byte-requires-4 c κs = search needs
 
--- src/codec.rt:266:15
 cast-t9 : tie.Need-cast-t9
 cast-t9 c = search needs
 
--- src/codec.rt:267:16
 byte-requires-5 : tie.Need-byte-requires-5
 byte-requires-5 c κs = search needs
 
--- src/codec.rt:267:16
 cast-t11 : tie.Need-cast-t11
 cast-t11 c = search needs
 
--- src/codec.rt:268:14
 word32-requires : tie.Need-word32-requires
 word32-requires c κs = search needs
 
--- src/codec.rt:269:13
 word32-requires-2 : tie.Need-word32-requires-2
 word32-requires-2 c κs = search needs
 
--- src/codec.rt:270:16
 word32-requires-3 : tie.Need-word32-requires-3
 word32-requires-3 c κs = search needs
 
--- src/codec.rt:270:16
 cast-t15 : tie.Need-cast-t15
 cast-t15 c = search needs
 
--- src/codec.rt:258:1
 returns : tie.Need-returns
 returns c = λ i. record { pending = (c .before .before .before .before .before .before .before .byte .ensures) i; link = (c .before .before .before .before .before .before .byte2 .ensures) i; slave = (c .before .before .before .before .before .byte3 .ensures) i; from = (c .before .before .before .before .byte4 .ensures) i; tally = (c .before .before .before .byte5 .ensures) i; set = (c .before .before .word32 .ensures) i; at = (c .before .word322 .ensures) i; words = (c .word323 .ensures) i }
 

@@ -1,38 +1,30 @@
-use Rattle.logodwen.specs.Bytes.{digitsOf, numberAt, wordsIn, wordsOf, bytesOf, storeWords, Loaded}
-use Rattle.logodwen.proofs.Runs.{byte-at, word-two, word-four, put-one, put-two, put-four, loadedTo, loaded-none, loaded-again, loaded-all, storedTo, stored-none, stored-again, stored-end, length-words-of, loaded-count, loaded-front, loaded-full, loaded-part}
+-- `logodwen::words::put16` meets its contract. Assumes nothing.
+use Rattle.logodwen.specs.Bytes.{digitsOf}
+use Rattle.logodwen.proofs.Runs.{put-two}
 use native.Mathlib.Omega.{arith}
-use lib.ListN.{length, getD, take, drop, length-set, length-drop, length-append}
+use lib.ListN.{length-set}
 use borrow.Author.Needs.{needs}
 use Rattle.logodwen.proofs.words.put16.Statement.{statement}
 use Rattle.logodwen.proofs.words.put16.Tie as tie
-use Rattle.logodwen.proofs.words.put16.Reads as reads
-use Rattle.logodwen.proofs.words.put16.Lts as lts
 
--- src/words.rt:59:17
 cast-bytes : tie.Need-cast-bytes
 cast-bytes c = search needs
 
--- src/words.rt:59:5
 slice-write-bytes : tie.Need-slice-write-bytes
 slice-write-bytes c = search needs
 
--- src/words.rt:60:21
 cast-bytes-2 : tie.Need-cast-bytes-2
 cast-bytes-2 c = search needs
 
--- src/words.rt:60:11
 add-bytes : tie.Need-add-bytes
 add-bytes c = search needs
 
--- src/words.rt:60:5
 slice-write-bytes-2 : tie.Need-slice-write-bytes-2
 slice-write-bytes-2 c = simp length-set (omega arith)
 
--- src/words.rt:55:1
 same-length : tie.Need-same-length
 same-length c = search needs
 
--- src/words.rt:55:1
 returns : tie.Need-returns
 unfolding digitsOf
 returns c = put-two (c .args .bytes .now) (c .args .at) _ _ (c .pre)

@@ -1,81 +1,61 @@
+-- `logodwen::words::word32` meets its contract. Assumes nothing.
 use native.Mathlib.Omega.{arith}
-use Rattle.logodwen.proofs.Runs.{byte-at, word-two, word-four, put-one, put-two, put-four, loadedTo, loaded-none, loaded-again, loaded-all, storedTo, stored-none, stored-again, stored-end, length-words-of, loaded-count, loaded-front, loaded-full, loaded-part}
+use Rattle.logodwen.proofs.Runs.{word-four}
 use borrow.Author.Needs.{needs}
 use Rattle.logodwen.proofs.words.word32.Statement.{statement}
 use Rattle.logodwen.proofs.words.word32.Tie as tie
-use Rattle.logodwen.proofs.words.word32.Reads as reads
-use Rattle.logodwen.proofs.words.word32.Lts as lts
-use Rattle.logodwen.proofs.words.wide32.Reads as wide32-reads
 
--- src/words.rt:41:12
 shared-slice-read-wide32 : tie.Need-shared-slice-read-wide32
 shared-slice-read-wide32 c = search needs
 
--- src/words.rt:41:5
 wide32-requires : tie.Need-wide32-requires
 wide32-requires c κs = search needs
 
--- src/words.rt:43:29
 add-wide32 : tie.Need-add-wide32
 add-wide32 c = search needs
 
--- src/words.rt:43:23
 shared-slice-read-wide32-2 : tie.Need-shared-slice-read-wide32-2
 shared-slice-read-wide32-2 c = search needs
 
--- src/words.rt:43:16
 wide32-requires-2 : tie.Need-wide32-requires-2
 wide32-requires-2 c κs = search needs
 
--- src/words.rt:43:60
 add-wide32-2 : tie.Need-add-wide32-2
 add-wide32-2 c = search needs
 
--- src/words.rt:43:54
 shared-slice-read-wide32-3 : tie.Need-shared-slice-read-wide32-3
 shared-slice-read-wide32-3 c = search needs
 
--- src/words.rt:43:47
 wide32-requires-3 : tie.Need-wide32-requires-3
 wide32-requires-3 c κs = search needs
 
--- src/words.rt:43:90
 add-wide32-3 : tie.Need-add-wide32-3
 add-wide32-3 c = search needs
 
--- src/words.rt:43:84
 shared-slice-read-wide32-4 : tie.Need-shared-slice-read-wide32-4
 shared-slice-read-wide32-4 c = search needs
 
--- src/words.rt:43:77
 wide32-requires-4 : tie.Need-wide32-requires-4
 wide32-requires-4 c κs = search needs
 
--- src/words.rt:43:71
 mul-result : tie.Need-mul-result
 mul-result c = search needs
 
--- src/words.rt:43:47
 add-result : tie.Need-add-result
 add-result c = search needs
 
--- src/words.rt:43:40
 mul-result-2 : tie.Need-mul-result-2
 mul-result-2 c = search needs
 
--- src/words.rt:43:16
 add-result-2 : tie.Need-add-result-2
 add-result-2 c = search needs
 
--- src/words.rt:42:11
 mul-result-3 : tie.Need-mul-result-3
 mul-result-3 c = search needs
 
--- src/words.rt:41:5
 add-result-3 : tie.Need-add-result-3
 add-result-3 c = search needs
 
--- src/words.rt:37:1
 returns : tie.Need-returns
 returns c = omega (arith, word-four (c .before .before .before .before .before .before .before .before .before .args .bytes .now) (c .before .before .before .before .before .before .before .before .before .args .at) (c .before .before .before .before .before .before .before .before .before .pre))
 
