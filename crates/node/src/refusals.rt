@@ -10,7 +10,7 @@ use crate::valid::ports_ok;
 use crate::valid::size_ok;
 use crate::valid::state_ok;
 
-fn is_pending(pending: Pending) -> bool
+pub fn is_pending(pending: Pending) -> bool
     ensures { λ r. ⌜ r ≡ isPending pending ⌝ }
 {
     match pending {
@@ -20,7 +20,7 @@ fn is_pending(pending: Pending) -> bool
     }
 }
 
-fn is_asked(pending: Pending, slave: u32) -> bool
+pub fn is_asked(pending: Pending, slave: u32) -> bool
     ensures { λ r. ⌜ r ≡ isAsked pending slave ⌝ }
 {
     match pending {

@@ -1,0 +1,133 @@
+-- An entry that is refused, and one that is taken; and what it tells that no cause of a refusal holds. Assumes nothing.
+use Prim.Native.Nat.{ℕ, _/_, _≤_, _<_}
+use native.Mathlib.Omega.{arith}
+use mathlib.Core.Path.{_≡_, refl, sym, ap, _∙_}
+use mathlib.Core.Bool.{Bool, true, false, _&&_, _||_, not, false≢true}
+use mathlib.Core.List.{List, []}
+use lib.ListN.{length}
+use lib.Dec.{ltb, leb, eqb}
+use borrow.Author.Tests.{eq-eqb, eqb-true, leb-true, ltb-false, not-false}
+use Rattle.base.specs.Pick.{pick}
+use Rattle.base.proofs.Pick.{no, and-left, and-right}
+use Rattle.node.specs.State.{refusalNumber}
+use Rattle.node.specs.Effect.{Lent, Outcome, outcome}
+use Rattle.node.specs.Valid.{sizeOk, kindOk, portsOk, stateOk}
+use Rattle.node.specs.Refusals.{startVerdict}
+use Rattle.node.specs.Calls.{given, startBy, startOf}
+use Rattle.node.specs.declared.Answer.{Answer}
+use Rattle.node.specs.declared.Refusal.{Refusal}
+use Rattle.node.specs.declared.Turn.{Turn}
+use Rattle.node.specs.declared.Verdict.{Verdict}
+use Rattle.logodwen.specs.StateBytes.{encodeOf, nodeIn, alike, areState}
+use Rattle.logodwen.specs.Number.{answerNumber}
+use Rattle.logodwen.specs.Causes.{keptOk, linkOk, requestCheck, replyCheck, pollCheck, eraseCheck}
+use Rattle.logodwen.proofs.Small.{one-of}
+use Rattle.logodwen.specs.Entry.{Answered, answered, inBytes, told, entered}
+
+pub entered-fine : (v : Verdict) (state : List ℕ) (runs : Lent) (o : Outcome) {t : Turn} {l : Lent} {number : ℕ} {after : List ℕ} → v ≡ Verdict.Fine
+    → outcome t l ≡ inBytes o runs → number ≡ answerNumber (t .answer) → after ≡ encodeOf (t .node) → answered number after l ≡ entered v state runs o
+entered-fine v state runs o {t} {l} fine made numbered encoded =
+    (λ i. answered (numbered i) (encoded i) l) ∙ ap told made ∙ sym (ap (λ (w : Verdict). entered w state runs o) fine)
+
+pub entered-refused : (v : Verdict) (state : List ℕ) (runs : Lent) (o : Outcome) (r : Refusal) {number : ℕ} → v ≡ Verdict.No r → number ≡ refusalNumber r
+    → answered number state runs ≡ entered v state runs o
+entered-refused v state runs o r e numbered =
+    ap (λ (n : ℕ). answered n state runs) numbered ∙ sym (ap (λ (w : Verdict). entered w state runs o) e)
+
+-- bytes of a state are 172
+pub state-long : (bytes : List ℕ) → areState bytes ≡ true → length bytes ≡ 172
+unfolding areState
+state-long bytes h =
+    eqb-true (length bytes) 172 (and-left (eqb (length bytes) 172) (alike (encodeOf (nodeIn bytes)) bytes && stateOk (nodeIn bytes)) h)
+
+-- where the verdict is fine no cause holds
+
+fine-then : (t : Bool) (r : Refusal) (v : Verdict) → pick t (Verdict.No r) v ≡ Verdict.Fine → (t ≡ false) × (v ≡ Verdict.Fine)
+fine-then true r v e = let z : _≡_ {A = ℕ} 0 1 = cc in absurd (omega arith)
+fine-then false r v e = (refl, e)
+
+neither : (t u : Bool) → (t || u) ≡ false → (t ≡ false) × (u ≡ false)
+neither true u e = absurd (false≢true (sym e))
+neither false u e = (refl, e)
+
+bench-size : (state : List ℕ) (flash : ℕ) → (not (eqb flash 32768) || not (keptOk state flash)) ≡ false → flash ≡ 32768
+bench-size state flash h = eqb-true flash 32768 (not-false (eqb flash 32768) (neither (not (eqb flash 32768)) (not (keptOk state flash)) h .0))
+
+pub record RequestFine (state : List ℕ) (flash pm dm io reply : ℕ) : Type 0 where
+  pub bench : flash ≡ 32768
+  pub buffer : 12288 ≤ reply
+  pub pm-short : pm ≤ 8192
+  pub dm-short : dm ≤ 8192
+  pub io-short : io ≤ 4096
+  pub bytes : areState state ≡ true
+
+pub request-fine : (link packet : ℕ) (state : List ℕ) (flash pm dm io reply : ℕ) → requestCheck link packet state flash pm dm io reply ≡ Verdict.Fine
+    → RequestFine state flash pm dm io reply
+unfolding requestCheck
+request-fine link packet state flash pm dm io reply h =
+    let a = fine-then (not (eqb flash 32768) || not (keptOk state flash)) _ _ h in
+    let b = fine-then (ltb reply 12288) _ _ (a .1) in
+    let c = fine-then (ltb 8192 pm || ltb 8192 dm || ltb 4096 io) _ _ (b .1) in
+    let d = fine-then (not (linkOk state link)) _ _ (c .1) in
+    let e = fine-then (not (areState state)) _ _ (d .1) in
+    let m = neither (ltb 8192 pm || ltb 8192 dm) (ltb 4096 io) (c .0) in
+    let k = neither (ltb 8192 pm) (ltb 8192 dm) (m .0) in
+    record {
+      bench = bench-size state flash (a .0);
+      buffer = ltb-false reply 12288 (b .0);
+      pm-short = ltb-false 8192 pm (k .0);
+      dm-short = ltb-false 8192 dm (k .1);
+      io-short = ltb-false 4096 io (m .1);
+      bytes = not-false (areState state) (e .0);
+    }
+
+pub record ReplyFine (packet : ℕ) (state : List ℕ) (reply : ℕ) : Type 0 where
+  pub buffer : 12288 ≤ reply
+  pub short : packet ≤ 32768
+  pub bytes : areState state ≡ true
+
+pub reply-fine : (slave packet : ℕ) (state : List ℕ) (reply : ℕ) → replyCheck slave packet state reply ≡ Verdict.Fine → ReplyFine packet state reply
+unfolding replyCheck
+reply-fine slave packet state reply h =
+    let a = fine-then (ltb reply 12288) _ _ h in
+    let b = fine-then (ltb 32768 packet) _ _ (a .1) in
+    let c = fine-then (ltb 23 slave) _ _ (b .1) in
+    let d = fine-then (not (areState state)) _ _ (c .1) in
+    record {
+      buffer = ltb-false reply 12288 (a .0);
+      short = ltb-false 32768 packet (b .0);
+      bytes = not-false (areState state) (d .0);
+    }
+
+pub poll-fine : (state : List ℕ) (reply : ℕ) → pollCheck state reply ≡ Verdict.Fine → (12288 ≤ reply) × (areState state ≡ true)
+unfolding pollCheck
+poll-fine state reply h =
+    let a = fine-then (ltb reply 12288) _ _ h in
+    let b = fine-then (not (areState state)) _ _ (a .1) in
+    (ltb-false reply 12288 (a .0), not-false (areState state) (b .0))
+
+pub erase-fine : (state : List ℕ) (flash : ℕ) → eraseCheck state flash ≡ Verdict.Fine → (flash ≡ 32768) × (areState state ≡ true)
+unfolding eraseCheck
+erase-fine state flash h =
+    let a = fine-then (not (eqb flash 32768) || not (keptOk state flash)) _ _ h in
+    let b = fine-then (not (areState state)) _ _ (a .1) in
+    (bench-size state flash (a .0), not-false (areState state) (b .0))
+
+-- start's numbers are small where they are not refused, and the node's start is then done
+
+pub start-small : (kind ports subdetector : ℕ) → (not (portsOk ports) || not (kindOk kind) || ltb 7 subdetector) ≡ false → (kind ≤ 2) × (ports ≤ 4) × (subdetector ≤ 7)
+start-small kind ports subdetector h =
+    let a = neither (not (portsOk ports) || not (kindOk kind)) (ltb 7 subdetector) h in
+    let b = neither (not (portsOk ports)) (not (kindOk kind)) (a .0) in
+    let p : portsOk ports ≡ true = not-false (portsOk ports) (b .0) in
+    let k : kindOk kind ≡ true = not-false (kindOk kind) (b .1) in
+    (one-of kind 1 2 2 (omega arith) (omega arith) k, leb-true ports 4 (and-right (leb 1 ports) (leb ports 4) p), ltb-false 7 subdetector (a .1))
+
+pub start-done : (kind ports subdetector program version tests clock : ℕ) (flash : List ℕ) → length flash ≡ 32768
+    → (not (portsOk ports) || not (kindOk kind) || ltb 7 subdetector) ≡ false
+    → startOf kind ports subdetector program version tests clock flash .answer ≡ Answer.Started
+unfolding startOf startVerdict
+start-done kind ports subdetector program version tests clock flash size h =
+    let sized : not (sizeOk (length flash)) ≡ false = ap (λ (n : ℕ). not (sizeOk n)) size in
+    let fine : Verdict.Fine ≡ startVerdict kind ports subdetector (length flash) = no _ sized (no _ h refl) in
+    ap (λ (v : Verdict). startBy v (given kind ports subdetector program version tests clock (length flash)) flash .answer) (sym fine)

@@ -1,0 +1,7 @@
+pub mod Bytes
+pub mod Places
+pub mod StateBytes
+pub mod Number
+pub mod Causes
+pub mod Entry
+pub mod Kept

@@ -1,0 +1,240 @@
+// The node's calls on the words of lent bytes. Each run is converted once in, and once out.
+ghost use mathlib.Core.Path.{_≡_};
+ghost use Prim.Native.Nat.{_/_, _≤_};
+ghost use lib.ListN.{length};
+ghost use Rattle.memory.specs.Segment.{memories};
+ghost use Rattle.node.specs.Effect.{lent, outcome};
+ghost use Rattle.node.specs.Calls.{lentReply, lentFlash, startOf, requestOf, replyOf, pollOf, eraseOf};
+ghost use Rattle.logodwen.specs.Bytes.{wordsOf};
+ghost use Rattle.logodwen.specs.Number.{fields, answerNumber};
+ghost use Rattle.logodwen.specs.Entry.{memoryWords, replyWords, runWords, inBytes, memoriesInBytes};
+use crate::checks::refusal_number;
+use crate::words::load16;
+use crate::words::load32;
+use crate::words::store16;
+use crate::words::store32;
+use base::least;
+use node::Answer;
+use node::Node;
+use node::Turn;
+
+fn done(kind: u64, who: u64, from: u64, words: u64) -> u64
+    ensures { λ r. ⌜ r ≡ fields kind who from words ⌝ }
+{
+    kind % 256 * 256 + who % 256 * 65536 + from % 256 * 16777216 + words % 4294967296 * 4294967296
+}
+
+// What a call answers, as one number.
+pub fn answer_number(answer: Answer) -> u64
+    ensures { λ r. ⌜ r ≡ answerNumber answer ⌝ }
+{
+    match answer {
+        Answer::Refused(refusal) => refusal_number(refusal) as u64,
+        Answer::Started => 0,
+        Answer::Reply(reply) => done(1, reply.bc as u64, 0, reply.words as u64),
+        Answer::Ask(asking) => done(2, asking.slave as u64, asking.from as u64, 0),
+        Answer::Waiting => done(3, 0, 0, 0),
+        Answer::Erased(count) => done(0, 0, 0, count as u64),
+    }
+}
+
+// Room for words. Proofs go by its length alone.
+fn room_32768() -> [u16; 32768]
+    ensures { λ r. ⌜ length r ≡ 32768 ⌝ }
+{
+    [0; 32768]
+}
+
+fn room_12288() -> [u16; 12288]
+    ensures { λ r. ⌜ length r ≡ 12288 ⌝ }
+{
+    [0; 12288]
+}
+
+fn room_8193() -> [u16; 8193]
+    ensures { λ r. ⌜ length r ≡ 8193 ⌝ }
+{
+    [0; 8193]
+}
+
+fn room_8192() -> [u16; 8192]
+    ensures { λ r. ⌜ length r ≡ 8192 ⌝ }
+{
+    [0; 8192]
+}
+
+fn room_4096() -> [u16; 4096]
+    ensures { λ r. ⌜ length r ≡ 4096 ⌝ }
+{
+    [0; 4096]
+}
+
+fn room_pm() -> [u32; 8192]
+    ensures { λ r. ⌜ length r ≡ 8192 ⌝ }
+{
+    [0; 8192]
+}
+
+pub fn on_start(
+    kind: u16,
+    ports: u16,
+    subdetector: u16,
+    program_version: u16,
+    subdetector_version: u16,
+    start_tests: u16,
+    clock: u32,
+    flash: &[u8],
+) -> Turn
+    requires { ⌜ length (now flash) / 2 ≡ 32768 ⌝ }
+    ensures { λ r. ⌜ r ≡ startOf kind ports subdetector «program_version» «subdetector_version» «start_tests» clock (wordsOf 2 (now (flash .entry))) ⌝ }
+{
+    let mut flash_words = room_32768();
+    load16(flash, &mut flash_words);
+    Node::start(
+        kind,
+        ports,
+        subdetector,
+        program_version,
+        subdetector_version,
+        start_tests,
+        clock,
+        &flash_words,
+    )
+}
+
+// A request, with the memories still in bytes.
+fn with_memories(
+    node: Node,
+    clock: u32,
+    link: u32,
+    bc: u32,
+    errors: bool,
+    packet: &[u16],
+    flash: &mut [u16],
+    pm: &mut [u8],
+    dm: &mut [u8],
+    io: &mut [u8],
+    reply: &mut [u16],
+) -> Turn
+    requires { ⌜ (length (now pm) / 4 ≤ 8192) × (length (now dm) / 2 ≤ 8192) × (length (now io) / 2 ≤ 4096) ⌝ }
+    ensures { λ r. ⌜ outcome r (lent (now (flash .exit)) (memories (now (pm .exit)) (now (dm .exit)) (now (io .exit))) (now (reply .exit))) ≡ memoriesInBytes (requestOf node clock link bc errors (now (packet .entry)) (lent (now (flash .entry)) (memoryWords (memories (now (pm .entry)) (now (dm .entry)) (now (io .entry)))) (now (reply .entry)))) (memories (now (pm .entry)) (now (dm .entry)) (now (io .entry))) ⌝ }
+{
+    let mut pm_words = room_pm();
+    let mut dm_words = room_8192();
+    let mut io_words = room_4096();
+    let pm_count = load32(pm, &mut pm_words);
+    let dm_count = load16(dm, &mut dm_words);
+    let io_count = load16(io, &mut io_words);
+    let turn = node.request(
+        clock,
+        link,
+        bc,
+        errors,
+        packet,
+        flash,
+        &mut pm_words[..pm_count],
+        &mut dm_words[..dm_count],
+        &mut io_words[..io_count],
+        reply,
+    );
+    store32(&pm_words[..pm_count], pm);
+    store16(&dm_words[..dm_count], dm);
+    store16(&io_words[..io_count], io);
+    turn
+}
+
+// A request. Over 8,192 words it is ERROR, so no more than 8,193 are loaded.
+pub fn on_request(
+    node: Node,
+    clock: u32,
+    link: u32,
+    bc: u32,
+    errors: bool,
+    packet: &[u8],
+    flash: &mut [u8],
+    pm: &mut [u8],
+    dm: &mut [u8],
+    io: &mut [u8],
+    reply: &mut [u8],
+) -> Turn
+    requires { ⌜ (length (now flash) / 2 ≡ 32768) × (12288 ≤ length (now reply) / 2) × (length (now pm) / 4 ≤ 8192) × (length (now dm) / 2 ≤ 8192) × (length (now io) / 2 ≤ 4096) ⌝ }
+    ensures { λ r. ⌜ outcome r (lent (now (flash .exit)) (memories (now (pm .exit)) (now (dm .exit)) (now (io .exit))) (now (reply .exit))) ≡ inBytes (requestOf node clock link bc errors (wordsOf 2 (now (packet .entry))) (runWords (lent (now (flash .entry)) (memories (now (pm .entry)) (now (dm .entry)) (now (io .entry))) (now (reply .entry))))) (lent (now (flash .entry)) (memories (now (pm .entry)) (now (dm .entry)) (now (io .entry))) (now (reply .entry))) ⌝ }
+{
+    let mut packet_words = room_8193();
+    let mut flash_words = room_32768();
+    let mut reply_words = room_12288();
+    let cut = least(packet.len(), 16386);
+    let packet_count = load16(&packet[..cut], &mut packet_words);
+    load16(flash, &mut flash_words);
+    load16(&reply[..24576], &mut reply_words);
+    let turn = with_memories(
+        node,
+        clock,
+        link,
+        bc,
+        errors,
+        &packet_words[..packet_count],
+        &mut flash_words,
+        pm,
+        dm,
+        io,
+        &mut reply_words,
+    );
+    store16(&flash_words, flash);
+    store16(&reply_words, reply);
+    turn
+}
+
+pub fn on_reply(
+    node: Node,
+    clock: u32,
+    slave: u32,
+    bc: u32,
+    errors: bool,
+    status: u16,
+    address: u16,
+    packet: &[u8],
+    reply: &mut [u8],
+) -> Turn
+    requires { ⌜ (length (now packet) / 2 ≤ 32768) × (12288 ≤ length (now reply) / 2) ⌝ }
+    ensures { λ r. ⌜ outcome r (lentReply (now (reply .exit))) ≡ inBytes (replyOf node clock slave bc errors status address (wordsOf 2 (now (packet .entry))) (replyWords (now (reply .entry)))) (lentReply (now (reply .entry))) ⌝ }
+{
+    let mut packet_words = room_32768();
+    let mut reply_words = room_12288();
+    let packet_count = load16(packet, &mut packet_words);
+    load16(&reply[..24576], &mut reply_words);
+    let turn = node.reply(
+        clock,
+        slave,
+        bc,
+        errors,
+        status,
+        address,
+        &packet_words[..packet_count],
+        &mut reply_words,
+    );
+    store16(&reply_words, reply);
+    turn
+}
+
+pub fn on_poll(node: Node, clock: u32, reply: &mut [u8]) -> Turn
+    requires { ⌜ 12288 ≤ length (now reply) / 2 ⌝ }
+    ensures { λ r. ⌜ outcome r (lentReply (now (reply .exit))) ≡ inBytes (pollOf node clock (replyWords (now (reply .entry)))) (lentReply (now (reply .entry))) ⌝ }
+{
+    let mut reply_words = room_12288();
+    load16(&reply[..24576], &mut reply_words);
+    let turn = node.poll(clock, &mut reply_words);
+    store16(&reply_words, reply);
+    turn
+}
+
+pub fn on_erase(node: Node, budget: usize, flash: &mut [u8]) -> Turn
+    requires { ⌜ length (now flash) / 2 ≡ 32768 ⌝ }
+    ensures { λ r. ⌜ outcome r (lentFlash (now (flash .exit))) ≡ inBytes (eraseOf node budget (wordsOf 2 (now (flash .entry)))) (lentFlash (now (flash .entry))) ⌝ }
+{
+    let mut flash_words = room_32768();
+    load16(flash, &mut flash_words);
+    let turn = node.erase(budget, &mut flash_words);
+    store16(&flash_words, flash);
+    turn
+}

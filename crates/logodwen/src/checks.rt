@@ -1,0 +1,131 @@
+// When an entry is refused: by numbers, lengths and the state bytes alone.
+ghost use mathlib.Core.Path.{_≡_};
+ghost use Rattle.node.specs.State.{refusalNumber};
+ghost use Rattle.logodwen.specs.Causes.{keptOk, linkOk, requestCheck, replyCheck, pollCheck, eraseCheck};
+use crate::codec::is_state;
+use crate::codec::node_in;
+use crate::words::byte;
+use crate::words::word32;
+use node::Node;
+use node::Refusal;
+use node::Verdict;
+
+// The paper's number of a refusal.
+pub fn refusal_number(refusal: Refusal) -> u32
+    ensures { λ r. ⌜ r ≡ refusalNumber refusal ⌝ }
+{
+    match refusal {
+        Refusal::FlashSize => 1,
+        Refusal::ReplySize => 2,
+        Refusal::MemorySize => 3,
+        Refusal::Number => 4,
+        Refusal::State => 5,
+        Refusal::Busy => 6,
+        Refusal::Unasked => 7,
+    }
+}
+
+fn kept_ok(state: &[u8], flash: usize) -> bool
+    ensures { λ r. ⌜ r ≡ keptOk (now (state .entry)) flash ⌝ }
+{
+    if state.len() != 172 {
+        return true;
+    }
+    flash == word32(state, 20) as usize
+}
+
+fn link_ok(state: &[u8], link: u32) -> bool
+    ensures { λ r. ⌜ r ≡ linkOk (now (state .entry)) link ⌝ }
+{
+    if state.len() != 172 {
+        return true;
+    }
+    link < byte(state, 1) as u32
+}
+
+pub fn request_check(
+    link: u32,
+    packet: usize,
+    state: &[u8],
+    flash: usize,
+    pm: usize,
+    dm: usize,
+    io: usize,
+    reply: usize,
+) -> Verdict
+    ensures { λ r. ⌜ r ≡ requestCheck link packet (now (state .entry)) flash pm dm io reply ⌝ }
+{
+    if (flash != 32768) | !kept_ok(state, flash) {
+        return Verdict::No(Refusal::FlashSize);
+    }
+    if reply < 12288 {
+        return Verdict::No(Refusal::ReplySize);
+    }
+    if (8192 < pm) | (8192 < dm) | (4096 < io) {
+        return Verdict::No(Refusal::MemorySize);
+    }
+    if !link_ok(state, link) {
+        return Verdict::No(Refusal::Number);
+    }
+    if !is_state(state) {
+        return Verdict::No(Refusal::State);
+    }
+    let node = node_in(state);
+    let pending = node.pending;
+    if node::refusals::is_pending(pending) & (1 <= packet) {
+        return Verdict::No(Refusal::Busy);
+    }
+    Verdict::Fine
+}
+
+pub fn reply_check(slave: u32, packet: usize, state: &[u8], reply: usize) -> Verdict
+    ensures { λ r. ⌜ r ≡ replyCheck slave packet (now (state .entry)) reply ⌝ }
+{
+    if reply < 12288 {
+        return Verdict::No(Refusal::ReplySize);
+    }
+    if 32768 < packet {
+        return Verdict::No(Refusal::MemorySize);
+    }
+    if 23 < slave {
+        return Verdict::No(Refusal::Number);
+    }
+    if !is_state(state) {
+        return Verdict::No(Refusal::State);
+    }
+    let node = node_in(state);
+    let pending = node.pending;
+    if !node::refusals::is_asked(pending, slave) {
+        return Verdict::No(Refusal::Unasked);
+    }
+    Verdict::Fine
+}
+
+pub fn poll_check(state: &[u8], reply: usize) -> Verdict
+    ensures { λ r. ⌜ r ≡ pollCheck (now (state .entry)) reply ⌝ }
+{
+    if reply < 12288 {
+        return Verdict::No(Refusal::ReplySize);
+    }
+    if !is_state(state) {
+        return Verdict::No(Refusal::State);
+    }
+    let node = node_in(state);
+    let pending = node.pending;
+    if !node::refusals::is_pending(pending) {
+        return Verdict::No(Refusal::Unasked);
+    }
+    Verdict::Fine
+}
+
+pub fn erase_check(state: &[u8], flash: usize) -> Verdict
+    ensures { λ r. ⌜ r ≡ eraseCheck (now (state .entry)) flash ⌝ }
+{
+    if (flash != 32768) | !kept_ok(state, flash) {
+        return Verdict::No(Refusal::FlashSize);
+    }
+    if !is_state(state) {
+        return Verdict::No(Refusal::State);
+    }
+    Verdict::Fine
+}

@@ -1,0 +1,210 @@
+// The C border: five entries on numbers and runs of bytes, which a bench host in C links. An entry checks what it is given, takes the
+// node out of the state bytes, makes the node's call on the words of the lent bytes, and puts state and words back. What each answers
+// and leaves in every run is one definition of specs/Entry, refused entries included. The symbols carry the border's version.
+ghost use mathlib.Core.Path.{_≡_};
+ghost use mathlib.Core.List.{[]};
+ghost use Rattle.memory.specs.Segment.{memories};
+ghost use Rattle.node.specs.Effect.{lent};
+ghost use Rattle.node.specs.Calls.{lentReply, lentFlash};
+ghost use Rattle.logodwen.specs.Entry.{answered, startEntry, requestEntry, replyEntry, pollEntry, eraseEntry};
+use crate::calls::answer_number;
+use crate::calls::on_erase;
+use crate::calls::on_poll;
+use crate::calls::on_reply;
+use crate::calls::on_request;
+use crate::calls::on_start;
+use crate::checks::erase_check;
+use crate::checks::poll_check;
+use crate::checks::refusal_number;
+use crate::checks::reply_check;
+use crate::checks::request_check;
+use crate::codec::encode;
+use crate::codec::node_in;
+use node::Verdict;
+
+mod calls;
+mod checks;
+mod codec;
+mod words;
+
+// What is pending, as the numbers in the state bytes: 0 nothing, 1 one slave, 2 a group; what the case does not use is 0.
+pub struct Wait {
+    pub pending: u16,
+    pub link: u32,
+    pub slave: u32,
+    pub from: u32,
+    pub tally: u16,
+    pub set: u32,
+    pub at: u32,
+    pub words: usize,
+}
+
+// Start on a flash: the refusal's number, 0 for done.
+#[no_mangle]
+pub extern "C" fn logodwen1_start(
+    kind: u32,
+    ports: u32,
+    subdetector: u32,
+    program_version: u16,
+    subdetector_version: u16,
+    start_tests: u16,
+    clock: u32,
+    flash: &[u8],
+    state: &mut [u8],
+) -> u32
+    ensures { λ r. ⌜ answered r (now (state .exit)) (lentReply []) ≡ startEntry kind ports subdetector «program_version» «subdetector_version» «start_tests» clock (now (flash .entry)) (now (state .entry)) ⌝ }
+{
+    if flash.len() / 2 != 32768 {
+        return 1;
+    }
+    if !((1 <= ports) & (ports <= 4)) | !((kind == 1) | (kind == 2)) | (7 < subdetector) {
+        return 4;
+    }
+    if state.len() != 172 {
+        return 5;
+    }
+    let turn = on_start(
+        kind as u16,
+        ports as u16,
+        subdetector as u16,
+        program_version,
+        subdetector_version,
+        start_tests,
+        clock,
+        flash,
+    );
+    let node = turn.node;
+    encode(node, state);
+    0
+}
+
+// A request from a link.
+#[no_mangle]
+pub extern "C" fn logodwen1_request(
+    clock: u32,
+    link: u32,
+    bc: u32,
+    receive_error: u32,
+    packet: &[u8],
+    state: &mut [u8],
+    flash: &mut [u8],
+    pm: &mut [u8],
+    dm: &mut [u8],
+    io: &mut [u8],
+    reply: &mut [u8],
+) -> u64
+    ensures { λ r. ⌜ answered r (now (state .exit)) (lent (now (flash .exit)) (memories (now (pm .exit)) (now (dm .exit)) (now (io .exit))) (now (reply .exit))) ≡ requestEntry clock link bc «receive_error» (now (packet .entry)) (now (state .entry)) (lent (now (flash .entry)) (memories (now (pm .entry)) (now (dm .entry)) (now (io .entry))) (now (reply .entry))) ⌝ }
+{
+    let verdict = request_check(
+        link,
+        packet.len() / 2,
+        state,
+        flash.len() / 2,
+        pm.len() / 4,
+        dm.len() / 2,
+        io.len() / 2,
+        reply.len() / 2,
+    );
+    match verdict {
+        Verdict::Fine => {
+            let node = node_in(state);
+            let errors = receive_error != 0;
+            let turn = on_request(
+                node,
+                clock,
+                link,
+                bc,
+                errors,
+                packet,
+                flash,
+                pm,
+                dm,
+                io,
+                reply,
+            );
+            let next = turn.node;
+            let answer = turn.answer;
+            encode(next, state);
+            answer_number(answer)
+        }
+        Verdict::No(refusal) => refusal_number(refusal) as u64,
+    }
+}
+
+// A slave's reply.
+#[no_mangle]
+pub extern "C" fn logodwen1_reply(
+    clock: u32,
+    slave: u32,
+    bc: u32,
+    receive_error: u32,
+    rx_status: u16,
+    rx_address: u16,
+    packet: &[u8],
+    state: &mut [u8],
+    reply: &mut [u8],
+) -> u64
+    ensures { λ r. ⌜ answered r (now (state .exit)) (lentReply (now (reply .exit))) ≡ replyEntry clock slave bc «receive_error» «rx_status» «rx_address» (now (packet .entry)) (now (state .entry)) (now (reply .entry)) ⌝ }
+{
+    let verdict = reply_check(slave, packet.len() / 2, state, reply.len() / 2);
+    match verdict {
+        Verdict::Fine => {
+            let node = node_in(state);
+            let errors = receive_error != 0;
+            let turn = on_reply(
+                node,
+                clock,
+                slave,
+                bc,
+                errors,
+                rx_status,
+                rx_address,
+                packet,
+                reply,
+            );
+            let next = turn.node;
+            let answer = turn.answer;
+            encode(next, state);
+            answer_number(answer)
+        }
+        Verdict::No(refusal) => refusal_number(refusal) as u64,
+    }
+}
+
+// A poll, while a request waits for a slave.
+#[no_mangle]
+pub extern "C" fn logodwen1_poll(clock: u32, state: &mut [u8], reply: &mut [u8]) -> u64
+    ensures { λ r. ⌜ answered r (now (state .exit)) (lentReply (now (reply .exit))) ≡ pollEntry clock (now (state .entry)) (now (reply .entry)) ⌝ }
+{
+    let verdict = poll_check(state, reply.len() / 2);
+    match verdict {
+        Verdict::Fine => {
+            let node = node_in(state);
+            let turn = on_poll(node, clock, reply);
+            let next = turn.node;
+            let answer = turn.answer;
+            encode(next, state);
+            answer_number(answer)
+        }
+        Verdict::No(refusal) => refusal_number(refusal) as u64,
+    }
+}
+
+// Erase progress.
+#[no_mangle]
+pub extern "C" fn logodwen1_erase(budget: u64, state: &mut [u8], flash: &mut [u8]) -> u64
+    ensures { λ r. ⌜ answered r (now (state .exit)) (lentFlash (now (flash .exit))) ≡ eraseEntry budget (now (state .entry)) (now (flash .entry)) ⌝ }
+{
+    let verdict = erase_check(state, flash.len() / 2);
+    match verdict {
+        Verdict::Fine => {
+            let node = node_in(state);
+            let turn = on_erase(node, budget as usize, flash);
+            let next = turn.node;
+            let answer = turn.answer;
+            encode(next, state);
+            answer_number(answer)
+        }
+        Verdict::No(refusal) => refusal_number(refusal) as u64,
+    }
+}
