@@ -2,7 +2,7 @@
 SHELL := /bin/sh
 FILES ?= examples/files
 
-.PHONY: run test perf vectors tools clean
+.PHONY: run test lib verify install perf vectors tools clean
 
 # Which of some files are valid, each line the words of one in hex (FILES=..), by the proved program.
 run: tools
@@ -14,6 +14,21 @@ run: tools
 # Everything that can be proved or run and compared. The last line is that of `rt ci`, and stands there only if all passed.
 test: tools
 	@host/gate
+
+# The library for a host in C, target/staticlib/liblogodwen.a, proved and built from nothing, with a record of what it was built from.
+lib: tools
+	@host/sources >/dev/null
+	@echo "lib: proving and building from an empty target/, which takes ten minutes or more" >&2
+	@rm -rf target
+	@host/lib
+
+# Whether archive, header and record belong together, and to these sources.
+verify: tools
+	@host/verify
+
+# Archive, header, record and a pkg-config file, below PREFIX.
+install: tools
+	@host/install "$(PREFIX)"
 
 # Proved functions against plain C, in one process.
 perf: tools
