@@ -30,10 +30,11 @@ verify: tools
 install: tools
 	@host/install "$(PREFIX)"
 
-# Proved functions against plain C, in one process.
+# Proved functions and the calls at the C border, against plain C in one process.
 perf: tools
+	@test -f target/staticlib/liblogodwen.a || host/lib
 	@rt staticlib perf >build/perf.log 2>&1 || { cat build/perf.log; exit 1; }
-	@host/build build/perf target/staticlib/libperf.a host/perf/*.c
+	@host/build build/perf target/staticlib/libperf.a target/staticlib/liblogodwen.a host/perf/*.c host/model/*.c
 	@host/run build/perf
 
 # The stored vectors anew, by the model: for a change of what is tested, never of what is right.
