@@ -2,7 +2,7 @@
 SHELL := /bin/sh
 FILES ?= examples/files
 
-.PHONY: run test perf vectors tools clean
+.PHONY: run test lib verify install perf vectors tools clean
 
 # Which of some files are valid, each line the words of one in hex (FILES=..), by the proved program.
 run: tools
@@ -15,10 +15,26 @@ run: tools
 test: tools
 	@host/gate
 
-# Proved functions against plain C, in one process.
+# The library for a host in C, target/staticlib/liblogodwen.a, proved and built from nothing, with a record of what it was built from.
+lib: tools
+	@host/sources >/dev/null
+	@echo "lib: proving and building from an empty target/, which takes ten minutes or more" >&2
+	@rm -rf target
+	@host/lib
+
+# Whether archive, header and record belong together, and to these sources.
+verify: tools
+	@host/verify
+
+# Archive, header, record and a pkg-config file, below PREFIX.
+install: tools
+	@host/install "$(PREFIX)"
+
+# Proved functions and the calls at the C border, against plain C in one process.
 perf: tools
+	@test -f target/staticlib/liblogodwen.a || host/lib
 	@rt staticlib perf >build/perf.log 2>&1 || { cat build/perf.log; exit 1; }
-	@host/build build/perf target/staticlib/libperf.a host/perf/*.c
+	@host/build build/perf target/staticlib/libperf.a target/staticlib/liblogodwen.a host/perf/*.c host/model/*.c
 	@host/run build/perf
 
 # The stored vectors anew, by the model: for a change of what is tested, never of what is right.

@@ -14,20 +14,24 @@ static double seconds(perf_work work, int times) {
     return (double)(to.tv_sec - from.tv_sec) + (double)(to.tv_nsec - from.tv_nsec) * 1e-9;
 }
 
-int perf_compare(const char *what, perf_work proved, perf_work plain, int times, double limit) {
-    double best_proved = 1e9, best_plain = 1e9;
+int perf_ratio(const char *what, perf_work work, const char *than, perf_work other, int times, double limit) {
+    double best = 1e9, best_other = 1e9;
     for (int turn = 0; turn < 41; turn++) {
-        double a = seconds(proved, times), b = seconds(plain, times);
-        best_proved = a < best_proved ? a : best_proved;
-        best_plain = b < best_plain ? b : best_plain;
+        double a = seconds(work, times), b = seconds(other, times);
+        best = a < best ? a : best;
+        best_other = b < best_other ? b : best_other;
     }
-    double ratio = best_proved / best_plain;
+    double ratio = best / best_other;
     int over = limit > 0 && ratio > limit;
-    printf("%-40s proved %9.2f us   C %9.2f us   ratio %.2f", what, best_proved / times * 1e6, best_plain / times * 1e6, ratio);
+    printf("%-50s %9.2f us   %-40s %9.2f us   ratio %.2f", what, best / times * 1e6, than, best_other / times * 1e6, ratio);
     if (limit > 0)
         printf(over ? "   ABOVE the limit of %.2f" : "   (limit %.2f)", limit);
     printf("\n");
     return over;
+}
+
+int perf_compare(const char *what, perf_work proved, perf_work plain, int times, double limit) {
+    return perf_ratio(what, proved, "plain C", plain, times, limit);
 }
 
 int perf_differ(const char *what) {
@@ -42,5 +46,6 @@ int main(void) {
     over += perf_flash_runs();
     over += perf_memory_runs();
     over += perf_group_runs();
+    over += perf_border_runs();
     return over ? 1 : 0;
 }

@@ -10,6 +10,9 @@ typedef void (*perf_work)(void);
 
 /* Prints the time of one call of each, `times` calls a turn, and their ratio. Answers 1 where the ratio is above the limit; a
    limit of 0 only reports. */
+int perf_ratio(const char *what, perf_work work, const char *than, perf_work other, int times, double limit);
+
+/* The same against plain C that does the same work. */
 int perf_compare(const char *what, perf_work proved, perf_work plain, int times, double limit);
 
 /* Says that two answers differ, and answers 1: no time is worth anything then. */
@@ -27,5 +30,6 @@ int perf_image_runs(void);
 int perf_flash_runs(void);
 int perf_memory_runs(void);
 int perf_group_runs(void);
+int perf_border_runs(void);
 
 #endif

@@ -1,0 +1,142 @@
+/* The model at the C border: runs of bytes for words, 172 bytes for the node. */
+#include "model.h"
+
+#include <string.h>
+
+enum { STATE = 172 };
+static const struct limits border = {8192, 8192, 4096, 32768, false};
+
+static struct run words_of(uint8_t *bytes, size_t length) { return (struct run){bytes, length / 2}; }
+
+static uint32_t long_at(const uint8_t *bytes, size_t at) { return word_at(bytes + at, 0) | (uint32_t)word_at(bytes + at, 1) << 16; }
+
+static void put_long(uint8_t *bytes, size_t at, uint32_t value) {
+    put_word(bytes + at, 0, value & 0xFFFF);
+    put_word(bytes + at, 1, value >> 16);
+}
+
+/* The node that some bytes say, and whether they are those of a state as far as its form goes: what a case does not use is 0. */
+static bool decoded(const uint8_t *state, struct node *node) {
+    *node = (struct node){0};
+    node->kind = state[0];
+    node->ports = state[1];
+    node->subdetector = state[2];
+    node->mode = state[3];
+    node->program_version = word_at(state + 4, 0);
+    node->subdetector_version = word_at(state + 6, 0);
+    node->start_tests = word_at(state + 8, 0);
+    node->amswire_errors = word_at(state + 10, 0);
+    node->flash_errors = word_at(state + 12, 0);
+    node->erasing = state[14] != 0;
+    node->sector = state[14];
+    node->pending = state[15];
+    node->start_clock = long_at(state, 16);
+    node->flash_words = long_at(state, 20);
+    node->done = long_at(state, 24);
+    node->link = state[28];
+    node->slave = state[29];
+    node->from = state[30];
+    node->tally = state[31];
+    node->asked = long_at(state, 32);
+    node->asked_at = long_at(state, 36);
+    node->built = long_at(state, 40);
+    for (int i = 0; i < 16; i++)
+        node->masks[i] = long_at(state, 44 + 4 * (size_t)i);
+    for (int i = 0; i < 32; i++)
+        node->directory[i] = word_at(state + 108, (size_t)i);
+    if (!node->erasing && node->done != 0)
+        return false;
+    if (node->pending == PENDING_NOTHING && (node->link != 0 || node->slave != 0 || node->asked_at != 0))
+        return false;
+    return node->pending == PENDING_GROUP || (node->from == 0 && node->tally == 0 && node->asked == 0 && node->built == 0);
+}
+
+static void encode(const struct node *node, uint8_t *state) {
+    state[0] = (uint8_t)node->kind;
+    state[1] = (uint8_t)node->ports;
+    state[2] = (uint8_t)node->subdetector;
+    state[3] = (uint8_t)node->mode;
+    put_word(state + 4, 0, node->program_version);
+    put_word(state + 6, 0, node->subdetector_version);
+    put_word(state + 8, 0, node->start_tests);
+    put_word(state + 10, 0, node->amswire_errors);
+    put_word(state + 12, 0, node->flash_errors);
+    state[14] = (uint8_t)node->sector;
+    state[15] = (uint8_t)node->pending;
+    put_long(state, 16, node->start_clock);
+    put_long(state, 20, node->flash_words);
+    put_long(state, 24, node->done);
+    state[28] = (uint8_t)node->link;
+    state[29] = (uint8_t)node->slave;
+    state[30] = (uint8_t)node->from;
+    state[31] = (uint8_t)node->tally;
+    put_long(state, 32, node->asked);
+    put_long(state, 36, node->asked_at);
+    put_long(state, 40, node->built);
+    for (int i = 0; i < 16; i++)
+        put_long(state, 44 + 4 * (size_t)i, node->masks[i]);
+    for (int i = 0; i < 32; i++)
+        put_word(state + 108, (size_t)i, node->directory[i]);
+}
+
+/* The node to make a call on. Where the bytes are no state's, its kind is none, so 5 refuses it; 1 and 4, which come first, still
+   see the kept size and the ports. Where their number is wrong, 1 and 4 have nothing kept to see, and pass. */
+static struct node node_for_call(const uint8_t *state, size_t length, size_t flash_words) {
+    struct node node = {0};
+    if (length != STATE) {
+        node.flash_words = (uint32_t)flash_words;
+        node.ports = UINT32_MAX;
+    } else if (!decoded(state, &node)) {
+        node.kind = 0;
+    }
+    return node;
+}
+
+uint32_t model_start(uint32_t kind, uint32_t ports, uint32_t subdetector, uint16_t program_version, uint16_t subdetector_version,
+                     uint16_t start_tests, uint32_t clock, const uint8_t *flash, size_t flash_len, uint8_t *state,
+                     size_t state_len) {
+    struct node node;
+    struct run words = {(uint8_t *)(uintptr_t)flash, flash_len / 2};
+    uint32_t refusal =
+        model_node_start(&border, &node, kind, ports, subdetector, program_version, subdetector_version, start_tests, clock, words);
+    if (refusal != 0 || state_len != STATE)
+        return refusal != 0 ? refusal : 5;
+    encode(&node, state);
+    return 0;
+}
+
+static uint64_t kept(const struct node *node, uint64_t answer, uint8_t *state) {
+    if ((answer & 0xFF) == 0)
+        encode(node, state);
+    return answer;
+}
+
+uint64_t model_request(uint32_t now, uint32_t link, uint32_t bc, uint32_t receive_error, const uint8_t *packet, size_t packet_len,
+                       uint8_t *state, size_t state_len, uint8_t *flash, size_t flash_len, uint8_t *pm, size_t pm_len, uint8_t *dm,
+                       size_t dm_len, uint8_t *io, size_t io_len, uint8_t *reply, size_t reply_len) {
+    struct lent lent = {
+        words_of(flash, flash_len), {pm, pm_len / 4}, words_of(dm, dm_len), words_of(io, io_len), words_of(reply, reply_len)};
+    struct node node = node_for_call(state, state_len, lent.flash.words);
+    if (state_len != STATE)
+        link = 0;
+    return kept(&node, model_node_request(&border, &node, now, link, bc, receive_error, packet, packet_len / 2, &lent), state);
+}
+
+uint64_t model_reply(uint32_t now, uint32_t slave, uint32_t bc, uint32_t receive_error, uint16_t rx_status, uint16_t rx_address,
+                     const uint8_t *packet, size_t packet_len, uint8_t *state, size_t state_len, uint8_t *reply, size_t reply_len) {
+    struct node node = node_for_call(state, state_len, 0);
+    return kept(&node,
+                model_node_reply(&border, &node, now, slave, bc, receive_error, rx_status, rx_address, packet, packet_len / 2,
+                                 words_of(reply, reply_len)),
+                state);
+}
+
+uint64_t model_poll(uint32_t now, uint8_t *state, size_t state_len, uint8_t *reply, size_t reply_len) {
+    struct node node = node_for_call(state, state_len, 0);
+    return kept(&node, model_node_poll(&node, now, words_of(reply, reply_len)), state);
+}
+
+uint64_t model_erase(uint64_t budget, uint8_t *state, size_t state_len, uint8_t *flash, size_t flash_len) {
+    struct node node = node_for_call(state, state_len, flash_len / 2);
+    return kept(&node, model_node_erase(&border, &node, budget, words_of(flash, flash_len)), state);
+}

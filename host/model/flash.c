@@ -1,0 +1,93 @@
+/* 01 'Flash': sectors, the directory, names, placing, attributes. */
+#include "model.h"
+
+/* With U a sixteenth: words 0 to U-1 are sectors 0-2, sector 3 has U words, sectors 4-10 have 2U each. */
+size_t model_sector_start(size_t flash_words, unsigned sector) {
+    size_t unit = flash_words / 16;
+    return sector == 3 ? unit : 2 * unit * (sector - 3);
+}
+
+size_t model_sector_size(size_t flash_words, unsigned sector) { return sector == 3 ? flash_words / 16 : flash_words / 8; }
+
+unsigned model_sector_address(unsigned sector) { return sector == 3 ? 0x0200 : 0x0400 * (sector - 3); }
+
+void model_lay_entry(uint16_t *directory, unsigned sector, unsigned first, unsigned status) {
+    uint16_t *entry = directory + 4 * (sector - SECTOR_FIRST);
+    entry[0] = (uint16_t)first;
+    entry[1] = (uint16_t)model_sector_address(sector);
+    entry[2] = (uint16_t)status;
+    entry[3] = 0;
+}
+
+static bool has_entry(const uint16_t *directory, unsigned sector, unsigned first, unsigned status) {
+    const uint16_t *entry = directory + 4 * (sector - SECTOR_FIRST);
+    return entry[0] == first && entry[1] == model_sector_address(sector) && entry[2] == status && entry[3] == 0;
+}
+
+static const uint8_t *sector_bytes(struct run flash, unsigned sector) {
+    return flash.bytes + 2 * model_sector_start(flash.words, sector);
+}
+
+static bool is_empty(struct run flash, unsigned sector) {
+    const uint8_t *bytes = sector_bytes(flash, sector);
+    for (size_t i = 0; i < 2 * model_sector_size(flash.words, sector); i++)
+        if (bytes[i] != 0xFF)
+            return false;
+    return true;
+}
+
+static size_t file_in(struct run flash, unsigned sector) {
+    return model_file_length(sector_bytes(flash, sector), model_sector_size(flash.words, sector));
+}
+
+void model_directory(uint16_t *directory, struct run flash) {
+    for (unsigned sector = SECTOR_FIRST; sector <= SECTOR_LAST; sector++) {
+        bool bad = !is_empty(flash, sector) && file_in(flash, sector) == 0;
+        model_lay_entry(directory, sector, word_at(sector_bytes(flash, sector), 0), bad ? 0x8000 : 0);
+    }
+}
+
+/* The lowest sector whose first word can start a file and has the name in bits 11-4. */
+unsigned model_named(const uint16_t *directory, unsigned header) {
+    for (unsigned sector = SECTOR_FIRST; sector <= SECTOR_LAST; sector++) {
+        unsigned first = directory[4 * (sector - SECTOR_FIRST)];
+        if (model_may_start(first) && ((first ^ header) & 0x0FF0) == 0)
+            return sector;
+    }
+    return 0;
+}
+
+/* A sector whose entry differs from the one worked out afresh is bad. */
+size_t model_good_file(const uint16_t *directory, struct run flash, unsigned sector) {
+    if (!has_entry(directory, sector, word_at(sector_bytes(flash, sector), 0), 0))
+        return 0;
+    return file_in(flash, sector);
+}
+
+unsigned model_place(const uint16_t *directory, struct run flash, size_t length) {
+    for (unsigned sector = SECTOR_FIRST; sector <= SECTOR_LAST; sector++)
+        if (length <= model_sector_size(flash.words, sector) && has_entry(directory, sector, 0xFFFF, 0) && is_empty(flash, sector))
+            return sector;
+    return 0;
+}
+
+unsigned model_sector_to_erase(const uint16_t *directory, unsigned parameter) {
+    if ((parameter & 15) != 0)
+        return model_named(directory, parameter);
+    for (unsigned sector = SECTOR_FIRST; sector <= SECTOR_LAST; sector++)
+        if (model_sector_address(sector) == parameter)
+            return sector;
+    return 0;
+}
+
+/* 11 to default clears bit 12, 10 to plain clears bit 13, 0X to default is refused, what holds already stays. */
+bool model_attribute(unsigned *header, unsigned value) {
+    unsigned attribute = *header >> 12 & 3;
+    if (value > 1 || (value == 1 && attribute < 2))
+        return false;
+    if (value == 1 && attribute == 3)
+        *header &= ~0x1000u;
+    if (value == 0 && attribute == 2)
+        *header &= ~0x2000u;
+    return true;
+}

@@ -1,0 +1,120 @@
+/* An independent node in plain C, written from document 01 and not from the proved code: the second hand of the differential test,
+   and what `make perf` compares with. Lent runs are bytes, low byte of each word first; lengths are in words. */
+#ifndef MODEL_H
+#define MODEL_H
+
+#include <stdbool.h>
+#include <stddef.h>
+#include <stdint.h>
+
+enum { CDP = 1, CDDC = 2 };
+enum { NEXT = 0, ERROR = 1, ABORT = 2, END = 3, DATA = 3 }; /* the BC of a reply */
+enum { PENDING_NOTHING = 0, PENDING_SLAVE = 1, PENDING_GROUP = 2 };
+enum { AREA = 12288, SLAVES = 24, SECTOR_FIRST = 3, SECTOR_LAST = 10 };
+enum { BENCH = 32768, FULL = 262144 };
+
+/* A lent run: its bytes, and how many words they are; a PM word is four bytes, any other two. */
+struct run {
+    uint8_t *bytes;
+    size_t words;
+};
+
+struct lent {
+    struct run flash, pm, dm, io, reply;
+};
+
+/* How much of each memory may be lent, and whether the flash may be full size: 01's table, and less at the C border. */
+struct limits {
+    size_t pm, dm, io, slave_reply;
+    bool full_flash;
+};
+
+struct node {
+    uint32_t kind, ports, subdetector, mode;
+    uint16_t program_version, subdetector_version, start_tests;
+    uint16_t amswire_errors, flash_errors;
+    uint32_t start_clock, flash_words;
+    uint32_t masks[16];
+    uint16_t directory[32];
+    bool erasing;
+    uint32_t sector, done; /* while erasing */
+    uint32_t pending, link, slave, asked_at;
+    uint32_t asked, from, built, tally; /* of a group */
+};
+
+/* Words in bytes. */
+
+static inline uint16_t word_at(const uint8_t *bytes, size_t at) { return (uint16_t)(bytes[2 * at] | bytes[2 * at + 1] << 8); }
+
+static inline void put_word(uint8_t *bytes, size_t at, unsigned word) {
+    bytes[2 * at] = (uint8_t)word;
+    bytes[2 * at + 1] = (uint8_t)(word >> 8);
+}
+
+uint16_t model_fcs(const uint8_t *bytes, size_t words);
+
+/* Files (files.c). */
+
+enum memory { PM, DM, IO };
+
+/* A segment's header words, and where its body stands in the words that it was found in. */
+struct segment {
+    enum memory memory;
+    unsigned length, page, address; /* the page as its two bits */
+    size_t body, size;              /* of the body in packet words, FCS included */
+};
+
+bool model_segment_header(unsigned first, unsigned second, struct segment *segment);
+bool model_segment_at(const uint8_t *words, size_t n, size_t at, struct segment *segment);
+bool model_may_start(unsigned header);
+size_t model_file_length(const uint8_t *words, size_t n); /* 0 where no valid file starts the words */
+
+/* Flash (flash.c). */
+
+size_t model_sector_start(size_t flash_words, unsigned sector);
+size_t model_sector_size(size_t flash_words, unsigned sector);
+unsigned model_sector_address(unsigned sector);
+void model_lay_entry(uint16_t *directory, unsigned sector, unsigned first, unsigned status);
+void model_directory(uint16_t *directory, struct run flash);
+unsigned model_named(const uint16_t *directory, unsigned header); /* the sector, 0 where no file has that name */
+size_t model_good_file(const uint16_t *directory, struct run flash, unsigned sector); /* its length, 0 where it is not good */
+unsigned model_place(const uint16_t *directory, struct run flash, size_t length);     /* the sector, 0 where none is fit */
+unsigned model_sector_to_erase(const uint16_t *directory, unsigned parameter);        /* the sector, 0 where it is unknown */
+bool model_attribute(unsigned *header, unsigned value);
+
+/* Memories (memory.c). */
+
+bool model_fits(const uint8_t *words, const struct segment *segment, const struct lent *lent);
+void model_store(const uint8_t *words, const struct segment *segment, const struct lent *lent);
+void model_perform(const uint8_t *words, const struct segment *segment, const struct lent *lent);
+bool model_run_is_lent(const struct segment *header, const struct lent *lent);
+size_t model_read_size(const struct segment *header);
+void model_read(const struct segment *header, const struct lent *lent);
+
+/* The five calls (node.c), with the number that they answer. */
+
+uint32_t model_node_start(const struct limits *limits, struct node *node, uint32_t kind, uint32_t ports, uint32_t subdetector,
+                          uint16_t program_version, uint16_t subdetector_version, uint16_t start_tests, uint32_t clock,
+                          struct run flash);
+uint64_t model_node_request(const struct limits *limits, struct node *node, uint32_t now, uint32_t link, uint32_t bc,
+                            uint32_t receive_error, const uint8_t *packet, size_t n, const struct lent *lent);
+uint64_t model_node_reply(const struct limits *limits, struct node *node, uint32_t now, uint32_t slave, uint32_t bc,
+                          uint32_t receive_error, uint16_t rx_status, uint16_t rx_address, const uint8_t *packet, size_t n,
+                          struct run reply);
+uint64_t model_node_poll(struct node *node, uint32_t now, struct run reply);
+uint64_t model_node_erase(const struct limits *limits, struct node *node, uint64_t budget, struct run flash);
+
+/* The same at the C border (border.c): numbers and bytes, as include/logodwen.h has them. */
+
+uint32_t model_start(uint32_t kind, uint32_t ports, uint32_t subdetector, uint16_t program_version, uint16_t subdetector_version,
+                     uint16_t start_tests, uint32_t clock, const uint8_t *flash, size_t flash_len, uint8_t *state,
+                     size_t state_len);
+uint64_t model_request(uint32_t now, uint32_t link, uint32_t bc, uint32_t receive_error, const uint8_t *packet, size_t packet_len,
+                       uint8_t *state, size_t state_len, uint8_t *flash, size_t flash_len, uint8_t *pm, size_t pm_len, uint8_t *dm,
+                       size_t dm_len, uint8_t *io, size_t io_len, uint8_t *reply, size_t reply_len);
+uint64_t model_reply(uint32_t now, uint32_t slave, uint32_t bc, uint32_t receive_error, uint16_t rx_status, uint16_t rx_address,
+                     const uint8_t *packet, size_t packet_len, uint8_t *state, size_t state_len, uint8_t *reply, size_t reply_len);
+uint64_t model_poll(uint32_t now, uint8_t *state, size_t state_len, uint8_t *reply, size_t reply_len);
+uint64_t model_erase(uint64_t budget, uint8_t *state, size_t state_len, uint8_t *flash, size_t flash_len);
+
+#endif

@@ -1,0 +1,589 @@
+/* 01 'Call refusals', 'Requests', 'Group assembly', 'State and status reply': the node and its five calls. */
+#include "model.h"
+
+#include <string.h>
+
+enum { ALL_SLAVES = 0xFFFFFF, TIMEOUT = 60 };
+enum { TALLY_WHOLE = 5, TALLY_MIXED = 6 };
+
+static uint64_t reply_of(unsigned bc, size_t words) { return 1u << 8 | bc << 16 | (uint64_t)words << 32; }
+static uint64_t ask_of(unsigned slave, unsigned from) { return 2u << 8 | slave << 16 | from << 24; }
+static uint64_t waiting(void) { return 3u << 8; }
+
+static void count_error(uint16_t *count) {
+    if (*count != 0xFFFF)
+        ++*count;
+}
+
+/* The lowest slave of a set that is not empty. */
+static unsigned lowest(uint32_t set) {
+    unsigned slave = 0;
+    while ((set >> slave & 1) == 0)
+        slave++;
+    return slave;
+}
+
+static unsigned how_many(uint32_t set) {
+    unsigned count = 0;
+    for (; set != 0; set &= set - 1)
+        count++;
+    return count;
+}
+
+/* The slaves of the asked set above the one asked. */
+static uint32_t yet_to_ask(const struct node *node) { return node->asked & ~((2u << node->slave) - 1); }
+
+/* Own status word: bit 8 the OR of bits 11-8, bit 7 compressed, bit 6 raw, bit 5 set. */
+static unsigned own_status(const struct node *node) {
+    return (node->start_tests & 0x0F00 ? 0x0100 : 0) | (node->mode & 3) << 6 | 0x0020;
+}
+
+/* Refusals. */
+
+static bool is_flash_size(const struct limits *limits, size_t words) {
+    return words == BENCH || (limits->full_flash && words == FULL);
+}
+
+static bool is_unknown(uint32_t kind, uint32_t ports, uint32_t subdetector) {
+    return (kind != CDP && kind != CDDC) || ports < 1 || ports > 4 || subdetector > 7;
+}
+
+static bool is_group_wrong(const struct node *node) {
+    if (node->asked > ALL_SLAVES || (node->asked >> node->slave & 1) == 0)
+        return true;
+    if ((uint64_t)node->built + 5 * (how_many(yet_to_ask(node)) + 1) + 2 > AREA)
+        return true;
+    return node->from < 1 || node->from > 2 || node->tally > TALLY_MIXED;
+}
+
+static bool is_state_wrong(const struct node *node) {
+    if (is_unknown(node->kind, node->ports, node->subdetector) || node->mode > 3)
+        return true;
+    if (node->flash_words != BENCH && node->flash_words != FULL)
+        return true;
+    for (int i = 0; i < 16; i++)
+        if (node->masks[i] > ALL_SLAVES)
+            return true;
+    if (node->erasing) {
+        if (node->sector < SECTOR_FIRST || node->sector > SECTOR_LAST)
+            return true;
+        if (node->done >= model_sector_size(node->flash_words, node->sector))
+            return true;
+    }
+    if (node->pending == PENDING_NOTHING)
+        return false;
+    if (node->pending > PENDING_GROUP || node->link >= node->ports || node->slave >= SLAVES)
+        return true;
+    return node->pending == PENDING_GROUP && is_group_wrong(node);
+}
+
+/* Own commands. Each answers with the number of data words that it put into the reply, or with the BC of a 0-length reply. */
+
+struct outcome {
+    bool is_data;
+    unsigned bc;
+    size_t words;
+};
+
+static struct outcome zero(unsigned bc) { return (struct outcome){false, bc, 0}; }
+static struct outcome data(size_t words) { return (struct outcome){true, DATA, words}; }
+
+/* The parameters of an own command. */
+struct parameters {
+    const uint8_t *words;
+    size_t n;
+};
+
+static struct outcome read_status(const struct node *node, uint32_t now, uint32_t link, uint8_t *reply) {
+    uint32_t elapsed = now - node->start_clock;
+    unsigned counts = (node->amswire_errors != 0 ? 0x2000 : 0) | (node->flash_errors != 0 ? 0x1000 : 0);
+    put_word(reply, 0, node->program_version);
+    put_word(reply, 1, 1u << 12 | node->kind << 8 | node->subdetector << 4 | node->ports);
+    put_word(reply, 2, node->subdetector_version);
+    put_word(reply, 3, elapsed & 0xFFFF);
+    put_word(reply, 4, elapsed >> 16);
+    put_word(reply, 5, counts | (node->start_tests & 0x0F00) | link);
+    put_word(reply, 6, 0);
+    put_word(reply, 7, 0);
+    put_word(reply, 8, node->amswire_errors);
+    put_word(reply, 9, node->flash_errors);
+    return data(10);
+}
+
+static struct outcome ping(struct parameters with, uint8_t *reply) {
+    if (with.n > 8000)
+        return zero(ABORT);
+    if (with.n != 0)
+        memcpy(reply, with.words, 2 * with.n);
+    return data(with.n);
+}
+
+static struct outcome mode_write(struct node *node, unsigned mode) {
+    if (mode > 3)
+        return zero(ABORT);
+    node->mode = mode;
+    return zero(END);
+}
+
+/* 24 words, one a slave, bit i for mask i. */
+static struct outcome mask_read(const struct node *node, uint8_t *reply) {
+    for (unsigned slave = 0; slave < SLAVES; slave++) {
+        unsigned word = 0;
+        for (unsigned i = 0; i < 16; i++)
+            word |= (node->masks[i] >> slave & 1) << i;
+        put_word(reply, slave, word);
+    }
+    return data(SLAVES);
+}
+
+static struct outcome mask_write(struct node *node, unsigned first, unsigned second) {
+    if (first >> 12 != 0)
+        return zero(ABORT);
+    node->masks[first >> 8] = (uint32_t)(first & 0xFF) << 16 | second;
+    return zero(END);
+}
+
+/* A command's segment must be valid, of its own memory, and exact. */
+static bool is_exact(struct parameters with, enum memory memory, struct segment *segment) {
+    return model_segment_at(with.words, with.n, 0, segment) && segment->memory == memory && segment->body + segment->size == with.n;
+}
+
+static struct outcome perform_io(struct parameters with, const struct lent *lent) {
+    struct segment segment;
+    if (!is_exact(with, IO, &segment) || !model_fits(with.words, &segment, lent))
+        return zero(ABORT);
+    model_perform(with.words, &segment, lent);
+    return data(with.n);
+}
+
+static struct outcome memory_write(struct parameters with, enum memory memory, const struct lent *lent) {
+    struct segment segment;
+    if (!is_exact(with, memory, &segment) || !model_fits(with.words, &segment, lent))
+        return zero(ABORT);
+    model_store(with.words, &segment, lent);
+    return zero(END);
+}
+
+static struct outcome memory_read(unsigned first, unsigned second, enum memory memory, const struct lent *lent) {
+    struct segment header;
+    if (!model_segment_header(first, second, &header) || header.memory != memory || !model_run_is_lent(&header, lent))
+        return zero(ABORT);
+    if (model_read_size(&header) + 2 > AREA)
+        return zero(ABORT);
+    model_read(&header, lent);
+    return data(model_read_size(&header));
+}
+
+static uint8_t *sector_bytes(const struct lent *lent, unsigned sector) {
+    return lent->flash.bytes + 2 * model_sector_start(lent->flash.words, sector);
+}
+
+static struct outcome file_read(struct node *node, unsigned header, const struct lent *lent) {
+    unsigned sector = model_named(node->directory, header);
+    if (sector == 0)
+        return zero(END);
+    size_t length = model_good_file(node->directory, lent->flash, sector);
+    if (length == 0) {
+        count_error(&node->flash_errors);
+        return zero(ABORT);
+    }
+    if (length + 2 > AREA)
+        return zero(ABORT);
+    memcpy(lent->reply.bytes, sector_bytes(lent, sector), 2 * length);
+    return data(length);
+}
+
+static struct outcome file_test(struct node *node, unsigned header, const struct lent *lent) {
+    unsigned sector = model_named(node->directory, header);
+    if (sector == 0)
+        return zero(ABORT);
+    bool bad = model_good_file(node->directory, lent->flash, sector) == 0;
+    if (bad)
+        count_error(&node->flash_errors);
+    put_word(lent->reply.bytes, 0, bad ? 0x8000 : 0);
+    return data(1);
+}
+
+static struct outcome file_load(struct node *node, unsigned header, const struct lent *lent) {
+    unsigned sector = model_named(node->directory, header);
+    if (sector == 0)
+        return zero(ABORT);
+    size_t length = model_good_file(node->directory, lent->flash, sector);
+    if (length == 0) {
+        count_error(&node->flash_errors);
+        return zero(ABORT);
+    }
+    const uint8_t *words = sector_bytes(lent, sector);
+    for (int storing = 0; storing < 2; storing++) {
+        struct segment segment;
+        for (size_t at = 1; at < length; at = segment.body + segment.size) {
+            model_segment_at(words, length, at, &segment);
+            if (storing)
+                model_store(words, &segment, lent);
+            else if (!model_fits(words, &segment, lent))
+                return zero(ABORT);
+        }
+    }
+    return zero(END);
+}
+
+static struct outcome file_write(struct node *node, struct parameters with, const struct lent *lent) {
+    if (with.n == 0 || model_file_length(with.words, with.n) != with.n || model_named(node->directory, word_at(with.words, 0)) != 0)
+        return zero(ABORT);
+    unsigned sector = model_place(node->directory, lent->flash, with.n);
+    if (sector == 0)
+        return zero(ABORT);
+    memcpy(sector_bytes(lent, sector), with.words, 2 * with.n);
+    model_lay_entry(node->directory, sector, word_at(with.words, 0), 0);
+    return zero(END);
+}
+
+static struct outcome flash_summary(const struct node *node, uint8_t *reply) {
+    for (unsigned i = 0; i < 32; i++)
+        put_word(reply, i, node->directory[i]);
+    return data(32);
+}
+
+static struct outcome erase_begin(struct node *node, unsigned parameter, const struct lent *lent) {
+    unsigned sector = model_sector_to_erase(node->directory, parameter);
+    if (sector == 0)
+        return zero(ABORT);
+    model_lay_entry(node->directory, sector, word_at(sector_bytes(lent, sector), 0), 0x4000);
+    node->erasing = true;
+    node->sector = sector;
+    node->done = 0;
+    return zero(END);
+}
+
+static struct outcome attribute_set(struct node *node, unsigned header, unsigned value, const struct lent *lent) {
+    unsigned sector = model_named(node->directory, header);
+    if (sector == 0 || model_good_file(node->directory, lent->flash, sector) == 0)
+        return zero(ABORT);
+    unsigned first = word_at(sector_bytes(lent, sector), 0);
+    if (!model_attribute(&first, value))
+        return zero(ABORT);
+    put_word(sector_bytes(lent, sector), 0, first);
+    model_lay_entry(node->directory, sector, first, 0);
+    return zero(END);
+}
+
+/* How many parameters a command takes; -1 where its own content tells, -2 where the ID is not in the list. */
+static int parameter_count(unsigned id) {
+    switch (id) {
+    case 0x0C:
+    case 0x07:
+    case 0x12:
+    case 0x17: return 0;
+    case 0x05:
+    case 0x06:
+    case 0x46:
+    case 0x47:
+    case 0x52: return 1;
+    case 0x48:
+    case 0x10:
+    case 0x11:
+    case 0x57: return 2;
+    case 0x0D:
+    case 0x45:
+    case 0x0F:
+    case 0x50:
+    case 0x51: return -1;
+    default: return -2;
+    }
+}
+
+static bool is_file_command(unsigned id) {
+    return id == 0x05 || id == 0x45 || id == 0x06 || id == 0x46 || id == 0x47 || id == 0x48;
+}
+
+static struct outcome command(struct node *node, unsigned id, struct parameters with, uint32_t now, uint32_t link,
+                              const struct lent *lent) {
+    int count = parameter_count(id);
+    if (count == -2 || (node->kind == CDP && (id == 0x17 || id == 0x57)) || (node->erasing && is_file_command(id)))
+        return zero(ABORT);
+    if (count >= 0 && with.n != (size_t)count)
+        return zero(ABORT);
+    unsigned first = with.n > 0 ? word_at(with.words, 0) : 0, second = with.n > 1 ? word_at(with.words, 1) : 0;
+    switch (id) {
+    case 0x0C: return read_status(node, now, link, lent->reply.bytes);
+    case 0x0D: return ping(with, lent->reply.bytes);
+    case 0x05: return file_read(node, first, lent);
+    case 0x45: return file_write(node, with, lent);
+    case 0x06: return file_test(node, first, lent);
+    case 0x46: return file_load(node, first, lent);
+    case 0x07: return flash_summary(node, lent->reply.bytes);
+    case 0x47: return erase_begin(node, first, lent);
+    case 0x48: return attribute_set(node, first, second, lent);
+    case 0x0F: return perform_io(with, lent);
+    case 0x10: return memory_read(first, second, PM, lent);
+    case 0x50: return memory_write(with, PM, lent);
+    case 0x11: return memory_read(first, second, DM, lent);
+    case 0x51: return memory_write(with, DM, lent);
+    case 0x12: put_word(lent->reply.bytes, 0, node->mode); return data(1);
+    case 0x52: return mode_write(node, first);
+    case 0x17: return mask_read(node, lent->reply.bytes);
+    default: return mask_write(node, first, second);
+    }
+}
+
+/* A read reply is data, reply status, FCS. */
+static uint64_t finished(const struct node *node, struct outcome outcome, uint8_t *reply) {
+    if (!outcome.is_data)
+        return reply_of(outcome.bc, 0);
+    put_word(reply, outcome.words, own_status(node));
+    put_word(reply, outcome.words + 1, model_fcs(reply, outcome.words + 1));
+    return reply_of(DATA, outcome.words + 2);
+}
+
+/* Steps 4 and 5 for slaves: ABORT, or the first slave of the set is asked. */
+static uint64_t forward(struct node *node, uint32_t now, uint32_t link, const uint8_t *packet, size_t n) {
+    unsigned first = packet[0], second = packet[1], stripped = first == 0x23 ? 2 : 1;
+    uint32_t set;
+    if (node->kind == CDP || n <= stripped)
+        return reply_of(ABORT, 0);
+    if (first < SLAVES)
+        set = second == 0x04 || second == 0x05 || second == 0x3F ? 1u << first : 0;
+    else if (first == 0x40)
+        set = second <= 15 ? node->masks[second] : 0;
+    else if (first == 0x23)
+        set = second | (uint32_t)packet[2] << 8 | (uint32_t)packet[3] << 16;
+    else
+        set = ALL_SLAVES;
+    if (set == 0)
+        return reply_of(ABORT, 0);
+    node->pending = first < SLAVES ? PENDING_SLAVE : PENDING_GROUP;
+    node->link = link;
+    node->slave = lowest(set);
+    node->asked_at = now;
+    node->asked = first < SLAVES ? 0 : set;
+    node->from = first < SLAVES ? 0 : stripped;
+    node->built = 0;
+    node->tally = 0;
+    return ask_of(node->slave, stripped);
+}
+
+static void drop(struct node *node) {
+    node->pending = PENDING_NOTHING;
+    node->link = node->slave = node->asked_at = node->asked = node->from = node->built = node->tally = 0;
+}
+
+uint64_t model_node_request(const struct limits *limits, struct node *node, uint32_t now, uint32_t link, uint32_t bc,
+                            uint32_t receive_error, const uint8_t *packet, size_t n, const struct lent *lent) {
+    if (!is_flash_size(limits, lent->flash.words) || lent->flash.words != node->flash_words)
+        return 1;
+    if (lent->reply.words < AREA)
+        return 2;
+    if (lent->pm.words > limits->pm || lent->dm.words > limits->dm || lent->io.words > limits->io)
+        return 3;
+    if (link >= node->ports)
+        return 4;
+    if (is_state_wrong(node))
+        return 5;
+    if (n > 0 && node->pending != PENDING_NOTHING)
+        return 6;
+    bc &= 3;
+    if (receive_error != 0) {
+        count_error(&node->amswire_errors);
+        return reply_of(ERROR, 0);
+    }
+    if (n == 0) {
+        if (bc != 2 || node->pending == PENDING_NOTHING || node->link != link)
+            return reply_of(ABORT, 0);
+        drop(node);
+        return reply_of(END, 0);
+    }
+    unsigned first = packet[0];
+    bool known = first == 0x2E || first < SLAVES || first == 0x40 || first == 0x23 || first == 0x2A;
+    if (n > 8192 || bc != 3 || !known) {
+        count_error(&node->amswire_errors);
+        return reply_of(ERROR, 0);
+    }
+    if (first != 0x2E)
+        return forward(node, now, link, packet, n);
+    return finished(node, command(node, packet[1], (struct parameters){packet + 2, n - 1}, now, link, lent), lent->reply.bytes);
+}
+
+/* Slave replies. */
+
+/* What came of the slave now being asked. */
+struct answer {
+    bool late, errors;
+    unsigned bc, rx_status, rx_address;
+    const uint8_t *packet;
+    size_t n;
+};
+
+static bool is_late(const struct node *node, uint32_t now) { return (uint32_t)(now - node->asked_at) >= TIMEOUT; }
+
+/* DAT in bit 15 and the code in bits 14-11, as in the status word. */
+static unsigned judged(const struct answer *answer, size_t built, unsigned left) {
+    static const unsigned zero_codes[4] = {1, 3, 2, 4}; /* NEXT, ERROR, ABORT, END */
+    if (answer->late)
+        return 5u << 11;
+    if (answer->errors)
+        return 6u << 11;
+    if (answer->n == 0)
+        return zero_codes[answer->bc] << 11;
+    unsigned code = 0;
+    if ((answer->bc & 2) == 0)
+        code = 1;
+    else if (answer->bc == 2)
+        code = 9;
+    else if (answer->n == 1)
+        code = 3;
+    else if (word_at(answer->packet, answer->n - 1) != model_fcs(answer->packet, answer->n - 1))
+        code = 5;
+    else if (built + answer->n + 5 * left + 2 > AREA)
+        code = 2;
+    return 0x8000 | code << 11;
+}
+
+/* Puts the fragment behind the words built, and answers how many words it has. */
+static size_t put_fragment(uint8_t *reply, size_t built, unsigned judgement, unsigned slave, const struct answer *answer) {
+    unsigned code = judgement >> 11 & 15, status = judgement | slave;
+    size_t words = 1;
+    if (judgement < 0x8000) {
+        if (code == 6) {
+            put_word(reply, built + words++, answer->rx_status);
+            put_word(reply, built + words++, answer->rx_address);
+        }
+    } else {
+        if (code == 0 || code == 2)
+            status |= word_at(answer->packet, answer->n - 2) & 0x07E0;
+        if (code == 0) {
+            memcpy(reply + 2 * (built + 1), answer->packet, 2 * (answer->n - 2));
+            words += answer->n - 2;
+        } else {
+            put_word(reply, built + words++, answer->rx_status);
+            put_word(reply, built + words++, answer->n > 0xFFFF ? 0xFFFF : (unsigned)answer->n);
+            put_word(reply, built + words++, word_at(answer->packet, 0));
+        }
+    }
+    put_word(reply, built + words, status);
+    put_word(reply, built, (unsigned)words);
+    return words + 1;
+}
+
+/* 1 to 4 a 0-length reply, 5 data with code 0, 6 anything else; mixed as soon as two differ. */
+static unsigned tally_with(unsigned tally, unsigned judgement) {
+    unsigned code = judgement >> 11 & 15, kind = TALLY_MIXED;
+    if (judgement >= 0x8000)
+        kind = code == 0 ? TALLY_WHOLE : TALLY_MIXED;
+    else if (code <= 4)
+        kind = code;
+    return tally == 0 || tally == kind ? kind : TALLY_MIXED;
+}
+
+static uint64_t group_ends(struct node *node, uint8_t *reply, size_t built, unsigned tally) {
+    static const unsigned zero_bcs[5] = {0, NEXT, ABORT, ERROR, END};
+    drop(node);
+    if (tally >= 1 && tally <= 4)
+        return reply_of(zero_bcs[tally], 0);
+    unsigned status = (own_status(node) & ~0x0020u) | (tally == TALLY_WHOLE ? 0 : 0x0200);
+    put_word(reply, built, status);
+    put_word(reply, built + 1, model_fcs(reply, built + 1));
+    return reply_of(DATA, built + 2);
+}
+
+static uint64_t single(struct node *node, const struct answer *answer, uint8_t *reply) {
+    drop(node);
+    if (answer->late)
+        return reply_of(ABORT, 0);
+    if (answer->errors)
+        return reply_of(ERROR, 0);
+    if (answer->n > AREA)
+        return reply_of(ABORT, 0);
+    if (answer->n != 0)
+        memcpy(reply, answer->packet, 2 * answer->n);
+    return reply_of(answer->bc, answer->n);
+}
+
+static uint64_t take(struct node *node, uint32_t now, const struct answer *answer, uint8_t *reply) {
+    if (answer->errors && !answer->late)
+        count_error(&node->amswire_errors);
+    if (node->pending == PENDING_SLAVE)
+        return single(node, answer, reply);
+    uint32_t rest = yet_to_ask(node);
+    unsigned judgement = judged(answer, node->built, how_many(rest)), tally = tally_with(node->tally, judgement);
+    size_t built = node->built + put_fragment(reply, node->built, judgement, node->slave, answer);
+    if (rest == 0)
+        return group_ends(node, reply, built, tally);
+    node->built = (uint32_t)built;
+    node->tally = tally;
+    node->slave = lowest(rest);
+    node->asked_at = now;
+    return ask_of(node->slave, node->from);
+}
+
+uint64_t model_node_reply(const struct limits *limits, struct node *node, uint32_t now, uint32_t slave, uint32_t bc,
+                          uint32_t receive_error, uint16_t rx_status, uint16_t rx_address, const uint8_t *packet, size_t n,
+                          struct run reply) {
+    if (reply.words < AREA)
+        return 2;
+    if (n > limits->slave_reply)
+        return 3;
+    if (slave >= SLAVES)
+        return 4;
+    if (is_state_wrong(node))
+        return 5;
+    if (node->pending == PENDING_NOTHING || node->slave != slave)
+        return 7;
+    struct answer answer = {is_late(node, now), receive_error != 0, bc & 3, rx_status, rx_address, packet, n};
+    return take(node, now, &answer, reply.bytes);
+}
+
+uint64_t model_node_poll(struct node *node, uint32_t now, struct run reply) {
+    if (reply.words < AREA)
+        return 2;
+    if (is_state_wrong(node))
+        return 5;
+    if (node->pending == PENDING_NOTHING)
+        return 7;
+    if (!is_late(node, now))
+        return waiting();
+    struct answer answer = {true, false, 0, 0, 0, NULL, 0};
+    return take(node, now, &answer, reply.bytes);
+}
+
+/* Start and erase progress. */
+
+uint32_t model_node_start(const struct limits *limits, struct node *node, uint32_t kind, uint32_t ports, uint32_t subdetector,
+                          uint16_t program_version, uint16_t subdetector_version, uint16_t start_tests, uint32_t clock,
+                          struct run flash) {
+    *node = (struct node){0};
+    if (!is_flash_size(limits, flash.words))
+        return 1;
+    if (is_unknown(kind, ports, subdetector))
+        return 4;
+    node->kind = kind;
+    node->ports = ports;
+    node->subdetector = subdetector;
+    node->mode = kind == CDP ? 2 : 0;
+    node->program_version = program_version;
+    node->subdetector_version = subdetector_version;
+    node->start_tests = start_tests & 0x0F00;
+    node->start_clock = clock;
+    node->flash_words = (uint32_t)flash.words;
+    model_directory(node->directory, flash);
+    return 0;
+}
+
+uint64_t model_node_erase(const struct limits *limits, struct node *node, uint64_t budget, struct run flash) {
+    if (!is_flash_size(limits, flash.words) || flash.words != node->flash_words)
+        return 1;
+    if (is_state_wrong(node))
+        return 5;
+    if (!node->erasing || budget == 0)
+        return 0;
+    size_t size = model_sector_size(flash.words, node->sector), start = model_sector_start(flash.words, node->sector);
+    size_t rest = size - node->done, count = budget < rest ? (size_t)budget : rest;
+    memset(flash.bytes + 2 * (start + node->done), 0xFF, 2 * count);
+    node->done += (uint32_t)count;
+    bool over = node->done == size;
+    model_lay_entry(node->directory, node->sector, word_at(flash.bytes, start), over ? 0 : 0x4000);
+    if (over) {
+        node->erasing = false;
+        node->sector = node->done = 0;
+    }
+    return (uint64_t)count << 32;
+}

@@ -1,0 +1,439 @@
+/* Tests of the border: each refusal and their order, odd lengths, NULL with length 0, guard bytes round every run, alignment, the
+   parts of what is answered, and the layout of the state. Every run stands between guard bytes; after each call they are looked at,
+   and after a refused one every byte of every run too. */
+#include "../../include/logodwen.h"
+
+#include <stdio.h>
+#include <stdlib.h>
+#include <string.h>
+
+static int failures, checks;
+
+static void check(int holds, const char *text, int line) {
+    checks++;
+    if (!holds) {
+        failures++;
+        printf("border: line %d: not so: %s\n", line, text);
+    }
+}
+#define CHECK(holds) check((holds) != 0, #holds, __LINE__)
+
+/* Runs. */
+
+enum { STATE, FLASH, PM, DM, IO, REPLY, PACKET, RUNS };
+enum { GUARD = 64 };
+static const char *const names[RUNS] = {"state", "flash", "pm", "dm", "io", "reply", "packet"};
+static const size_t rooms[RUNS] = {LOGODWEN_STATE_BYTES + 8,      LOGODWEN_FLASH_BYTES + 8, LOGODWEN_PM_BYTES + 16,
+                                   LOGODWEN_DM_BYTES + 8,         LOGODWEN_IO_BYTES + 8,    LOGODWEN_REPLY_BYTES + 8,
+                                   LOGODWEN_SLAVE_REPLY_BYTES + 8};
+static uint8_t *blocks[RUNS], *runs[RUNS], *copies[RUNS]; /* a block holds guard bytes, a run, guard bytes */
+static size_t lengths[RUNS];
+
+static uint8_t guard_byte(size_t at) { return (uint8_t)(0xA5 ^ at); }
+
+/* Runs that begin `shift` bytes past an aligned place. */
+static void lay_out(size_t shift) {
+    for (int run = 0; run < RUNS; run++) {
+        size_t size = rooms[run] + 2 * GUARD + 16;
+        free(blocks[run]);
+        free(copies[run]);
+        blocks[run] = malloc(size);
+        copies[run] = malloc(rooms[run]);
+        if (blocks[run] == NULL || copies[run] == NULL)
+            exit(2);
+        for (size_t at = 0; at < size; at++)
+            blocks[run][at] = guard_byte(at);
+        runs[run] = blocks[run] + GUARD + shift;
+        for (size_t at = 0; at < rooms[run]; at++)
+            runs[run][at] = (uint8_t)(at * 7 + (size_t)run);
+    }
+    memset(runs[STATE], 0, rooms[STATE]);
+    memset(runs[FLASH], 0xFF, rooms[FLASH]);
+    static const size_t usual[RUNS] = {LOGODWEN_STATE_BYTES, LOGODWEN_FLASH_BYTES, 256, 128, 128, LOGODWEN_REPLY_BYTES, 0};
+    memcpy(lengths, usual, sizeof lengths);
+}
+
+static uint8_t *lent(int run) { return lengths[run] == 0 ? NULL : runs[run]; }
+
+static void remember(void) {
+    for (int run = 0; run < RUNS; run++)
+        memcpy(copies[run], runs[run], rooms[run]);
+}
+
+static int is_same(int run, size_t from, size_t to) { return memcmp(copies[run] + from, runs[run] + from, to - from) == 0; }
+
+/* No byte outside a lent run has changed, none of a packet, and none at all where the call was refused. */
+static void look_round(unsigned refusal, int line) {
+    for (int run = 0; run < RUNS; run++) {
+        size_t size = rooms[run] + 2 * GUARD + 16, before = (size_t)(runs[run] - blocks[run]), from = 0;
+        int whole = 1;
+        for (size_t at = 0; at < size; at++)
+            if ((at < before || at >= before + rooms[run]) && blocks[run][at] != guard_byte(at))
+                whole = 0;
+        if (refusal == 0 && run != PACKET)
+            from = run == PM ? lengths[run] / 4 * 4 : run == STATE ? lengths[run] : lengths[run] / 2 * 2;
+        if (!is_same(run, from, rooms[run]))
+            whole = 0;
+        if (!whole)
+            printf("border: line %d: bytes of or around %s have changed\n", line, names[run]);
+        check(whole, "every byte that isn't lent, or of a refused call, stays", line);
+    }
+}
+
+/* Calls on these runs. */
+
+static uint32_t start_as(uint32_t kind, uint32_t ports, uint32_t subdetector, int line) {
+    remember();
+    uint32_t refusal = logodwen_start(kind, ports, subdetector, 0x1234, 0x5678, 0xFFFF, 1000, lent(FLASH), lengths[FLASH],
+                                      lent(STATE), lengths[STATE]);
+    look_round(refusal, line);
+    check(is_same(FLASH, 0, rooms[FLASH]), "start leaves the flash", line);
+    return refusal;
+}
+
+static uint64_t request_at(uint32_t now, uint32_t link, uint32_t bc, uint32_t error, int line) {
+    remember();
+    uint64_t answered = logodwen_request(now, link, bc, error, lent(PACKET), lengths[PACKET], lent(STATE), lengths[STATE],
+                                         lent(FLASH), lengths[FLASH], lent(PM), lengths[PM], lent(DM), lengths[DM], lent(IO),
+                                         lengths[IO], lent(REPLY), lengths[REPLY]);
+    look_round(logodwen_refusal(answered), line);
+    return answered;
+}
+
+static uint64_t reply_at(uint32_t now, uint32_t slave, uint32_t bc, uint32_t error, int line) {
+    remember();
+    uint64_t answered = logodwen_reply(now, slave, bc, error, 0x00AA, 0x00BB, lent(PACKET), lengths[PACKET], lent(STATE),
+                                       lengths[STATE], lent(REPLY), lengths[REPLY]);
+    look_round(logodwen_refusal(answered), line);
+    return answered;
+}
+
+static uint64_t poll_at(uint32_t now, int line) {
+    remember();
+    uint64_t answered = logodwen_poll(now, lent(STATE), lengths[STATE], lent(REPLY), lengths[REPLY]);
+    look_round(logodwen_refusal(answered), line);
+    return answered;
+}
+
+static uint64_t erase_by(uint64_t budget, int line) {
+    remember();
+    uint64_t answered = logodwen_erase(budget, lent(STATE), lengths[STATE], lent(FLASH), lengths[FLASH]);
+    look_round(logodwen_refusal(answered), line);
+    return answered;
+}
+
+#define START(kind, ports, subdetector) start_as(kind, ports, subdetector, __LINE__)
+#define REQUEST(now, link, bc, error) request_at(now, link, bc, error, __LINE__)
+#define SLAVE_REPLY(now, slave, bc, error) reply_at(now, slave, bc, error, __LINE__)
+#define POLL(now) poll_at(now, __LINE__)
+#define ERASE(budget) erase_by(budget, __LINE__)
+
+static void packet(size_t count, const uint16_t *words) {
+    for (size_t i = 0; i < count; i++)
+        logodwen_put(runs[PACKET], i, words[i]);
+    lengths[PACKET] = 2 * count;
+}
+#define PACKET_OF(...) packet(sizeof((uint16_t[]){__VA_ARGS__}) / 2, (uint16_t[]){__VA_ARGS__})
+
+static uint16_t reply_word(size_t at) { return logodwen_get(runs[REPLY], at); }
+static uint32_t state_long(size_t at) { return logodwen_get_pm(runs[STATE] + at, 0); }
+static uint16_t state_word(size_t at) { return logodwen_get(runs[STATE] + at, 0); }
+
+static uint64_t zero_length(uint64_t bc) { return (uint64_t)LOGODWEN_REPLY << 8 | bc << 16; }
+static uint64_t with_words(uint64_t words) {
+    return (uint64_t)LOGODWEN_REPLY << 8 | (uint64_t)LOGODWEN_BC_WHOLE << 16 | words << 32;
+}
+static uint64_t ask(uint64_t slave, uint64_t from) { return (uint64_t)LOGODWEN_ASK << 8 | slave << 16 | from << 24; }
+
+/* File 21: one DM segment of two words, with its File Write. */
+static void file_write(uint16_t header) {
+    PACKET_OF(0x452E, header, 0x4003, 0x2000, 0xCAFE, 0xF00D, 0);
+    logodwen_put(runs[PACKET], 6, logodwen_fcs(runs[PACKET] + 8, 2));
+}
+
+/* Tests. */
+
+static void test_start(void) {
+    lay_out(0);
+    CHECK(START(LOGODWEN_CDDC, 4, 7) == LOGODWEN_DONE);
+    const uint8_t *state = runs[STATE];
+    CHECK(state[LOGODWEN_AT_KIND] == 2 && state[LOGODWEN_AT_PORTS] == 4 && state[LOGODWEN_AT_SUBDETECTOR] == 7
+          && state[LOGODWEN_AT_MODE] == 0);
+    CHECK(state_word(LOGODWEN_AT_PROGRAM_VERSION) == 0x1234 && state_word(LOGODWEN_AT_SUBDETECTOR_VERSION) == 0x5678);
+    CHECK(state_word(LOGODWEN_AT_START_TESTS) == 0x0F00);
+    CHECK(state_long(LOGODWEN_AT_CLOCK) == 1000 && state_long(LOGODWEN_AT_FLASH_WORDS) == LOGODWEN_FLASH_WORDS);
+    for (size_t at = LOGODWEN_AT_AMSWIRE_ERRORS; at < LOGODWEN_AT_CLOCK; at++)
+        CHECK(state[at] == 0);
+    for (size_t at = LOGODWEN_AT_ERASED; at < LOGODWEN_AT_DIRECTORY; at++)
+        CHECK(state[at] == 0);
+    for (unsigned i = 0; i < 8; i++) {
+        static const uint16_t addresses[8] = {0x0200, 0x0400, 0x0800, 0x0C00, 0x1000, 0x1400, 0x1800, 0x1C00};
+        const uint8_t *entry = state + LOGODWEN_AT_DIRECTORY + 8 * i;
+        CHECK(logodwen_get(entry, 0) == 0xFFFF && logodwen_get(entry, 1) == addresses[i] && logodwen_get(entry, 2) == 0
+              && logodwen_get(entry, 3) == 0);
+    }
+    CHECK(START(LOGODWEN_CDP, 1, 0) == LOGODWEN_DONE && runs[STATE][LOGODWEN_AT_MODE] == 2);
+}
+
+static void test_start_refusals(void) {
+    static const uint32_t numbers[][3] = {{0, 1, 0},   {3, 1, 0}, {257, 1, 0}, {1, 0, 0},      {1, 5, 0},
+                                          {1, 257, 0}, {1, 1, 8}, {2, 4, 256}, {0x10002, 4, 0}};
+    lay_out(0);
+    for (size_t i = 0; i < sizeof numbers / sizeof *numbers; i++)
+        CHECK(START(numbers[i][0], numbers[i][1], numbers[i][2]) == LOGODWEN_BAD_NUMBER);
+    lengths[STATE] = LOGODWEN_STATE_BYTES + 1;
+    CHECK(START(1, 1, 0) == LOGODWEN_BAD_STATE);
+    CHECK(START(0, 1, 0) == LOGODWEN_BAD_NUMBER);
+    lengths[STATE] = LOGODWEN_STATE_BYTES - 1;
+    CHECK(START(1, 1, 0) == LOGODWEN_BAD_STATE);
+    lengths[STATE] = 0;
+    CHECK(START(1, 1, 0) == LOGODWEN_BAD_STATE);
+    static const size_t flashes[] = {0, 1, 2, LOGODWEN_FLASH_BYTES - 1, LOGODWEN_FLASH_BYTES - 2, LOGODWEN_FLASH_BYTES + 2};
+    for (size_t i = 0; i < sizeof flashes / sizeof *flashes; i++) {
+        lengths[FLASH] = flashes[i];
+        CHECK(START(0, 0, 9) == LOGODWEN_BAD_FLASH);
+    }
+}
+
+/* The first of several causes answers. A cause is one bit: bit n - 1 for refusal n. */
+static void lend_with(unsigned causes) {
+    lay_out(causes % 8);
+    CHECK(START(LOGODWEN_CDDC, 2, 0) == LOGODWEN_DONE);
+    if (causes & 0x20) {
+        PACKET_OF(0x0405, 0x122E);
+        CHECK(REQUEST(1000, 0, LOGODWEN_BC_WHOLE, 0) == ask(5, 1));
+    }
+    PACKET_OF(0x122E);
+    if (causes & 1)
+        lengths[FLASH] = LOGODWEN_FLASH_BYTES - 1;
+    if (causes & 2)
+        lengths[REPLY] = LOGODWEN_REPLY_BYTES - 1;
+    if (causes & 4)
+        lengths[PM] = LOGODWEN_PM_BYTES + 4;
+    if (causes & 0x10)
+        runs[STATE][LOGODWEN_AT_MODE] = 4;
+}
+
+static unsigned first_of(unsigned causes, unsigned tested) {
+    for (unsigned number = 1; number <= 7; number++)
+        if (causes & tested & 1u << (number - 1))
+            return number;
+    return 0;
+}
+
+static void test_order(void) {
+    for (unsigned causes = 0; causes < 64; causes++) {
+        lend_with(causes);
+        uint32_t link = causes & 8 ? 2 : 0;
+        uint64_t answered = REQUEST(1000, link, LOGODWEN_BC_WHOLE, 0);
+        CHECK(logodwen_refusal(answered) == first_of(causes, 0x3F));
+        CHECK(logodwen_refusal(answered) == 0 || answered == logodwen_refusal(answered));
+        lend_with(causes);
+        CHECK(logodwen_refusal(ERASE(1)) == first_of(causes, 0x11));
+        lend_with(causes);
+        CHECK(logodwen_refusal(POLL(1000)) == (first_of(causes, 0x12) != 0 ? first_of(causes, 0x12) : causes & 0x20 ? 0u : 7u));
+        lend_with(causes);
+        lengths[PACKET] = causes & 4 ? LOGODWEN_SLAVE_REPLY_BYTES + 2 : 0;
+        unsigned expected = first_of(causes, 0x1E);
+        CHECK(logodwen_refusal(SLAVE_REPLY(1000, causes & 8 ? 24 : 5, LOGODWEN_BC_END, 0))
+              == (expected != 0   ? expected
+                  : causes & 0x20 ? 0u
+                                  : 7u));
+    }
+}
+
+static void test_each_refusal(void) {
+    static const uint32_t links[] = {2, 3, 255, 256, 0x10000, 0xFFFFFFFF}, slaves[] = {24, 255, 256 + 5, 0x10005, 0xFFFFFFFF};
+    lend_with(0x20);
+    for (size_t i = 0; i < sizeof links / sizeof *links; i++)
+        CHECK(REQUEST(1000, links[i], LOGODWEN_BC_WHOLE, 0) == LOGODWEN_BAD_NUMBER);
+    for (size_t i = 0; i < sizeof slaves / sizeof *slaves; i++)
+        CHECK(SLAVE_REPLY(1000, slaves[i], LOGODWEN_BC_END, 0) == LOGODWEN_BAD_NUMBER);
+    CHECK(SLAVE_REPLY(1000, 6, LOGODWEN_BC_END, 0) == LOGODWEN_NOT_ASKED);
+    CHECK(REQUEST(1000, 0, LOGODWEN_BC_WHOLE, 1) == LOGODWEN_PENDING);
+    lend_with(0);
+    lengths[DM] = LOGODWEN_DM_BYTES + 2;
+    CHECK(REQUEST(1000, 0, LOGODWEN_BC_WHOLE, 0) == LOGODWEN_BAD_MEMORY);
+    lengths[DM] = 0;
+    lengths[IO] = LOGODWEN_IO_BYTES + 2;
+    CHECK(REQUEST(1000, 0, LOGODWEN_BC_WHOLE, 0) == LOGODWEN_BAD_MEMORY);
+    lengths[IO] = LOGODWEN_IO_BYTES + 1;
+    lengths[DM] = LOGODWEN_DM_BYTES + 1;
+    lengths[PM] = LOGODWEN_PM_BYTES + 3;
+    CHECK(REQUEST(1000, 0, LOGODWEN_BC_WHOLE, 0) == with_words(3));
+    memset(runs[STATE], 0, LOGODWEN_STATE_BYTES); /* zero is no node's state */
+    CHECK(REQUEST(1000, 0, LOGODWEN_BC_WHOLE, 0) == LOGODWEN_BAD_FLASH);
+    CHECK(ERASE(1) == LOGODWEN_BAD_FLASH && POLL(0) == LOGODWEN_BAD_STATE && SLAVE_REPLY(0, 0, 3, 0) == LOGODWEN_BAD_STATE);
+}
+
+/* Of another length than 172 bytes, the state's part of 1 and 4 is left out. */
+static void test_state_length(void) {
+    for (size_t length = LOGODWEN_STATE_BYTES - 2; length <= LOGODWEN_STATE_BYTES + 2; length++) {
+        lend_with(0);
+        lengths[STATE] = length;
+        unsigned expected = length == LOGODWEN_STATE_BYTES ? 0 : LOGODWEN_BAD_STATE;
+        CHECK(logodwen_refusal(REQUEST(1000, 1, LOGODWEN_BC_WHOLE, 0)) == expected);
+        CHECK(logodwen_refusal(ERASE(1)) == expected);
+        if (expected == 0)
+            continue;
+        CHECK(REQUEST(1000, 0xFFFFFFFF, LOGODWEN_BC_WHOLE, 0) == LOGODWEN_BAD_STATE);
+        CHECK(POLL(1000) == LOGODWEN_BAD_STATE && SLAVE_REPLY(1000, 5, 3, 0) == LOGODWEN_BAD_STATE);
+        CHECK(SLAVE_REPLY(1000, 24, 3, 0) == LOGODWEN_BAD_NUMBER);
+        lengths[FLASH] = 0;
+        CHECK(ERASE(1) == LOGODWEN_BAD_FLASH);
+    }
+}
+
+/* What a case does not use is 0; each byte of it that is not is refused. Bits that are not looked at are handed back. */
+static void test_state_bytes(void) {
+    lend_with(0);
+    static const uint8_t unused[] = {24, 25, 26, 27, 28, 29, 30, 31, 32, 33, 34, 35, 36, 37, 38, 39, 40, 41, 42, 43};
+    for (size_t i = 0; i < sizeof unused; i++) {
+        runs[STATE][unused[i]] = 1;
+        CHECK(REQUEST(1000, 0, LOGODWEN_BC_WHOLE, 0) == LOGODWEN_BAD_STATE && ERASE(1) == LOGODWEN_BAD_STATE);
+        runs[STATE][unused[i]] = 0;
+    }
+    static const uint8_t wrong[][2] = {{0, 3}, {1, 5}, {2, 8}, {3, 4}, {14, 2}, {14, 11}, {15, 3}, {47, 1}, {107, 255}};
+    for (size_t i = 0; i < sizeof wrong / sizeof *wrong; i++) {
+        uint8_t before = runs[STATE][wrong[i][0]];
+        runs[STATE][wrong[i][0]] = wrong[i][1];
+        CHECK(ERASE(1) == LOGODWEN_BAD_STATE && POLL(0) == LOGODWEN_BAD_STATE);
+        runs[STATE][wrong[i][0]] = before;
+    }
+    runs[STATE][LOGODWEN_AT_START_TESTS] = 0xFF;
+    runs[STATE][LOGODWEN_AT_START_TESTS + 1] = 0xF0;
+    CHECK(REQUEST(1000, 0, LOGODWEN_BC_WHOLE, 0) == with_words(3) && reply_word(1) == 0x0020);
+    CHECK(state_word(LOGODWEN_AT_START_TESTS) == 0xF0FF);
+}
+
+/* An unfinished last word is ignored, and stays. (look_round sees that it does.) */
+static void test_odd_lengths(void) {
+    for (size_t extra = 0; extra < 4; extra++) {
+        lend_with(0);
+        lengths[PM] = 256 + extra;
+        lengths[DM] = 128 + extra % 2;
+        lengths[IO] = 128 + extra % 2;
+        lengths[FLASH] = LOGODWEN_FLASH_BYTES + extra % 2;
+        lengths[REPLY] = LOGODWEN_REPLY_BYTES + extra % 2;
+        file_write(0x7211);
+        lengths[PACKET] += extra % 2;
+        CHECK(REQUEST(1000, 0, LOGODWEN_BC_WHOLE, 0) == zero_length(LOGODWEN_BC_END));
+        PACKET_OF(0x462E, 0x0210);
+        CHECK(REQUEST(1000, 0, LOGODWEN_BC_WHOLE, 0) == zero_length(LOGODWEN_BC_END));
+        CHECK(logodwen_get(runs[DM], 0) == 0xCAFE && logodwen_get(runs[DM], 1) == 0xF00D);
+        PACKET_OF(0x472E, 0x0200);
+        CHECK(REQUEST(1000, 0, LOGODWEN_BC_WHOLE, 0) == zero_length(LOGODWEN_BC_END));
+        CHECK(ERASE(2047) == (uint64_t)2047 << 32 && ERASE(UINT64_MAX) == (uint64_t)1 << 32 && ERASE(1) == 0);
+    }
+    lend_with(0x20);
+    lengths[PACKET] = 1; /* no word, so never refusal 6 */
+    CHECK(REQUEST(1000, 0, LOGODWEN_BC_WHOLE, 0) == zero_length(LOGODWEN_BC_ABORT));
+    CHECK(REQUEST(1000, 0, LOGODWEN_BC_ABORT, 0) == zero_length(LOGODWEN_BC_END));
+}
+
+static void test_null(void) {
+    lend_with(0);
+    lengths[PM] = lengths[DM] = lengths[IO] = 0;
+    CHECK(REQUEST(1000, 0, LOGODWEN_BC_WHOLE, 0) == with_words(3));
+    lengths[PACKET] = 0;
+    CHECK(REQUEST(1000, 0, LOGODWEN_BC_WHOLE, 0) == zero_length(LOGODWEN_BC_ABORT));
+    lengths[REPLY] = 0;
+    CHECK(REQUEST(1000, 0, LOGODWEN_BC_WHOLE, 0) == LOGODWEN_SHORT_REPLY && POLL(0) == LOGODWEN_SHORT_REPLY);
+    CHECK(SLAVE_REPLY(0, 0, 0, 0) == LOGODWEN_SHORT_REPLY);
+    lengths[FLASH] = 0;
+    CHECK(REQUEST(1000, 0, LOGODWEN_BC_WHOLE, 0) == LOGODWEN_BAD_FLASH && ERASE(1) == LOGODWEN_BAD_FLASH);
+    lengths[STATE] = 0;
+    CHECK(REQUEST(1000, 0, LOGODWEN_BC_WHOLE, 0) == LOGODWEN_BAD_FLASH);
+}
+
+/* Write and read back with every run at every shift from an aligned place. */
+static void test_alignment(void) {
+    for (size_t shift = 0; shift < 9; shift++) {
+        lay_out(shift);
+        CHECK(START(LOGODWEN_CDP, 1, 0) == LOGODWEN_DONE);
+        file_write(0x7211);
+        CHECK(REQUEST(0, 0, LOGODWEN_BC_WHOLE, 0) == zero_length(LOGODWEN_BC_END));
+        uint8_t kept[12];
+        memcpy(kept, runs[PACKET] + 2, sizeof kept);
+        PACKET_OF(0x052E, 0x0210);
+        CHECK(REQUEST(0, 0, LOGODWEN_BC_WHOLE, 0) == with_words(8) && memcmp(runs[REPLY], kept, sizeof kept) == 0);
+        CHECK(reply_word(6) == 0x01A0 && reply_word(7) == logodwen_fcs(runs[REPLY], 7));
+        PACKET_OF(0x502E, 0x0002, 0x0000, 0xAABB, 0xCC00, 0);
+        logodwen_put(runs[PACKET], 5, logodwen_fcs(runs[PACKET] + 6, 2));
+        CHECK(REQUEST(0, 0, LOGODWEN_BC_WHOLE, 0) == zero_length(LOGODWEN_BC_END) && logodwen_get_pm(runs[PM], 0) == 0xAABBCC);
+    }
+}
+
+static void test_group(void) {
+    lay_out(3);
+    CHECK(START(LOGODWEN_CDDC, 2, 0) == LOGODWEN_DONE);
+    PACKET_OF(0xA023, 0x8000, 0x0C2E);
+    CHECK(REQUEST(0xFFFFFFF0, 1, LOGODWEN_BC_WHOLE, 0) == ask(5, 2));
+    const uint8_t *state = runs[STATE];
+    CHECK(state[LOGODWEN_AT_PENDING] == 2 && state[LOGODWEN_AT_LINK] == 1 && state[LOGODWEN_AT_SLAVE] == 5
+          && state[LOGODWEN_AT_FROM] == 2);
+    CHECK(state_long(LOGODWEN_AT_ASKED) == 0x8000A0 && state_long(LOGODWEN_AT_ASKED_AT) == 0xFFFFFFF0);
+    lengths[PACKET] = 0;
+    CHECK(SLAVE_REPLY(0xFFFFFFF8, 5, LOGODWEN_BC_ABORT, 0) == ask(7, 2));
+    CHECK(runs[STATE][LOGODWEN_AT_TALLY] == 2 && state_long(LOGODWEN_AT_BUILT) == 2);
+    PACKET_OF(0xAAAA, 0x0001, 0x01A0, 0);
+    logodwen_put(runs[PACKET], 3, logodwen_fcs(runs[PACKET], 3));
+    CHECK(SLAVE_REPLY(0xFFFFFFF9, 7, LOGODWEN_BC_WHOLE, 0) == ask(23, 2) && runs[STATE][LOGODWEN_AT_TALLY] == 6);
+    CHECK(POLL(0x34) == (uint64_t)LOGODWEN_WAITING << 8);
+    uint64_t answered = POLL(0x35);
+    CHECK(answered == with_words(10) && logodwen_words(answered) == 10 && logodwen_bc(answered) == 3);
+    static const uint16_t words[9] = {0x0001, 0x1005, 0x0003, 0xAAAA, 0x0001, 0x81A7, 0x0001, 0x2817, 0x0300};
+    for (size_t i = 0; i < 9; i++)
+        CHECK(reply_word(i) == words[i]);
+    CHECK(reply_word(9) == logodwen_fcs(runs[REPLY], 9));
+    CHECK(POLL(0x36) == LOGODWEN_NOT_ASKED);
+}
+
+static void test_slave_length(void) {
+    lend_with(0x20);
+    lengths[PACKET] = LOGODWEN_SLAVE_REPLY_BYTES + 3;
+    CHECK(SLAVE_REPLY(1000, 5, LOGODWEN_BC_WHOLE, 0) == LOGODWEN_BAD_MEMORY);
+    lengths[PACKET] = LOGODWEN_SLAVE_REPLY_BYTES + 1;
+    CHECK(SLAVE_REPLY(1000, 5, LOGODWEN_BC_WHOLE, 0) == zero_length(LOGODWEN_BC_ABORT));
+    lend_with(0x20);
+    lengths[PACKET] = LOGODWEN_REPLY_BYTES + 1;
+    CHECK(SLAVE_REPLY(1000, 5, 0x101, 0) == ((uint64_t)LOGODWEN_REPLY << 8 | 1u << 16 | (uint64_t)LOGODWEN_REPLY_WORDS << 32));
+    CHECK(memcmp(runs[REPLY], runs[PACKET], LOGODWEN_REPLY_BYTES) == 0);
+    lend_with(0x20);
+    lengths[PACKET] = 2;
+    CHECK(SLAVE_REPLY(1000, 5, LOGODWEN_BC_WHOLE, 0x100) == zero_length(LOGODWEN_BC_ERROR)
+          && state_word(LOGODWEN_AT_AMSWIRE_ERRORS) == 1);
+}
+
+static void test_texts(void) {
+    CHECK(strcmp(logodwen_reply_text(zero_length(0)), "NEXT") == 0 && strcmp(logodwen_reply_text(zero_length(1)), "ERROR") == 0);
+    CHECK(strcmp(logodwen_reply_text(zero_length(2)), "ABORT") == 0 && strcmp(logodwen_reply_text(zero_length(3)), "END") == 0);
+    CHECK(strcmp(logodwen_reply_text(with_words(1)), "DATA") == 0 && strcmp(logodwen_reply_text(5), "not a reply") == 0);
+    for (unsigned refusal = 1; refusal <= 7; refusal++)
+        CHECK((unsigned)(logodwen_refusal_text(refusal)[0] - '0') == refusal);
+    CHECK(strcmp(logodwen_refusal_text(0), "done") == 0 && strcmp(logodwen_refusal_text(8), "not a refusal") == 0);
+    CHECK(logodwen_slave(ask(23, 2)) == 23 && logodwen_from(ask(23, 2)) == 2 && logodwen_answer(ask(23, 2)) == LOGODWEN_ASK);
+    static const uint8_t text[8] = {0x32, 0x31, 0x34, 0x33, 0x36, 0x35, 0x38, 0x37};
+    CHECK(logodwen_fcs(text, 4) == 0xA12B && logodwen_fcs(NULL, 0) == 0xFFFF);
+}
+
+int main(void) {
+    test_start();
+    test_start_refusals();
+    test_order();
+    test_each_refusal();
+    test_state_length();
+    test_state_bytes();
+    test_odd_lengths();
+    test_null();
+    test_alignment();
+    test_group();
+    test_slave_length();
+    test_texts();
+    for (int run = 0; run < RUNS; run++) {
+        free(blocks[run]);
+        free(copies[run]);
+    }
+    printf("border: %d checks, %d failed\n", checks, failures);
+    return failures == 0 ? 0 : 1;
+}

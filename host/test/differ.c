@@ -1,0 +1,589 @@
+/* differ SEED COUNT: drives the library and the model over the same calls, and compares what they answer and every byte that they
+   leave. It says which call differs, and in what, or how many calls of each kind agreed. */
+#include "../../include/logodwen.h"
+#include "../model/model.h"
+
+#include <inttypes.h>
+#include <stdio.h>
+#include <stdlib.h>
+#include <string.h>
+
+/* Chance: numbers that follow from the seed alone. */
+
+static uint64_t chance;
+
+static uint32_t any(void) {
+    chance += 0x9E3779B97F4A7C15u;
+    uint64_t z = chance;
+    z = (z ^ z >> 30) * 0xBF58476D1CE4E5B9u;
+    z = (z ^ z >> 27) * 0x94D049BB133111EBu;
+    return (uint32_t)(z >> 32 ^ z >> 3);
+}
+
+static uint32_t below(uint32_t n) { return any() % n; }
+static bool one_in(uint32_t n) { return below(n) == 0; }
+
+/* A number of any size. (Two numbers by chance never stand in one expression that C may work out in either order.) */
+static uint32_t wild(void) {
+    uint32_t value = any();
+    return value >> below(32);
+}
+
+/* What is lent, twice: to the library and to the model. Guard bytes stand behind each run. */
+
+enum { STATE_RUN, FLASH_RUN, PM_RUN, DM_RUN, IO_RUN, REPLY_RUN, RUNS };
+enum { GUARD = 16 };
+static const char *const run_names[RUNS] = {"state", "flash", "pm", "dm", "io", "reply"};
+static const size_t room[RUNS] = {LOGODWEN_STATE_BYTES + 8, LOGODWEN_FLASH_BYTES + 8, LOGODWEN_PM_BYTES + 8,
+                                  LOGODWEN_DM_BYTES + 8,    LOGODWEN_IO_BYTES + 8,    LOGODWEN_REPLY_BYTES + 8};
+static uint8_t *library[RUNS], *model[RUNS]; /* two worlds */
+static size_t lent_bytes[RUNS];
+
+static const size_t usual_bytes[RUNS] = {LOGODWEN_STATE_BYTES, LOGODWEN_FLASH_BYTES, 0, 0, 0, LOGODWEN_REPLY_BYTES};
+
+/* Where a length of 0 is lent, sometimes as NULL. */
+static uint8_t *lend(uint8_t *const *world, int run) { return lent_bytes[run] == 0 ? NULL : world[run]; }
+
+static void put_both(int run, size_t at, uint8_t byte) { library[run][at] = model[run][at] = byte; }
+
+static void put_state_long(size_t at, uint32_t value) {
+    for (int i = 0; i < 4; i++)
+        put_both(STATE_RUN, at + (size_t)i, (uint8_t)(value >> 8 * i));
+}
+
+/* The call now being made, for what is said of a difference. */
+
+static uint64_t seed;
+static unsigned long calls;
+static char call_text[256];
+static uint64_t answered;              /* the last one */
+static unsigned long tallies[5][8][4]; /* by call, by refusal, by answer */
+static unsigned long commands[256][3]; /* own commands answered with words, END, ABORT */
+
+static void differs(const char *what, size_t at, uint64_t by_library, uint64_t by_model) {
+    printf("differ: seed %" PRIu64 ", call %lu: %s: %s", seed, calls, call_text, what);
+    if (at != SIZE_MAX)
+        printf(" byte %zu", at);
+    printf(" is %" PRIx64 " by the library, %" PRIx64 " by the model\n", by_library, by_model);
+    exit(1);
+}
+
+static void compare_run(int run) {
+    size_t bytes = room[run] + GUARD;
+    if (memcmp(library[run], model[run], bytes) == 0)
+        return;
+    for (size_t at = 0; at < bytes; at++)
+        if (library[run][at] != model[run][at])
+            differs(run_names[run], at, library[run][at], model[run][at]);
+}
+
+static void compare(int call, uint64_t by_library, uint64_t by_model, const int *runs) {
+    calls++;
+    if (by_library != by_model)
+        differs("the number answered", SIZE_MAX, by_library, by_model);
+    for (; *runs >= 0; runs++)
+        compare_run(*runs);
+    answered = by_model;
+    tallies[call][logodwen_refusal(by_model) & 7][logodwen_answer(by_model) & 3]++;
+}
+
+static const int start_runs[] = {STATE_RUN, -1}, slave_runs[] = {STATE_RUN, REPLY_RUN, -1},
+                 erase_runs[] = {STATE_RUN, FLASH_RUN, -1},
+                 all_runs[] = {STATE_RUN, FLASH_RUN, PM_RUN, DM_RUN, IO_RUN, REPLY_RUN, -1};
+
+/* Calls. */
+
+static uint32_t now;
+static uint8_t packet[2 * 70000]; /* of the call now made */
+static size_t packet_bytes;
+
+static uint32_t call_start(uint32_t kind, uint32_t ports, uint32_t subdetector) {
+    uint16_t first = (uint16_t)any(), second = (uint16_t)any(), tests = (uint16_t)(one_in(2) ? 0 : any());
+    snprintf(call_text, sizeof call_text, "start(kind %u, ports %u, sub-detector %u, tests %04x, flash %zu bytes, state %zu)", kind,
+             ports, subdetector, tests, lent_bytes[FLASH_RUN], lent_bytes[STATE_RUN]);
+    uint32_t a = logodwen_start(kind, ports, subdetector, first, second, tests, now, lend(library, FLASH_RUN),
+                                lent_bytes[FLASH_RUN], lend(library, STATE_RUN), lent_bytes[STATE_RUN]);
+    uint32_t b = model_start(kind, ports, subdetector, first, second, tests, now, lend(model, FLASH_RUN), lent_bytes[FLASH_RUN],
+                             lend(model, STATE_RUN), lent_bytes[STATE_RUN]);
+    compare(0, a, b, start_runs);
+    return b;
+}
+
+static uint64_t call_request(uint32_t link, uint32_t bc, uint32_t receive_error) {
+    snprintf(
+        call_text, sizeof call_text,
+        "request(now %08x, link %u, bc %u, error %x, packet %zu bytes from %02x%02x, flash %zu, pm %zu, dm %zu, io %zu, reply %zu)",
+        now, link, bc, receive_error, packet_bytes, packet[1], packet[0], lent_bytes[FLASH_RUN], lent_bytes[PM_RUN],
+        lent_bytes[DM_RUN], lent_bytes[IO_RUN], lent_bytes[REPLY_RUN]);
+    const uint8_t *words = packet_bytes == 0 ? NULL : packet;
+    uint64_t a = logodwen_request(now, link, bc, receive_error, words, packet_bytes, lend(library, STATE_RUN),
+                                  lent_bytes[STATE_RUN], lend(library, FLASH_RUN), lent_bytes[FLASH_RUN], lend(library, PM_RUN),
+                                  lent_bytes[PM_RUN], lend(library, DM_RUN), lent_bytes[DM_RUN], lend(library, IO_RUN),
+                                  lent_bytes[IO_RUN], lend(library, REPLY_RUN), lent_bytes[REPLY_RUN]);
+    uint64_t b =
+        model_request(now, link, bc, receive_error, words, packet_bytes, lend(model, STATE_RUN), lent_bytes[STATE_RUN],
+                      lend(model, FLASH_RUN), lent_bytes[FLASH_RUN], lend(model, PM_RUN), lent_bytes[PM_RUN], lend(model, DM_RUN),
+                      lent_bytes[DM_RUN], lend(model, IO_RUN), lent_bytes[IO_RUN], lend(model, REPLY_RUN), lent_bytes[REPLY_RUN]);
+    compare(1, a, b, all_runs);
+    if (packet_bytes >= 2 && packet[0] == 0x2E && logodwen_refusal(b) == 0 && logodwen_bc(b) != LOGODWEN_BC_ERROR)
+        commands[packet[1]][logodwen_words(b) != 0 ? 0 : logodwen_bc(b) == LOGODWEN_BC_END ? 1 : 2]++;
+    return b;
+}
+
+static uint64_t call_reply(uint32_t slave, uint32_t bc, uint32_t receive_error) {
+    uint16_t status = (uint16_t)any(), address = (uint16_t)any();
+    snprintf(call_text, sizeof call_text, "reply(now %08x, slave %u, bc %u, error %x, packet %zu bytes, state %zu, reply %zu)", now,
+             slave, bc, receive_error, packet_bytes, lent_bytes[STATE_RUN], lent_bytes[REPLY_RUN]);
+    const uint8_t *words = packet_bytes == 0 ? NULL : packet;
+    uint64_t a = logodwen_reply(now, slave, bc, receive_error, status, address, words, packet_bytes, lend(library, STATE_RUN),
+                                lent_bytes[STATE_RUN], lend(library, REPLY_RUN), lent_bytes[REPLY_RUN]);
+    uint64_t b = model_reply(now, slave, bc, receive_error, status, address, words, packet_bytes, lend(model, STATE_RUN),
+                             lent_bytes[STATE_RUN], lend(model, REPLY_RUN), lent_bytes[REPLY_RUN]);
+    compare(2, a, b, slave_runs);
+    return b;
+}
+
+static uint64_t call_poll(void) {
+    snprintf(call_text, sizeof call_text, "poll(now %08x, state %zu, reply %zu)", now, lent_bytes[STATE_RUN],
+             lent_bytes[REPLY_RUN]);
+    uint64_t a =
+        logodwen_poll(now, lend(library, STATE_RUN), lent_bytes[STATE_RUN], lend(library, REPLY_RUN), lent_bytes[REPLY_RUN]);
+    uint64_t b = model_poll(now, lend(model, STATE_RUN), lent_bytes[STATE_RUN], lend(model, REPLY_RUN), lent_bytes[REPLY_RUN]);
+    compare(3, a, b, slave_runs);
+    return b;
+}
+
+static uint64_t call_erase(uint64_t budget) {
+    snprintf(call_text, sizeof call_text, "erase(budget %" PRIu64 ", state %zu, flash %zu)", budget, lent_bytes[STATE_RUN],
+             lent_bytes[FLASH_RUN]);
+    uint64_t a =
+        logodwen_erase(budget, lend(library, STATE_RUN), lent_bytes[STATE_RUN], lend(library, FLASH_RUN), lent_bytes[FLASH_RUN]);
+    uint64_t b = model_erase(budget, lend(model, STATE_RUN), lent_bytes[STATE_RUN], lend(model, FLASH_RUN), lent_bytes[FLASH_RUN]);
+    compare(4, a, b, erase_runs);
+    return b;
+}
+
+/* Packets. */
+
+static void word(unsigned value) {
+    logodwen_put(packet, packet_bytes / 2, (uint16_t)value);
+    packet_bytes += 2;
+}
+
+static void own(unsigned id) {
+    packet_bytes = 0;
+    word(id << 8 | 0x2E);
+}
+
+static void seal(size_t from) { word(logodwen_fcs(packet + 2 * from, packet_bytes / 2 - from)); }
+
+/* A name that the directory has, mostly; else any. */
+static unsigned some_name(void) {
+    if (one_in(4))
+        return below(256);
+    return logodwen_get(model[STATE_RUN] + LOGODWEN_AT_DIRECTORY, 4 * below(8)) >> 4 & 0xFF;
+}
+
+static unsigned lent_count(int run, unsigned least) {
+    size_t words = lent_bytes[run] / (run == PM_RUN ? 4 : 2);
+    return words < least ? least : (unsigned)words;
+}
+
+/* A segment of the memory by its two bits, `count` memory words besides the FCS; its run is mostly inside what is lent. */
+static void put_segment(unsigned bits, unsigned count) {
+    unsigned most = lent_count(bits == 0 ? PM_RUN : bits == 1 ? DM_RUN : IO_RUN, 1);
+    unsigned address = one_in(12) ? below(0x4000) : below(most) % 0x2000;
+    if (bits == 1 && !one_in(10))
+        address = (address + 0x2000) % 0x4000; /* fixed memory stands there */
+    static const unsigned pages[] = {0, 2, 3, 0, 2, 3, 0, 1};
+    if (bits == 0)
+        count |= 1;
+    if (bits >= 2)
+        count += count % 2;
+    word(bits << 14 | (count + 1));
+    word(pages[below(8)] << 14 | address);
+    size_t body = packet_bytes / 2, size = bits == 0 ? (3 * count + 1) / 2 : count;
+    for (size_t i = 0; i < size; i++) {
+        uint32_t value = any();
+        word(bits >= 2 && i % 2 == 0 && !one_in(30) ? (value & 1) << 12 | (value >> 1) % most : value & 0xFFFF);
+    }
+    if (bits == 0)
+        packet[packet_bytes - 2] = 0; /* the zero byte */
+    seal(body);
+}
+
+static void put_file(unsigned name) {
+    unsigned segments = one_in(40) ? 14 : 1 + below(3), most = one_in(6) ? 1500 : 12;
+    static const unsigned attributes[] = {3, 3, 3, 2, 1, 0};
+    uint32_t type = below(2);
+    word(type << 14 | attributes[below(6)] << 12 | name << 4 | segments);
+    for (unsigned i = 0; i < segments; i++)
+        put_segment(below(4), 1 + below(segments > 3 ? 100 : most));
+}
+
+static void flip(uint8_t *bytes, size_t count) {
+    uint8_t *byte = bytes + below((uint32_t)count);
+    *byte ^= (uint8_t)(1 << below(8));
+}
+
+/* One of the ways in which a packet goes wrong. */
+static void damage(void) {
+    if (packet_bytes < 4)
+        return;
+    switch (below(6)) {
+    case 0: flip(packet + 2, packet_bytes - 2); break;
+    case 1: packet_bytes -= 2; break;
+    case 2: packet_bytes = below((uint32_t)packet_bytes); break;
+    case 3: word(any() & 0xFFFF); break;
+    case 4: flip(packet + packet_bytes - 1, 1); break;
+    default: packet[packet_bytes++] = (uint8_t)any(); break; /* an unfinished last word */
+    }
+}
+
+static const unsigned addresses[] = {0x200, 0x400, 0x800, 0xC00, 0x1000, 0x1400, 0x1800, 0x1C00, 0, 0x600, 0x2000, 0x300};
+
+/* A read header of some memory. */
+static void put_header(unsigned bits) {
+    unsigned most = lent_count(bits == 0 ? PM_RUN : DM_RUN, 4);
+    unsigned length = 2 + below(one_in(8) ? 0x3FFE : most < 60 ? most : 60);
+    unsigned address = one_in(6) ? below(0x4000) : below(most) / 2;
+    if (bits == 0 && !one_in(8))
+        length &= ~1u;
+    word((one_in(20) ? below(4) : bits) << 14 | length);
+    word((one_in(8) ? below(4) : 0) << 14 | ((address + (bits == 1 ? 0x2000 : 0)) & 0x3FFF));
+}
+
+/* A parameter that names a file. */
+static void put_name(void) {
+    unsigned name = some_name();
+    word(name << 4 | (any() & 0xF00F));
+}
+
+static void own_command(void) {
+    static const unsigned ids[] = {0x0C, 0x0D, 0x05, 0x05, 0x45, 0x45, 0x45, 0x06, 0x46, 0x46, 0x07, 0x47,
+                                   0x48, 0x48, 0x0F, 0x10, 0x50, 0x11, 0x51, 0x12, 0x52, 0x17, 0x57, 0x57};
+    unsigned id = one_in(50) ? below(256) : ids[below(sizeof ids / sizeof *ids)];
+    own(id);
+    switch (id) {
+    case 0x0D:
+        for (unsigned left = one_in(30) ? 7990 + below(20) : below(20); left > 0; left--)
+            word(any() & 0xFFFF);
+        break;
+    case 0x05:
+    case 0x06:
+    case 0x46: put_name(); break;
+    case 0x45: put_file(one_in(8) ? some_name() : below(256)); break;
+    case 0x47:
+        if (one_in(2))
+            word(addresses[below(12)]);
+        else
+            put_name();
+        break;
+    case 0x48:
+        put_name();
+        word(one_in(10) ? any() & 0xFFFF : below(2));
+        break;
+    case 0x0F: put_segment(2 + below(2), 1 + below(20)); break;
+    case 0x50: put_segment(0, 1 + below(20)); break;
+    case 0x51: put_segment(1, 1 + below(20)); break;
+    case 0x10: put_header(0); break;
+    case 0x11: put_header(1); break;
+    case 0x52: word(one_in(6) ? any() & 0xFFFF : below(4)); break;
+    case 0x57:
+        word(below(one_in(20) ? 0x2000 : 0x1000));
+        word(one_in(3) ? 1u << below(16) : any() & 0xFFFF);
+        break;
+    default: break;
+    }
+}
+
+static void forwarded_request(void) {
+    static const unsigned ports[] = {0x04, 0x05, 0x3F, 0x04, 0x05, 0x3F, 0x00};
+    unsigned first;
+    packet_bytes = 0;
+    switch (below(4)) {
+    case 0:
+        first = ports[below(7)] << 8;
+        word(first | below(25));
+        break;
+    case 1: word(below(18) << 8 | 0x40); break;
+    case 2:
+        word((one_in(2) ? 1u << below(8) : below(256)) << 8 | 0x23);
+        word(one_in(2) ? 1u << below(16) : one_in(2) ? 0 : any() & 0xFFFF);
+        break;
+    default: word(below(256) << 8 | 0x2A); break;
+    }
+    for (unsigned left = below(4); left > 0; left--)
+        word(any() & 0xFFFF);
+}
+
+static void any_packet(void) {
+    packet_bytes = 0;
+    uint32_t bytes = one_in(40) ? 16380 + below(10) : below(12);
+    for (uint32_t i = 0; i < bytes; i++)
+        packet[packet_bytes++] = (uint8_t)any();
+    if (bytes > 0 && one_in(2)) {
+        static const uint8_t firsts[] = {0x2E, 0x2A, 0x40, 0x23, 0x17, 0x18, 0x00};
+        packet[0] = firsts[below(7)];
+    }
+}
+
+/* Steps. */
+
+static unsigned pending(void) { return model[STATE_RUN][LOGODWEN_AT_PENDING]; }
+
+static void step_request(void) {
+    uint32_t ports = model[STATE_RUN][LOGODWEN_AT_PORTS], link = one_in(25) ? wild() : below(ports == 0 ? 1 : ports);
+    if (one_in(6))
+        forwarded_request();
+    else if (one_in(20))
+        any_packet();
+    else
+        own_command();
+    if (one_in(12))
+        damage();
+    if (one_in(50))
+        packet_bytes = 0;
+    if (pending() != 0 && one_in(2)) {
+        packet_bytes = below(2);
+        link = one_in(3) ? link : model[STATE_RUN][LOGODWEN_AT_LINK];
+    }
+    uint32_t bc = packet_bytes < 2 && one_in(2) ? (one_in(8) ? 6 : 2) : one_in(30) ? wild() : 3;
+    call_request(link, bc, one_in(30) ? wild() : 0);
+}
+
+/* What a slave says: nothing, or words that end with their FCS. */
+static void slave_words(void) {
+    packet_bytes = 0;
+    if (one_in(3))
+        return;
+    unsigned count = one_in(30) ? 12270 + below(30) : one_in(100) ? 32760 + below(10) : one_in(4) ? below(600) : below(12);
+    for (unsigned i = 0; i < count; i++)
+        word(any() & 0xFFFF);
+    seal(0);
+    if (one_in(8))
+        damage();
+}
+
+static void step_reply(void) {
+    slave_words();
+    uint32_t slave = one_in(25) ? wild() : model[STATE_RUN][LOGODWEN_AT_SLAVE];
+    uint32_t bc = one_in(4) ? wild() : 3;
+    call_reply(slave, bc, one_in(20) ? wild() : 0);
+}
+
+static void step_slave(void) {
+    if (one_in(6))
+        now += one_in(2) ? 58 + below(4) : wild();
+    if (one_in(3))
+        call_poll();
+    else
+        step_reply();
+}
+
+/* The same 0-length reply of each slave of a group. */
+static void step_all_alike(void) {
+    uint32_t bc = below(4);
+    for (int turn = 0; turn < 24 && pending() == 2 && calls % 1000 != 999; turn++) {
+        packet_bytes = 0;
+        call_reply(model[STATE_RUN][LOGODWEN_AT_SLAVE], bc, 0);
+    }
+}
+
+static void step_erase(void) {
+    static const uint64_t budgets[] = {0,         1, 7, 100, 1000, 2048, 4096, 1u << 31, (uint64_t)1 << 32, ((uint64_t)1 << 32) + 1,
+                                       UINT64_MAX};
+    call_erase(one_in(2) ? budgets[below(11)] : below(3000));
+}
+
+static void start(uint32_t kind) {
+    uint32_t ports = 1 + below(4);
+    call_start(kind, ports, below(8));
+}
+
+static void step_start(void) {
+    if (!one_in(10)) {
+        start(1 + below(2));
+        return;
+    }
+    uint32_t kind = wild(), ports = wild();
+    call_start(kind, ports, wild());
+}
+
+/* One byte of a stretch of the state, below a number. */
+static void put_any(size_t from, uint32_t count, uint32_t most) {
+    size_t at = from + below(count);
+    put_both(STATE_RUN, at, (uint8_t)below(most));
+}
+
+/* A state that no start leads to: one field, within its range or not; or any byte. */
+static void step_state(void) {
+    uint8_t before[LOGODWEN_STATE_BYTES];
+    memcpy(before, model[STATE_RUN], sizeof before);
+    uint32_t set = one_in(4) ? any() : any() & 0xFFFFFF;
+    switch (below(10)) {
+    case 0: put_any(0, LOGODWEN_STATE_BYTES, 256); break;
+    case 1: put_any(0, 4, 10); break;
+    case 2: put_state_long(LOGODWEN_AT_AMSWIRE_ERRORS, one_in(2) ? 0xFFFEFFFE : any()); break;
+    case 3:
+        put_both(STATE_RUN, LOGODWEN_AT_ERASING, (uint8_t)below(12));
+        put_state_long(LOGODWEN_AT_ERASED, one_in(3) ? 2046 + below(4) : one_in(2) ? 4094 + below(4) : wild());
+        break;
+    case 4: put_state_long(LOGODWEN_AT_FLASH_WORDS, one_in(2) ? 262144 : wild()); break;
+    case 5: put_state_long(LOGODWEN_AT_MASKS + 4 * below(16), set); break;
+    case 6: put_any(LOGODWEN_AT_DIRECTORY, 64, 256); break;
+    case 7: put_any(LOGODWEN_AT_START_TESTS, 2, 256); break;
+    default:
+        put_both(STATE_RUN, LOGODWEN_AT_PENDING, (uint8_t)(1 + below(2)));
+        put_both(STATE_RUN, LOGODWEN_AT_LINK, (uint8_t)below(4));
+        put_both(STATE_RUN, LOGODWEN_AT_SLAVE, (uint8_t)below(one_in(10) ? 40 : 24));
+        put_state_long(LOGODWEN_AT_ASKED_AT, one_in(3) ? any() : now);
+        bool group = model[STATE_RUN][LOGODWEN_AT_PENDING] == 2;
+        put_both(STATE_RUN, LOGODWEN_AT_FROM, (uint8_t)(group ? 1 + below(one_in(10) ? 255 : 2) : 0));
+        put_both(STATE_RUN, LOGODWEN_AT_TALLY, (uint8_t)(group ? below(one_in(10) ? 10 : 7) : 0));
+        put_state_long(LOGODWEN_AT_ASKED, group ? set | (one_in(10) ? 0 : 1u << model[STATE_RUN][LOGODWEN_AT_SLAVE] % 24) : 0);
+        put_state_long(LOGODWEN_AT_BUILT, !group ? 0 : one_in(3) ? 12160 + below(130) : one_in(10) ? any() : below(12000));
+        break;
+    }
+    for (int turn = 0; turn < 3; turn++) {
+        int kind = (int)below(5);
+        if (kind == 0)
+            step_request();
+        else if (kind == 1)
+            step_slave();
+        else if (kind == 2)
+            call_poll();
+        else if (kind == 3)
+            step_erase();
+        else
+            step_all_alike();
+    }
+    if (!one_in(6)) /* back to where it was, mostly */
+        for (size_t at = 0; at < sizeof before; at++)
+            put_both(STATE_RUN, at, before[at]);
+}
+
+/* Other lengths for one call. */
+static void step_lengths(void) {
+    size_t before[RUNS];
+    memcpy(before, lent_bytes, sizeof before);
+    for (unsigned turn = 1 + below(2); turn > 0; turn--) {
+        int run = (int)below(RUNS);
+        static const size_t most[RUNS] = {LOGODWEN_STATE_BYTES, LOGODWEN_FLASH_BYTES, LOGODWEN_PM_BYTES,
+                                          LOGODWEN_DM_BYTES,    LOGODWEN_IO_BYTES,    LOGODWEN_REPLY_BYTES};
+        lent_bytes[run] = one_in(5) ? 0 : one_in(4) ? below((uint32_t)room[run]) : most[run] - 4 + below(9);
+    }
+    int kind = (int)below(6);
+    if (kind == 0)
+        step_start();
+    else if (kind == 1)
+        call_poll();
+    else if (kind == 2)
+        step_reply();
+    else if (kind == 3)
+        step_erase();
+    else
+        step_request();
+    memcpy(lent_bytes, before, sizeof before);
+}
+
+/* Flash words that no call stored, with a new start or without. */
+static void step_flash(void) {
+    size_t at = one_in(4) ? below(LOGODWEN_FLASH_BYTES) : 4096 * (1 + below(15));
+    at += at + 24 < LOGODWEN_FLASH_BYTES ? below(24) : 0;
+    put_both(FLASH_RUN, at, one_in(3) ? 0xFF : model[FLASH_RUN][at] ^ (uint8_t)(1 << below(8)));
+    if (!one_in(3))
+        start(1 + below(2));
+}
+
+static void step(void) {
+    if (one_in(4))
+        now += below(3);
+    unsigned erasing = model[STATE_RUN][LOGODWEN_AT_ERASING];
+    if (logodwen_refusal(answered) == LOGODWEN_BAD_STATE && one_in(3))
+        step_start();
+    else if (pending() != 0 && below(10) < 8)
+        one_in(12) ? step_all_alike() : step_slave();
+    else if (erasing != 0 && one_in(3))
+        step_erase();
+    else if (one_in(40))
+        step_flash();
+    else if (one_in(25))
+        step_state();
+    else if (one_in(25))
+        step_lengths();
+    else if (one_in(60))
+        one_in(2) ? (void)call_poll() : step_erase();
+    else if (one_in(100))
+        step_start();
+    else
+        step_request();
+}
+
+/* A fresh node on a flash that is blank or left from before, with other memories. */
+static void fresh(void) {
+    memcpy(lent_bytes, usual_bytes, sizeof lent_bytes);
+    bool large = one_in(8);
+    lent_bytes[PM_RUN] = below(large ? LOGODWEN_PM_BYTES + 3 : 400);
+    lent_bytes[DM_RUN] = below(large ? LOGODWEN_DM_BYTES + 1 : 400);
+    lent_bytes[IO_RUN] = below(large ? LOGODWEN_IO_BYTES + 1 : 400);
+    lent_bytes[REPLY_RUN] += below(4);
+    lent_bytes[FLASH_RUN] += below(2);
+    if (one_in(2)) {
+        memset(library[FLASH_RUN], 0xFF, LOGODWEN_FLASH_BYTES);
+        memset(model[FLASH_RUN], 0xFF, LOGODWEN_FLASH_BYTES);
+    }
+    now = one_in(2) ? 0xFFFFFFFFu - below(300) : any();
+    start(one_in(4) ? LOGODWEN_CDP : LOGODWEN_CDDC);
+}
+
+static void make_worlds(void) {
+    for (int run = 0; run < RUNS; run++) {
+        library[run] = malloc(room[run] + GUARD);
+        model[run] = malloc(room[run] + GUARD);
+        if (library[run] == NULL || model[run] == NULL)
+            exit(2);
+        for (size_t at = 0; at < room[run] + GUARD; at++)
+            put_both(run, at, run == STATE_RUN ? 0 : (uint8_t)any());
+    }
+}
+
+static void print_tallies(void) {
+    static const char *const names[] = {"start", "request", "reply", "poll", "erase"};
+    for (int call = 0; call < 5; call++) {
+        printf("  %-8s", names[call]);
+        if (call == 0 || call == 4)
+            printf(" done %lu", tallies[call][0][0]);
+        else
+            printf(" reply %lu, ask %lu, waiting %lu", tallies[call][0][1], tallies[call][0][2], tallies[call][0][3]);
+        for (int refusal = 1; refusal < 8; refusal++)
+            if (tallies[call][refusal][0] != 0)
+                printf(", refused by %d %lu", refusal, tallies[call][refusal][0]);
+        printf("\n");
+    }
+    for (int id = 0; id < 256; id++)
+        if (commands[id][0] != 0 || commands[id][1] != 0)
+            printf("  command %02X: words %lu, END %lu, ABORT %lu\n", (unsigned)id, commands[id][0], commands[id][1],
+                   commands[id][2]);
+}
+
+int main(int count, char **arguments) {
+    if (count != 3) {
+        fprintf(stderr, "differ SEED COUNT: two numbers\n");
+        return 2;
+    }
+    seed = strtoull(arguments[1], NULL, 10);
+    unsigned long wanted = strtoul(arguments[2], NULL, 10);
+    chance = seed * 0xD1342543DE82EF95u + 1;
+    make_worlds();
+    while (calls < wanted) {
+        fresh();
+        for (unsigned long until = calls + 50 + below(250); calls < until && calls < wanted;)
+            step();
+        for (const int *run = all_runs; *run >= 0; run++)
+            compare_run(*run);
+    }
+    printf("differ: seed %" PRIu64 ": %lu calls, no difference between the library and the model\n", seed, calls);
+    print_tallies();
+    return 0;
+}
