@@ -89,7 +89,7 @@ fits n ok t =
     let p = progress-small (n .given .«flash_words») (n .erasing) (g .size) (r .erasing) in
     let w = wait-small (n .given .ports) (n .pending) (g .ports) (r .pending) in
     let m = leb-true (n .mode) 3 (r .mode) in
-    (omega (arith, g .kind), omega (arith, g .ports), omega (arith, g .subdetector), omega (arith, m), omega (arith, t .program), omega (arith, t .version), omega (arith, t .tests), omega (arith, t .amswire), omega (arith, t .flash), omega (arith, p .0), omega (arith, w .pending), omega (arith, t .clock), omega (arith, g .size), omega (arith, p .1), omega (arith, w .link), omega (arith, w .slave), omega (arith, w .from), omega (arith, w .tally), omega (arith, w .set), omega (arith, t .asked), omega (arith, w .words), tt)
+    (omega (arith, g .kind), (omega (arith, g .ports), (omega (arith, g .subdetector), (omega (arith, m), (omega (arith, t .program), (omega (arith, t .version), (omega (arith, t .tests), (omega (arith, t .amswire), (omega (arith, t .flash), (omega (arith, p .0), (omega (arith, w .pending), (omega (arith, t .clock), (omega (arith, g .size), (omega (arith, p .1), (omega (arith, w .link), (omega (arith, w .slave), (omega (arith, w .from), (omega (arith, w .tally), (omega (arith, w .set), (omega (arith, t .asked), (omega (arith, w .words), tt)))))))))))))))))))))
 
 node-back : (n : Node) → stateOk n ≡ true → Typed n → nodeIn (encodeOf n) ≡ n
 unfolding encodeOf
