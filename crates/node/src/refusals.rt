@@ -10,6 +10,7 @@ use crate::valid::ports_ok;
 use crate::valid::size_ok;
 use crate::valid::state_ok;
 
+// Whether a request is pending.
 pub fn is_pending(pending: Pending) -> bool
     ensures { λ r. ⌜ r ≡ isPending pending ⌝ }
 {
@@ -20,6 +21,7 @@ pub fn is_pending(pending: Pending) -> bool
     }
 }
 
+// Whether a slave is now being asked.
 pub fn is_asked(pending: Pending, slave: u32) -> bool
     ensures { λ r. ⌜ r ≡ isAsked pending slave ⌝ }
 {
