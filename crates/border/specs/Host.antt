@@ -1,0 +1,88 @@
+-- A host in C, as it keeps a node: 172 state bytes and the flash's bytes, lent to entry after entry. What an entry is given, what the
+-- C types say of it, the bytes that it leaves, and all bytes that a host can come to have. 01 'Covered' and 'Call refusals'. Assumes
+-- nothing.
+use Prim.Native.Nat.{ℕ, _%_, _<_}
+use mathlib.Core.Path.{_≡_}
+use mathlib.Core.Bool.{Bool, false}
+use mathlib.Core.List.{List}
+use lib.Dec.{eqb}
+use Rattle.base.specs.Words.{Below}
+use Rattle.memory.specs.Segment.{Memories}
+use Rattle.node.specs.Effect.{lent}
+use Rattle.logodwen.specs.Entry.{Answered, startEntry, requestEntry, replyEntry, pollEntry, eraseEntry}
+
+-- An entry, with all that it is given and lent but the state bytes and the flash bytes. Packets, memories and reply buffers are bytes.
+pub data Entry : Type 0 where
+  Start : (kind ports subdetector program version tests clock : ℕ) → Entry
+  Request : (clock link bc errors : ℕ) (packet : List ℕ) (m : Memories) (reply : List ℕ) → Entry
+  Reply : (clock slave bc errors status address : ℕ) (packet reply : List ℕ) → Entry
+  Poll : (clock : ℕ) (reply : List ℕ) → Entry
+  Erase : (budget : ℕ) → Entry
+
+-- The C types: uint8_t, in runs; uint16_t; uint32_t; uint64_t.
+abbrev pub U8s : List ℕ → Type 0
+U8s bytes = Below 256 bytes
+
+abbrev pub U16 : ℕ → Type 0
+U16 x = x < 65536
+
+abbrev pub U32 : ℕ → Type 0
+U32 x = x < 4294967296
+
+abbrev pub U64 : ℕ → Type 0
+U64 x = x < 18446744073709551616
+
+-- What they say of an entry.
+abbrev pub InC : Entry → Type 0
+InC (Entry.Start kind ports subdetector program version tests clock) =
+    U32 kind × U32 ports × U32 subdetector × U16 program × U16 version × U16 tests × U32 clock
+InC (Entry.Request clock link bc errors packet m reply) =
+    U32 clock × U32 link × U32 bc × U32 errors × U8s packet × U8s (m .pm) × U8s (m .dm) × U8s (m .io) × U8s reply
+InC (Entry.Reply clock slave bc errors status address packet reply) =
+    U32 clock × U32 slave × U32 bc × U32 errors × U16 status × U16 address × U8s packet × U8s reply
+InC (Entry.Poll clock reply) = U32 clock × U8s reply
+InC (Entry.Erase budget) = U64 budget
+
+-- What an entry answers and leaves, lent these state bytes and these flash bytes.
+abbrev pub answerOf : Entry → List ℕ → List ℕ → Answered
+answerOf (Entry.Start kind ports subdetector program version tests clock) state flash =
+    startEntry kind ports subdetector program version tests clock flash state
+answerOf (Entry.Request clock link bc errors packet m reply) state flash =
+    requestEntry clock link bc errors packet state (lent flash m reply)
+answerOf (Entry.Reply clock slave bc errors status address packet reply) state flash =
+    replyEntry clock slave bc errors status address packet state reply
+answerOf (Entry.Poll clock reply) state flash = pollEntry clock state reply
+answerOf (Entry.Erase budget) state flash = eraseEntry budget state flash
+
+-- The number that it answers, and the state bytes after it.
+abbrev pub numberAfter : Entry → List ℕ → List ℕ → ℕ
+numberAfter e state flash = answerOf e state flash .number
+
+abbrev pub stateAfter : Entry → List ℕ → List ℕ → List ℕ
+stateAfter e state flash = answerOf e state flash .state
+
+-- The flash bytes after it: start reads them, reply and poll are not lent them.
+abbrev pub flashAfter : Entry → List ℕ → List ℕ → List ℕ
+flashAfter (Entry.Start kind ports subdetector program version tests clock) state flash = flash
+flashAfter (Entry.Request clock link bc errors packet m reply) state flash =
+    answerOf (Entry.Request clock link bc errors packet m reply) state flash .runs .flash
+flashAfter (Entry.Reply clock slave bc errors status address packet reply) state flash = flash
+flashAfter (Entry.Poll clock reply) state flash = flash
+flashAfter (Entry.Erase budget) state flash = answerOf (Entry.Erase budget) state flash .runs .flash
+
+-- Done: the low byte of the number is 0.
+abbrev pub isDone : ℕ → Bool
+isDone number = eqb (number % 256) 0
+
+-- The state bytes and flash bytes that a host can come to have. Clock, packet, memories and reply buffer are fresh at every entry.
+pub data Hosted : List ℕ → List ℕ → Type 0 where
+  -- a start answered 0, on any flash bytes, whatever the state bytes were
+  First : (kind ports subdetector program version tests clock : ℕ) (state flash : List ℕ)
+      → InC (Entry.Start kind ports subdetector program version tests clock) → U8s flash
+      → numberAfter (Entry.Start kind ports subdetector program version tests clock) state flash ≡ 0
+      → Hosted (stateAfter (Entry.Start kind ports subdetector program version tests clock) state flash) flash
+  -- then any entry, lent those, done or refused
+  Then : {state flash : List ℕ} → Hosted state flash → (e : Entry) → InC e → Hosted (stateAfter e state flash) (flashAfter e state flash)
+  -- or an entry that is refused, whatever flash it was lent
+  Refused : {state flash : List ℕ} → Hosted state flash → (e : Entry) (other : List ℕ) → isDone (numberAfter e state other) ≡ false
+      → Hosted (stateAfter e state other) flash
