@@ -9,7 +9,9 @@ use lib.Dec.{eqb}
 use Rattle.base.specs.Words.{Below}
 use Rattle.memory.specs.Segment.{Memories}
 use Rattle.node.specs.Effect.{lent}
-use Rattle.logodwen.specs.Entry.{Answered, startEntry, requestEntry, replyEntry, pollEntry, eraseEntry}
+use Rattle.demands.specs.Machine.{Call}
+use Rattle.logodwen.specs.Bytes.{wordsOf}
+use Rattle.logodwen.specs.Entry.{Answered, memoryWords, replyWords, isSet, startEntry, requestEntry, replyEntry, pollEntry, eraseEntry}
 
 -- An entry, with all that it is given and lent but the state bytes and the flash bytes. Packets, memories and reply buffers are bytes.
 pub data Entry : Type 0 where
@@ -62,13 +64,25 @@ abbrev pub stateAfter : Entry → List ℕ → List ℕ → List ℕ
 stateAfter e state flash = answerOf e state flash .state
 
 -- The flash bytes after it: start reads them, reply and poll are not lent them.
+abbrev pub flashLeft : Entry → Answered → List ℕ → List ℕ
+flashLeft (Entry.Start kind ports subdetector program version tests clock) a flash = flash
+flashLeft (Entry.Request clock link bc errors packet m reply) a flash = a .runs .flash
+flashLeft (Entry.Reply clock slave bc errors status address packet reply) a flash = flash
+flashLeft (Entry.Poll clock reply) a flash = flash
+flashLeft (Entry.Erase budget) a flash = a .runs .flash
+
 abbrev pub flashAfter : Entry → List ℕ → List ℕ → List ℕ
-flashAfter (Entry.Start kind ports subdetector program version tests clock) state flash = flash
-flashAfter (Entry.Request clock link bc errors packet m reply) state flash =
-    answerOf (Entry.Request clock link bc errors packet m reply) state flash .runs .flash
-flashAfter (Entry.Reply clock slave bc errors status address packet reply) state flash = flash
-flashAfter (Entry.Poll clock reply) state flash = flash
-flashAfter (Entry.Erase budget) state flash = answerOf (Entry.Erase budget) state flash .runs .flash
+flashAfter e state flash = flashLeft e (answerOf e state flash) flash
+
+-- The node's call that an entry is: on the words of the bytes that it is lent.
+abbrev pub onWords : Entry → Call
+onWords (Entry.Start kind ports subdetector program version tests clock) = Call.Start kind ports subdetector program version tests clock
+onWords (Entry.Request clock link bc errors packet m reply) =
+    Call.Request clock link bc (isSet errors) (wordsOf 2 packet) (memoryWords m) (replyWords reply)
+onWords (Entry.Reply clock slave bc errors status address packet reply) =
+    Call.Reply clock slave bc (isSet errors) status address (wordsOf 2 packet) (replyWords reply)
+onWords (Entry.Poll clock reply) = Call.Poll clock (replyWords reply)
+onWords (Entry.Erase budget) = Call.Erase budget
 
 -- Done: the low byte of the number is 0.
 abbrev pub isDone : ℕ → Bool

@@ -1,0 +1,200 @@
+-- What an entry comes to: refused, it leaves state and flash bytes; or it is the node's call on the words. Assumes nothing.
+use Prim.Native.Nat.{ℕ, _/_, _%_}
+use native.Mathlib.Omega.{arith}
+use mathlib.Core.Path.{_≡_, refl, sym, ap, _∙_}
+use mathlib.Core.Bool.{Bool, true, false, _||_, not, false≢true}
+use mathlib.Core.List.{List, [], _∷_}
+use lib.ListN.{length}
+use lib.Dec.{ltb, eqb}
+use borrow.Author.Tests.{eq-eqb, eqb-true, not-false}
+use Rattle.base.specs.Words.{Below}
+use Rattle.base.proofs.Pick.{no}
+use Rattle.node.specs.State.{refusalNumber}
+use Rattle.node.specs.Valid.{kindOk, portsOk}
+use Rattle.node.specs.Refusals.{cause}
+use Rattle.node.specs.Effect.{Lent, lent, Outcome, outcome}
+use Rattle.node.specs.Calls.{lentReply, lentFlash, startOf, requestOf, replyOf, pollOf, eraseOf}
+use Rattle.node.specs.declared.Answer.{Answer}
+use Rattle.node.specs.declared.Refusal.{Refusal}
+use Rattle.node.specs.declared.Verdict.{Verdict}
+use Rattle.node.proofs.Verdicts.{fine-tells}
+use Rattle.demands.specs.Machine.{Call, logodwen, turnOf, flashOf, isRefused}
+use Rattle.demands.specs.Reached.{stateAfter as nodeAfter}
+use Rattle.demands.proofs.Sound.{refused-same}
+use Rattle.logodwen.specs.Bytes.{wordsOf, storeWords}
+use Rattle.logodwen.specs.StateBytes.{encodeOf, nodeIn, areState}
+use Rattle.logodwen.specs.Number.{answerNumber}
+use Rattle.logodwen.specs.Causes.{requestCheck, replyCheck, pollCheck, eraseCheck, startCheck}
+use Rattle.logodwen.specs.Entry.{Answered, answered, inBytes, told, entered, replyWords, runWords, isSet, startEntry, requestEntry, replyEntry, pollEntry, eraseEntry}
+use Rattle.logodwen.proofs.Runs.{length-words-of}
+use Rattle.logodwen.proofs.Entering.{start-done}
+use Rattle.logodwen.proofs.ThereAndBack.{encoded-decoded, bytes-kept}
+use Rattle.border.specs.Host.{Entry, answerOf, numberAfter, stateAfter, flashLeft, flashAfter, onWords, isDone}
+
+-- an entry as its definition has it: the verdict, the runs that it is lent, and what the node's call comes to
+
+abbrev pub checkOf : Entry → List ℕ → List ℕ → Verdict
+checkOf (Entry.Start kind ports subdetector program version tests clock) state flash = startCheck kind ports subdetector state (length flash / 2)
+checkOf (Entry.Request clock link bc errors packet m reply) state flash =
+    requestCheck link (length packet / 2) state (length flash / 2) (length (m .pm) / 4) (length (m .dm) / 2) (length (m .io) / 2) (length reply / 2)
+checkOf (Entry.Reply clock slave bc errors status address packet reply) state flash = replyCheck slave (length packet / 2) state (length reply / 2)
+checkOf (Entry.Poll clock reply) state flash = pollCheck state (length reply / 2)
+checkOf (Entry.Erase budget) state flash = eraseCheck state (length flash / 2)
+
+abbrev pub runsOf : Entry → List ℕ → Lent
+runsOf (Entry.Start kind ports subdetector program version tests clock) flash = lentReply []
+runsOf (Entry.Request clock link bc errors packet m reply) flash = lent flash m reply
+runsOf (Entry.Reply clock slave bc errors status address packet reply) flash = lentReply reply
+runsOf (Entry.Poll clock reply) flash = lentReply reply
+runsOf (Entry.Erase budget) flash = lentFlash flash
+
+abbrev pub outcomeOf : Entry → List ℕ → List ℕ → Outcome
+outcomeOf (Entry.Start kind ports subdetector program version tests clock) state flash =
+    outcome (startOf kind ports subdetector program version tests clock (wordsOf 2 flash)) (lentReply [])
+outcomeOf (Entry.Request clock link bc errors packet m reply) state flash =
+    requestOf (nodeIn state) clock link bc (isSet errors) (wordsOf 2 packet) (runWords (lent flash m reply))
+outcomeOf (Entry.Reply clock slave bc errors status address packet reply) state flash =
+    replyOf (nodeIn state) clock slave bc (isSet errors) status address (wordsOf 2 packet) (replyWords reply)
+outcomeOf (Entry.Poll clock reply) state flash = pollOf (nodeIn state) clock (replyWords reply)
+outcomeOf (Entry.Erase budget) state flash = eraseOf (nodeIn state) budget (wordsOf 2 flash)
+
+entry-is : (e : Entry) (state flash : List ℕ) → answerOf e state flash ≡ entered (checkOf e state flash) state (runsOf e flash) (outcomeOf e state flash)
+unfolding startEntry requestEntry replyEntry pollEntry eraseEntry
+entry-is (Entry.Start kind ports subdetector program version tests clock) state flash = refl
+entry-is (Entry.Request clock link bc errors packet m reply) state flash = refl
+entry-is (Entry.Reply clock slave bc errors status address packet reply) state flash = refl
+entry-is (Entry.Poll clock reply) state flash = refl
+entry-is (Entry.Erase budget) state flash = refl
+
+-- its parts are those of the node's call: the answer ..
+answer-is : (e : Entry) (state flash : List ℕ) → outcomeOf e state flash .turn .answer ≡ turnOf logodwen (onWords e) (nodeIn state) (wordsOf 2 flash) .answer
+answer-is (Entry.Start kind ports subdetector program version tests clock) state flash = refl
+answer-is (Entry.Request clock link bc errors packet m reply) state flash = refl
+answer-is (Entry.Reply clock slave bc errors status address packet reply) state flash = refl
+answer-is (Entry.Poll clock reply) state flash = refl
+answer-is (Entry.Erase budget) state flash = refl
+
+-- .. the next state, where a start that is fine is done ..
+start-begins : (kind ports subdetector program version tests clock : ℕ) (state flash : List ℕ)
+    → startCheck kind ports subdetector state (length flash / 2) ≡ Verdict.Fine
+    → startOf kind ports subdetector program version tests clock (wordsOf 2 flash) .answer ≡ Answer.Started
+unfolding startCheck
+start-begins kind ports subdetector program version tests clock state flash h =
+    let size : Bool = not (eqb (length flash / 2) 32768) in
+    let numbers : Bool = not (portsOk ports) || not (kindOk kind) || ltb 7 subdetector in
+    let none =
+    fine-tells (cause Refusal.FlashSize size ∷ cause Refusal.Number numbers ∷ cause Refusal.State (not (eqb (length state) 172)) ∷ []) h in
+    start-done kind ports subdetector program version tests clock (wordsOf 2 flash)
+    (length-words-of 2 flash ∙ eqb-true (length flash / 2) 32768 (not-false (eqb (length flash / 2) 32768) (none .0))) (none .1 .0)
+
+pub start-taken : (kind ports subdetector program version tests clock : ℕ) (state flash : List ℕ)
+    → startCheck kind ports subdetector state (length flash / 2) ≡ Verdict.Fine
+    → isRefused (startOf kind ports subdetector program version tests clock (wordsOf 2 flash) .answer) ≡ false
+start-taken kind ports subdetector program version tests clock state flash h =
+    ap isRefused (start-begins kind ports subdetector program version tests clock state flash h)
+
+node-is : (e : Entry) (state flash : List ℕ) → checkOf e state flash ≡ Verdict.Fine
+    → outcomeOf e state flash .turn .node ≡ nodeAfter logodwen (onWords e) (nodeIn state) (wordsOf 2 flash)
+node-is (Entry.Start kind ports subdetector program version tests clock) state flash h =
+    no _ (start-taken kind ports subdetector program version tests clock state flash h) refl
+node-is (Entry.Request clock link bc errors packet m reply) state flash h = refl
+node-is (Entry.Reply clock slave bc errors status address packet reply) state flash h = refl
+node-is (Entry.Poll clock reply) state flash h = refl
+node-is (Entry.Erase budget) state flash h = refl
+
+-- .. and the flash
+flash-is : (e : Entry) (state flash : List ℕ) → Below 256 flash
+    → flashLeft e (told (inBytes (outcomeOf e state flash) (runsOf e flash))) flash ≡ storeWords 2 (flashOf logodwen (onWords e) (nodeIn state) (wordsOf 2 flash)) flash
+flash-is (Entry.Start kind ports subdetector program version tests clock) state flash b = sym (bytes-kept 2 flash b)
+flash-is (Entry.Request clock link bc errors packet m reply) state flash b = refl
+flash-is (Entry.Reply clock slave bc errors status address packet reply) state flash b = sym (bytes-kept 2 flash b)
+flash-is (Entry.Poll clock reply) state flash b = sym (bytes-kept 2 flash b)
+flash-is (Entry.Erase budget) state flash b = refl
+
+flash-left : (e : Entry) (number : ℕ) (state flash : List ℕ) → flashLeft e (answered number state (runsOf e flash)) flash ≡ flash
+flash-left (Entry.Start kind ports subdetector program version tests clock) number state flash = refl
+flash-left (Entry.Request clock link bc errors packet m reply) number state flash = refl
+flash-left (Entry.Reply clock slave bc errors status address packet reply) number state flash = refl
+flash-left (Entry.Poll clock reply) number state flash = refl
+flash-left (Entry.Erase budget) number state flash = refl
+
+-- the node's call made
+pub record Made (e : Entry) (state flash : List ℕ) : Type 0 where
+  pub fine : checkOf e state flash ≡ Verdict.Fine
+  pub does : answerOf e state flash ≡ told (inBytes (outcomeOf e state flash) (runsOf e flash))
+  pub number : numberAfter e state flash ≡ answerNumber (turnOf logodwen (onWords e) (nodeIn state) (wordsOf 2 flash) .answer)
+  pub node : stateAfter e state flash ≡ encodeOf (nodeAfter logodwen (onWords e) (nodeIn state) (wordsOf 2 flash))
+  pub words : Below 256 flash → flashAfter e state flash ≡ storeWords 2 (flashOf logodwen (onWords e) (nodeIn state) (wordsOf 2 flash)) flash
+
+-- all as it was
+pub record Left (e : Entry) (state flash : List ℕ) : Type 0 where
+  pub refusal : Refusal
+  pub number : numberAfter e state flash ≡ refusalNumber refusal
+  pub node : stateAfter e state flash ≡ state
+  pub words : flashAfter e state flash ≡ flash
+
+pub data Step (e : Entry) (state flash : List ℕ) : Type 0 where
+  Leaves : Left e state flash → Step e state flash
+  Makes : Made e state flash → Step e state flash
+
+pub entry-step : (e : Entry) (state flash : List ℕ) → Step e state flash
+entry-step e state flash = by (checkOf e state flash) refl
+  where
+    by : (v : Verdict) → checkOf e state flash ≡ v → Step e state flash
+    by Verdict.Fine h =
+        let is = entry-is e state flash ∙ ap (λ (v : Verdict). entered v state (runsOf e flash) (outcomeOf e state flash)) h in
+        Step.Makes (record {
+          fine = h;
+          does = is;
+          number = ap (λ (a : Answered). a .number) is ∙ ap answerNumber (answer-is e state flash);
+          node = ap (λ (a : Answered). a .state) is ∙ ap encodeOf (node-is e state flash h);
+          words = λ b. ap (λ (a : Answered). flashLeft e a flash) is ∙ flash-is e state flash b;
+        })
+    by (Verdict.No r) h =
+        let is = entry-is e state flash ∙ ap (λ (v : Verdict). entered v state (runsOf e flash) (outcomeOf e state flash)) h in
+        Step.Leaves (record {
+          refusal = r;
+          number = ap (λ (a : Answered). a .number) is;
+          node = ap (λ (a : Answered). a .state) is;
+          words = ap (λ (a : Answered). flashLeft e a flash) is ∙ flash-left e (refusalNumber r) state flash;
+        })
+
+-- the number of a refusal is not that of a call that is done, and the other way round
+
+pub refusal-undone : (r : Refusal) → isDone (refusalNumber r) ≡ false
+refusal-undone Refusal.FlashSize = refl
+refusal-undone Refusal.ReplySize = refl
+refusal-undone Refusal.MemorySize = refl
+refusal-undone Refusal.Number = refl
+refusal-undone Refusal.State = refl
+refusal-undone Refusal.Busy = refl
+refusal-undone Refusal.Unasked = refl
+
+pub taken-done : (a : Answer) → isRefused a ≡ false → isDone (answerNumber a) ≡ true
+taken-done (Answer.Refused r) h = absurd (false≢true (sym h))
+taken-done Answer.Started h = refl
+taken-done (Answer.Reply r) h = eq-eqb (answerNumber (Answer.Reply r) % 256) 0 (omega arith)
+taken-done (Answer.Ask a) h = eq-eqb (answerNumber (Answer.Ask a) % 256) 0 (omega arith)
+taken-done Answer.Waiting h = refl
+taken-done (Answer.Erased count) h = eq-eqb (answerNumber (Answer.Erased count) % 256) 0 (omega arith)
+
+pub done-taken : (a : Answer) → isDone (answerNumber a) ≡ true → isRefused a ≡ false
+done-taken (Answer.Refused r) h = absurd (false≢true (sym (refusal-undone r) ∙ h))
+done-taken Answer.Started h = refl
+done-taken (Answer.Reply r) h = refl
+done-taken (Answer.Ask a) h = refl
+done-taken Answer.Waiting h = refl
+done-taken (Answer.Erased count) h = refl
+
+-- an entry that isn't done leaves the bytes of a state
+pub undone-left : (e : Entry) (state flash : List ℕ) → areState state ≡ true → isDone (numberAfter e state flash) ≡ false → stateAfter e state flash ≡ state
+undone-left e state flash s h = by (entry-step e state flash)
+  where
+    call : (m : Made e state flash) (t : Bool) → isRefused (turnOf logodwen (onWords e) (nodeIn state) (wordsOf 2 flash) .answer) ≡ t → stateAfter e state flash ≡ state
+    call m true q = m .node ∙ ap encodeOf (refused-same (onWords e) (nodeIn state) (wordsOf 2 flash) q) ∙ encoded-decoded state s
+    call m false q =
+        absurd (false≢true (sym h ∙ ap isDone (m .number) ∙ taken-done (turnOf logodwen (onWords e) (nodeIn state) (wordsOf 2 flash) .answer) q))
+
+    by : Step e state flash → stateAfter e state flash ≡ state
+    by (Step.Leaves l) = l .node
+    by (Step.Makes m) = call m (isRefused (turnOf logodwen (onWords e) (nodeIn state) (wordsOf 2 flash) .answer)) refl
