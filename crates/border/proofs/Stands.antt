@@ -36,16 +36,25 @@ stands-typed state flash s =
     small-typed (nodeIn state) (wordsOf 2 flash) (s .small) (reached-sound (s .reached)) (words-of-below flash (s .below))
 
 -- the bytes of a state that is reached
+
+module _ (n : Node) (words state : List ℕ) (r : Reached logodwen n words) (s : Small n) (b : Below 65536 words) (e : state ≡ encodeOf n) where
+  encoded : (areState (encodeOf n) ≡ true) × (nodeIn (encodeOf n) ≡ n)
+  encoded = decoded-encoded n (ranges-told n (reached-sound r .valid .ranges)) (small-typed n words s (reached-sound r) b)
+
+  encoded-node : nodeIn state ≡ n
+  encoded-node = ap nodeIn e ∙ encoded .1
+
+  encoded-state : areState state ≡ true
+  encoded-state = ap areState e ∙ encoded .0
+
 reached-stands : (n : Node) (words state flash : List ℕ) → Reached logodwen n words → Small n → Below 65536 words
     → state ≡ encodeOf n → wordsOf 2 flash ≡ words → Below 256 flash → Stands state flash
 reached-stands n words state flash r s b e w f =
-    let sound = reached-sound r in
-    let d = decoded-encoded n (ranges-told n (sound .valid .ranges)) (small-typed n words s sound b) in
-    let node : n ≡ nodeIn state = sym (ap nodeIn e ∙ d .1) in
+    let node : n ≡ nodeIn state = sym (encoded-node n words state r s b e) in
     record {
       reached = subst (λ (m : Node). Reached logodwen m (wordsOf 2 flash)) node (subst (λ (x : List ℕ). Reached logodwen n x) (sym w) r);
       small = subst Small node s;
-      bytes = ap areState e ∙ d .0;
+      bytes = encoded-state n words state r s b e;
       below = f;
     }
 
@@ -64,27 +73,38 @@ clocked (Entry.Reply clock slave bc errors status address packet reply) c = c .0
 clocked (Entry.Poll clock reply) c = c .0
 clocked (Entry.Erase budget) c = tt
 
+-- a call that is made: its state and its flash are those that the bytes then stand for
+pub record Moved (e : Entry) (state flash : List ℕ) : Type 0 where
+  pub node : nodeIn (stateAfter e state flash) ≡ nodeAfter logodwen (onWords e) (nodeIn state) (wordsOf 2 flash)
+  pub words : wordsOf 2 (flashAfter e state flash) ≡ flashOf logodwen (onWords e) (nodeIn state) (wordsOf 2 flash)
+  pub stands : Stands (stateAfter e state flash) (flashAfter e state flash)
+
+pub made-moves : (e : Entry) (state flash : List ℕ) → InC e → Stands state flash → Made e state flash → Moved e state flash
+made-moves e state flash c s m =
+    let words : List ℕ = wordsOf 2 flash in
+    let next : Node = nodeAfter logodwen (onWords e) (nodeIn state) words in
+    let left : List ℕ = flashOf logodwen (onWords e) (nodeIn state) words in
+    let below = flash-below (onWords e) (nodeIn state) words (lends e c) (words-of-below flash (s .below)) in
+    let after = m .words (s .below) in
+    let size = flash-size (onWords e) (nodeIn state) words ∙ length-words-of 2 flash in
+    let read = ap (wordsOf 2) after ∙ stored-words left flash below size in
+    let bytes = subst (λ (x : List ℕ). Below 256 x) (sym after) (stored-below left flash (s .below)) in
+    let reached = Reached.Then (s .reached) (onWords e) (lends e c) in
+    let small = call-small (onWords e) (nodeIn state) words (clocked e c) (s .small) in
+    record {
+      node = encoded-node next left (stateAfter e state flash) reached small below (m .node);
+      words = read;
+      stands = reached-stands next left (stateAfter e state flash) (flashAfter e state flash) reached small below (m .node) read bytes;
+    }
+
 -- every entry hands them on
 pub next-stands : (e : Entry) (state flash : List ℕ) → InC e → Stands state flash → Stands (stateAfter e state flash) (flashAfter e state flash)
 next-stands e state flash c s = by (entry-step e state flash)
   where
-    n : Node
-    n = nodeIn state
-
-    words : List ℕ
-    words = wordsOf 2 flash
-
     by : Step e state flash → Stands (stateAfter e state flash) (flashAfter e state flash)
     by (Step.Leaves l) =
         subst (λ (x : List ℕ). Stands x (flashAfter e state flash)) (sym (l .node)) (subst (λ (x : List ℕ). Stands state x) (sym (l .words)) s)
-    by (Step.Makes m) =
-        let below = flash-below (onWords e) n words (lends e c) (words-of-below flash (s .below)) in
-        let after = m .words (s .below) in
-        let size = flash-size (onWords e) n words ∙ length-words-of 2 flash in
-        reached-stands (nodeAfter logodwen (onWords e) n words) (flashOf logodwen (onWords e) n words) (stateAfter e state flash) (flashAfter e state flash)
-        (Reached.Then (s .reached) (onWords e) (lends e c)) (call-small (onWords e) n words (clocked e c) (s .small)) below
-        (m .node) (ap (wordsOf 2) after ∙ stored-words (flashOf logodwen (onWords e) n words) flash below size)
-        (subst (λ (x : List ℕ). Below 256 x) (sym after) (stored-below (flashOf logodwen (onWords e) n words) flash (s .below)))
+    by (Step.Makes m) = made-moves e state flash c s m .stands
 
 -- a start gives them
 first-stands : (kind ports subdetector program version tests clock : ℕ) (state flash : List ℕ)
