@@ -1,14 +1,17 @@
--- Words in runs of bytes: how small they are, and that words stored in a run are its words. Assumes nothing.
-use Prim.Native.Nat.{ℕ, zero, suc, _+_, _*_, _/_, _%_, _<_}
+-- Words in runs of bytes: how small they are, that words stored in a run are its words, and that words laid into a run are bytes laid into
+-- it. Assumes nothing.
+use Prim.Native.Nat.{ℕ, zero, suc, _+_, _*_, _/_, _%_, _≤_, _<_}
 use native.Mathlib.Omega.{arith}
-use mathlib.Core.Path.{_≡_, refl, ap, _∙_}
+use mathlib.Core.Path.{_≡_, refl, sym, ap, _∙_}
 use mathlib.Core.List.{List, [], _∷_, _++_}
-use lib.ListN.{length, take, drop}
+use lib.ListN.{length, getD, take, drop}
+use lib.Seq.{take-nil, take-length, take-append-le}
 use Rattle.base.specs.Words.{laid, Below}
 use Rattle.base.proofs.Part.{below-take, below-drop, below-append}
-use Rattle.base.proofs.Laid.{length-laid}
+use Rattle.base.proofs.Laid.{length-laid, laid-append-left}
 use Rattle.logodwen.specs.Bytes.{valueOf, digitsOf, numberAt, wordsIn, wordsOf, bytesOf, storeWords}
-use Rattle.logodwen.proofs.Runs.{length-bytes, words-bytes}
+use Rattle.logodwen.proofs.Runs.{length-bytes, bytes-append, words-bytes, bytes-words}
+use Rattle.logodwen.proofs.ThereAndBack.{bytes-kept}
 
 -- words laid into a run
 pub below-laid : {m : ℕ} (ws : List ℕ) (at : ℕ) (new : List ℕ) → Below m ws → Below m new → Below m (laid ws at new)
@@ -58,3 +61,78 @@ stored-words ws bytes h e =
 
 pub stored-below : (ws bytes : List ℕ) → Below 256 bytes → Below 256 (storeWords 2 ws bytes)
 stored-below ws bytes h = below-laid bytes 0 (bytesOf 2 ws) h (bytes-below 2 ws)
+
+-- the words of a run that starts with two bytes
+pub words-two : (a b : ℕ) (bytes : List ℕ) → wordsOf 2 (a ∷ b ∷ bytes) ≡ valueOf (a ∷ b ∷ []) ∷ wordsOf 2 bytes
+unfolding wordsOf wordsIn
+words-two a b bytes =
+    let e : length (a ∷ b ∷ bytes) / 2 ≡ suc (length bytes / 2) = omega arith in ap (λ (n : ℕ). wordsIn 2 n (a ∷ b ∷ bytes)) e
+
+pub first-word : (bytes : List ℕ) → length bytes % 2 ≡ 0 → getD (wordsOf 2 bytes) 0 0 ≡ numberAt 2 0 bytes
+unfolding wordsOf wordsIn valueOf
+first-word [] h = refl
+first-word (a ∷ []) h = let z : ⊥ = omega arith in absurd z
+first-word (a ∷ b ∷ bytes) h = ap (λ (l : List ℕ). getD l 0 0) (words-two a b bytes)
+
+-- the bytes of the words of a run of whole words are the run
+pub words-bytes-of : (bytes : List ℕ) → Below 256 bytes → length bytes % 2 ≡ 0 → bytesOf 2 (wordsOf 2 bytes) ≡ bytes
+unfolding wordsOf
+words-bytes-of bytes h e =
+    let all : length bytes / 2 * 2 ≡ length bytes = omega arith in
+    bytes-words 2 (length bytes / 2) bytes (omega arith) h ∙ ap (λ (n : ℕ). take n bytes) all ∙ take-length bytes
+
+-- the bytes of a part of words are a part of the bytes
+
+bytes-take : (n : ℕ) (ws : List ℕ) → bytesOf 2 (take n ws) ≡ take (n * 2) (bytesOf 2 ws)
+unfolding bytesOf digitsOf
+bytes-take zero ws = refl
+bytes-take (suc n) [] = sym (take-nil (suc n * 2))
+bytes-take (suc n) (w ∷ ws) =
+    let e : suc n * 2 ≡ suc (suc (n * 2)) = omega arith in
+    ap (λ (l : List ℕ). digitsOf 2 w ++ l) (bytes-take n ws) ∙ ap (λ (k : ℕ). take k (bytesOf 2 (w ∷ ws))) (sym e)
+
+bytes-drop : (n : ℕ) (ws : List ℕ) → bytesOf 2 (drop n ws) ≡ drop (n * 2) (bytesOf 2 ws)
+unfolding bytesOf digitsOf
+bytes-drop zero ws = refl
+bytes-drop (suc n) [] = let e : suc n * 2 ≡ suc (suc (n * 2)) = omega arith in ap (λ (k : ℕ). drop k (bytesOf 2 [])) (sym e)
+bytes-drop (suc n) (w ∷ ws) =
+    let e : suc n * 2 ≡ suc (suc (n * 2)) = omega arith in
+    bytes-drop n ws ∙ ap (λ (k : ℕ). drop k (bytesOf 2 (w ∷ ws))) (sym e)
+
+-- words laid are their bytes laid
+bytes-laid : (ws : List ℕ) (at : ℕ) (new : List ℕ) → bytesOf 2 (laid ws at new) ≡ laid (bytesOf 2 ws) (at * 2) (bytesOf 2 new)
+unfolding laid
+bytes-laid ws at new =
+    let n = length-bytes 2 new in
+    let e : (at + length new) * 2 ≡ at * 2 + length (bytesOf 2 new) = omega arith in
+    bytes-append 2 (take at ws ++ new) (drop (at + length new) ws)
+    ∙ ap (λ (l : List ℕ). l ++ bytesOf 2 (drop (at + length new) ws)) (bytes-append 2 (take at ws) new ∙ ap (λ (l : List ℕ). l ++ bytesOf 2 new) (bytes-take at ws))
+    ∙ ap (λ (l : List ℕ). (take (at * 2) (bytesOf 2 ws) ++ bytesOf 2 new) ++ l) (bytes-drop (at + length new) ws ∙ ap (λ (k : ℕ). drop k (bytesOf 2 ws)) e)
+
+laid-front : (ws new : List ℕ) → laid ws 0 new ≡ new ++ drop (0 + length new) ws
+unfolding laid
+laid-front ws new = refl
+
+pub store-laid : (bytes : List ℕ) (at : ℕ) (new : List ℕ) → Below 256 bytes → at + length new ≤ length (wordsOf 2 bytes)
+    → storeWords 2 (laid (wordsOf 2 bytes) at new) bytes ≡ laid bytes (at * 2) (bytesOf 2 new)
+store-laid bytes at new h fits =
+    let b : List ℕ = bytesOf 2 (wordsOf 2 bytes) in
+    let f : List ℕ = bytesOf 2 new in
+    let lb = length-bytes 2 (wordsOf 2 bytes) in
+    let lf = length-bytes 2 new in
+    let room : at * 2 + length f ≤ length b = omega arith in
+    let same : length (laid b (at * 2) f) ≡ length b = length-laid b (at * 2) f room in
+    let whole : b ++ drop (0 + length b) bytes ≡ bytes = sym (laid-front bytes b) ∙ bytes-kept 2 bytes h in
+    ap (laid bytes 0) (bytes-laid (wordsOf 2 bytes) at new)
+    ∙ laid-front bytes (laid b (at * 2) f)
+    ∙ ap (λ (n : ℕ). laid b (at * 2) f ++ drop (0 + n) bytes) same
+    ∙ sym (laid-append-left b (drop (0 + length b) bytes) (at * 2) f room)
+    ∙ ap (λ (l : List ℕ). laid l (at * 2) f) whole
+
+-- the first words stored are the first bytes
+pub store-front : (ws bytes : List ℕ) (n : ℕ) → n ≤ length ws → take (n * 2) (storeWords 2 ws bytes) ≡ bytesOf 2 (take n ws)
+store-front ws bytes n h =
+    let l = length-bytes 2 ws in
+    ap (take (n * 2)) (laid-front bytes (bytesOf 2 ws))
+    ∙ take-append-le (n * 2) (bytesOf 2 ws) (drop (0 + length (bytesOf 2 ws)) bytes) (omega arith)
+    ∙ sym (bytes-take n ws)
