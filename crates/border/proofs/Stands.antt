@@ -59,7 +59,7 @@ reached-stands n words state flash r s b e w f =
     }
 
 -- what the C types say of the node's call
-lends : (e : Entry) → InC e → Lends16 (onWords e)
+pub lends : (e : Entry) → InC e → Lends16 (onWords e)
 lends (Entry.Start kind ports subdetector program version tests clock) c = tt
 lends (Entry.Request clock link bc errors packet m reply) c = words-of-below packet (c .4)
 lends (Entry.Reply clock slave bc errors status address packet reply) c = tt
