@@ -14,10 +14,11 @@ use Rattle.flash.specs.declared.Erasing.{Erasing}
 use Rattle.flash.specs.declared.Found.{Found}
 use Rattle.flash.proofs.Changes.{stored-laid}
 use Rattle.flash.proofs.Geometry.{sector-fits}
-use Rattle.group.specs.Ending.{zeroReply}
+use Rattle.flash.proofs.Kept.{Place}
+use Rattle.group.specs.Ending.{replied, zeroReply}
 use Rattle.group.specs.declared.ZeroLength.{ZeroLength}
 use Rattle.memory.specs.Segment.{Memories}
-use Rattle.node.specs.Effect.{Lent, lent, says, Outcome, ownOutcome}
+use Rattle.node.specs.Effect.{Lent, lent, says, changes, Change, Outcome, ownOutcome}
 use Rattle.node.specs.Files.{isErasing, placedFor, writeAt, writeOf}
 use Rattle.node.specs.Own.{filesOf, ownOf}
 use Rattle.node.specs.Calls.{requestOf}
@@ -38,7 +39,7 @@ use Rattle.logodwen.proofs.Runs.{length-words-of}
 use Rattle.logodwen.proofs.Entering.{request-fine}
 use Rattle.logodwen.proofs.Small.{size-most}
 use Rattle.border.specs.Host.{Entry, InC, answerOf, numberAfter, stateAfter, flashAfter, isDone, Hosted}
-use Rattle.border.specs.ReadsBack.{fileWrite, fileRead, nameIn, endNumber, sectorIn, sectorByte, Runs, Reads, Written, ReadsBack}
+use Rattle.border.specs.ReadsBack.{fileWrite, fileRead, nameIn, endNumber, wholeNumber, sectorIn, sectorByte, Runs, Reads, Written, ReadsBack}
 use Rattle.border.proofs.Runs.{words-of-below, words-two, first-word, words-bytes-of, store-laid, store-front}
 use Rattle.border.proofs.Steps.{Made, Step, entry-step, refusal-undone, done-taken}
 use Rattle.border.proofs.Stands.{Stands, Moved, made-moves, hosted-stands}
@@ -82,3 +83,162 @@ module _ (n : Node) (clock link bc : ℕ) (errors : Bool) (packet : List ℕ) (l
       by Erasing.Nothing q (Found.At s) p k = record { sector = s; idle = q; placed = p }
       by Erasing.Nothing q Found.Nothing p k = absurd (omega arith)
       by (Erasing.Sector x) q f p k = absurd (omega arith)
+
+module _ (state flash : List ℕ) (st : Stands state flash) (clock link bc errors : ℕ) (file : List ℕ) (m : Memories) (reply : List ℕ)
+    (c : InC (Entry.Request clock link bc errors (fileWrite file) m reply)) (even : length file % 2 ≡ 0)
+    (h : numberAfter (Entry.Request clock link bc errors (fileWrite file) m reply) state flash ≡ endNumber) where
+  abbrev write : Entry
+  write = Entry.Request clock link bc errors (fileWrite file) m reply
+
+  abbrev n : Node
+  n = nodeIn state
+
+  abbrev words : List ℕ
+  words = wordsOf 2 flash
+
+  abbrev packet : List ℕ
+  packet = wordsOf 2 (fileWrite file)
+
+  abbrev l : Lent
+  l = lent words (memoryWords m) (replyWords reply)
+
+  abbrev o : Outcome
+  o = requestOf n clock link bc (isSet errors) packet l
+
+  made : Made write state flash
+  made = done-made write state flash (ap isDone h)
+
+  moved : Moved write state flash
+  moved = made-moves write state flash c st made
+
+  command : isCommand 0x45 packet ≡ true
+  command = ap (isCommand 0x45) (write-words file)
+
+  stored-file : drop 1 packet ≡ wordsOf 2 file
+  stored-file = ap (drop 1) (write-words file)
+
+  count : length (drop 1 packet) ≡ length file / 2
+  count = ap length stored-file ∙ length-words-of 2 file
+
+  place : Placed n words (drop 1 packet)
+  place = write-placed n clock link bc (isSet errors) packet l command (sym (made .number) ∙ h)
+
+  did : o ≡ ownOutcome n l (changes (Change.Wrote (place .sector) (drop 1 packet)))
+  did =
+      write-own n clock link bc (isSet errors) packet l command (sym (made .number) ∙ h) .is
+      ∙ ap (ownOutcome n l) (write-did n clock link packet l (place .sector) (place .idle) (place .placed))
+
+  -- the place that it had, in a flash of bench size
+  size : length words ≡ 32768
+  size =
+      length-words-of 2 flash
+      ∙ request-fine link (length (fileWrite file) / 2) state (length flash / 2) (length (m .pm) / 4) (length (m .dm) / 2) (length (m .io) / 2) (length reply / 2) (made .fine) .bench
+
+  unit : unitOf words ≡ 2048
+  unit = ap (λ (k : ℕ). k / 16) size
+
+  fits : Place words (n .erasing) (length (drop 1 packet)) (place .sector)
+  fits = placed-tells n l packet (drop 1 packet) (place .sector) (command-told 0x45 packet command) (place .idle) refl (place .placed) .place
+
+  short : length (drop 1 packet) ≤ 12286
+  short = omega (arith, fits .room, size-most (unitOf words) (place .sector), unit)
+
+  room : startOf (unitOf words) (place .sector) + 0 + length (drop 1 packet) ≤ length words
+  room = omega (arith, fits .room, sector-fits (unitOf words) (place .sector), unit, size)
+
+  below : Below 256 file
+  below = below-drop 2 (fileWrite file) (c .4)
+
+  file-bytes : bytesOf 2 (drop 1 packet) ≡ file
+  file-bytes = ap (bytesOf 2) stored-file ∙ words-bytes-of file below even
+
+  -- the bytes stand in it
+  file-stands : flashAfter write state flash ≡ laid flash (sectorByte (place .sector)) file
+  file-stands =
+      let start : (startOf (unitOf words) (place .sector) + 0) * 2 ≡ sectorByte (place .sector) =
+      ap (λ (k : ℕ). (k + 0) * 2) (ap (λ (u : ℕ). startOf u (place .sector)) unit) ∙ omega arith in
+      made .words (st .below)
+      ∙ ap (λ (x : Outcome). storeWords 2 (x .after .flash) flash) did
+      ∙ ap (λ (x : List ℕ). storeWords 2 x flash) (stored-laid words (place .sector) (drop 1 packet) (fits .room))
+      ∙ store-laid flash (startOf (unitOf words) (place .sector) + 0) (drop 1 packet) (st .below) room
+      ∙ (λ i. laid flash (start i) (file-bytes i))
+
+  -- a File Read
+  module _ (later after : List ℕ) (run : Runs (place .sector) (nameIn file) (stateAfter write state flash) (flashAfter write state flash) later after) (quiet : sectorIn later ≡ 0)
+      (clock′ link′ bc′ : ℕ) (header : List ℕ) (m′ : Memories) (reply′ : List ℕ) (whole : bc′ % 4 ≡ 3) (two : length header ≡ 2) (named : nameIn header ≡ nameIn file)
+      (done : isDone (numberAfter (Entry.Request clock′ link′ bc′ 0 (fileRead header) m′ reply′) later after) ≡ true) where
+    abbrev read : Entry
+    read = Entry.Request clock′ link′ bc′ 0 (fileRead header) m′ reply′
+
+    abbrev asked : List ℕ
+    asked = wordsOf 2 (fileRead header)
+
+    abbrev r : Outcome
+    r = requestOf (nodeIn later) clock′ link′ bc′ false asked (lent (wordsOf 2 after) (memoryWords m′) (replyWords reply′))
+
+    reading : Made read later after
+    reading = done-made read later after done
+
+    asked-two : length asked ≡ 2
+    asked-two = length-words-of 2 (fileRead header) ∙ omega arith
+
+    delivered : Delivered logodwen (nodeIn later) clock′ link′ bc′ false asked (lent (wordsOf 2 after) (memoryWords m′) (replyWords reply′))
+    delivered =
+        record {
+          taken = done-taken (r .turn .answer) (ap isDone (sym (reading .number)) ∙ done);
+          clean = refl;
+          least = omega (arith, asked-two);
+          most = omega (arith, asked-two);
+          whole = whole;
+        }
+
+    file-named : nameIn file ≡ fileName (drop 1 packet)
+    file-named = sym (ap nameOf (ap (λ (x : List ℕ). getD x 0 0) stored-file ∙ first-word file even))
+
+    asked-named : nameOf (getD asked 1 0) ≡ fileName (drop 1 packet)
+    asked-named =
+        ap nameOf (ap (λ (x : List ℕ). getD x 1 0) (read-words header) ∙ first-word header (omega arith)) ∙ named ∙ file-named
+
+    calls : Calls logodwen (place .sector) (fileName (drop 1 packet)) (o .turn .node) (o .after .flash) (nodeIn later) (wordsOf 2 after)
+    calls =
+        subst (λ (k : ℕ). Calls logodwen (place .sector) k (o .turn .node) (o .after .flash) (nodeIn later) (wordsOf 2 after)) file-named
+        (subst (λ (x : Node). Calls logodwen (place .sector) (nameIn file) x (o .after .flash) (nodeIn later) (wordsOf 2 after)) (moved .node)
+        (subst (λ (x : List ℕ). Calls logodwen (place .sector) (nameIn file) (nodeIn (stateAfter write state flash)) x (nodeIn later) (wordsOf 2 after)) (moved .words)
+        (run-follows (moved .stands) run .calls)))
+
+    answered : (r .turn .answer ≡ Answer.Reply (replied 3 (length (drop 1 packet) + 2))) × (take (length (drop 1 packet)) (r .after .reply) ≡ drop 1 packet)
+    answered =
+        words-back n words (st .reached) clock link bc (isSet errors) packet (memoryWords m) (replyWords reply) (place .sector)
+        (words-of-below (fileWrite file) (c .4)) command (place .placed) short (ap (λ (x : Outcome). x .turn .answer) did)
+        (nodeIn later) (wordsOf 2 after) calls (no-erasing later quiet) clock′ link′ bc′ false asked (memoryWords m′) (replyWords reply′)
+        (ap (isCommand 0x05) (read-words header)) asked-two asked-named delivered
+
+    number-read : numberAfter read later after ≡ wholeNumber (length file / 2 + 2)
+    number-read = reading .number ∙ ap answerNumber (answered .0) ∙ ap (λ (k : ℕ). wholeNumber (k + 2)) count
+
+    bytes-read : take (length file) (answerOf read later after .runs .reply) ≡ file
+    bytes-read =
+        let long : length file ≡ length (drop 1 packet) * 2 = omega (arith, count) in
+        let front : length (drop 1 packet) ≤ length (r .after .reply) =
+        omega (arith, length-take (length (drop 1 packet)) (r .after .reply), ap length (answered .1)) in
+        ap (λ (a : Answered). take (length file) (a .runs .reply)) (reading .does)
+        ∙ ap (λ (k : ℕ). take k (storeWords 2 (r .after .reply) reply′)) long
+        ∙ store-front (r .after .reply) reply′ (length (drop 1 packet)) front
+        ∙ ap (bytesOf 2) (answered .1)
+        ∙ file-bytes
+
+  file-written : Written file flash (stateAfter write state flash) (flashAfter write state flash)
+  file-written =
+      record {
+        sector = place .sector;
+        is = fits .sector;
+        stands = file-stands;
+        reads = λ later after run quiet clock′ link′ bc′ header m′ reply′ whole two named done. (
+          number-read later after run quiet clock′ link′ bc′ header m′ reply′ whole two named done,
+          bytes-read later after run quiet clock′ link′ bc′ header m′ reply′ whole two named done,
+        );
+      }
+
+pub reads-back : ReadsBack
+reads-back state flash hosted clock link bc errors file m reply c even h =
+    file-written state flash (hosted-stands hosted) clock link bc errors file m reply c even h
