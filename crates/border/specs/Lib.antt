@@ -1,3 +1,4 @@
 pub mod Host
 pub mod Kept
 pub mod ReadsBack
+pub mod Answers
