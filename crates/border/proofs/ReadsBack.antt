@@ -2,7 +2,7 @@
 use Prim.Native.Nat.{ℕ, _+_, _*_, _/_, _%_, _≤_}
 use native.Mathlib.Omega.{arith}
 use mathlib.Core.Path.{_≡_, refl, sym, ap, _∙_, subst}
-use mathlib.Core.Bool.{Bool, true, false, false≢true}
+use mathlib.Core.Bool.{Bool, true, false}
 use mathlib.Core.List.{List, [], _∷_}
 use lib.ListN.{length, getD, take, drop, length-take}
 use Rattle.base.specs.Pick.{pick}
@@ -41,17 +41,9 @@ use Rattle.logodwen.proofs.Small.{size-most}
 use Rattle.border.specs.Host.{Entry, InC, answerOf, numberAfter, stateAfter, flashAfter, isDone, Hosted}
 use Rattle.border.specs.ReadsBack.{fileWrite, fileRead, nameIn, endNumber, wholeNumber, sectorIn, sectorByte, Runs, Reads, Written, ReadsBack}
 use Rattle.border.proofs.Runs.{words-of-below, words-two, first-word, words-bytes-of, store-laid, store-front}
-use Rattle.border.proofs.Steps.{Made, Step, entry-step, refusal-undone, done-taken}
+use Rattle.border.proofs.Steps.{Made, done-made, done-taken}
 use Rattle.border.proofs.Stands.{Stands, Moved, made-moves, hosted-stands}
 use Rattle.border.proofs.Follows.{no-erasing, run-follows}
-
--- an entry that is done makes the node's call
-pub done-made : (e : Entry) (state flash : List ℕ) → isDone (numberAfter e state flash) ≡ true → Made e state flash
-done-made e state flash h = by (entry-step e state flash)
-  where
-    by : Step e state flash → Made e state flash
-    by (Step.Leaves l) = absurd (false≢true (sym (refusal-undone (l .refusal)) ∙ ap isDone (sym (l .number)) ∙ h))
-    by (Step.Makes m) = m
 
 -- the words of the two packets
 write-words : (file : List ℕ) → wordsOf 2 (fileWrite file) ≡ 0x452E ∷ wordsOf 2 file

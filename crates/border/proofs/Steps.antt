@@ -75,7 +75,7 @@ answer-is (Entry.Poll clock reply) state flash = refl
 answer-is (Entry.Erase budget) state flash = refl
 
 -- .. the next state, where a start that is fine is done ..
-start-begins : (kind ports subdetector program version tests clock : ℕ) (state flash : List ℕ)
+pub start-begins : (kind ports subdetector program version tests clock : ℕ) (state flash : List ℕ)
     → startCheck kind ports subdetector state (length flash / 2) ≡ Verdict.Fine
     → startOf kind ports subdetector program version tests clock (wordsOf 2 flash) .answer ≡ Answer.Started
 unfolding startCheck
@@ -185,6 +185,14 @@ done-taken (Answer.Reply r) h = refl
 done-taken (Answer.Ask a) h = refl
 done-taken Answer.Waiting h = refl
 done-taken (Answer.Erased count) h = refl
+
+-- an entry that is done makes the node's call
+pub done-made : (e : Entry) (state flash : List ℕ) → isDone (numberAfter e state flash) ≡ true → Made e state flash
+done-made e state flash h = by (entry-step e state flash)
+  where
+    by : Step e state flash → Made e state flash
+    by (Step.Leaves l) = absurd (false≢true (sym (refusal-undone (l .refusal)) ∙ ap isDone (sym (l .number)) ∙ h))
+    by (Step.Makes m) = m
 
 -- an entry that isn't done leaves the bytes of a state
 pub undone-left : (e : Entry) (state flash : List ℕ) → areState state ≡ true → isDone (numberAfter e state flash) ≡ false → stateAfter e state flash ≡ state
