@@ -46,7 +46,8 @@ where-long state t h e = sym (ap (λ (b : Bool). pick b t true) (eq-eqb (length 
 state-no : (state : List ℕ) → bytesCause state .holds ≡ false → stateCause (nodeIn state) .holds ≡ false
 state-no state h = ap not (state-sound state (not-false (areState state) h))
 
-flash-no : (state : List ℕ) (flash : ℕ) → bytesCause state .holds ≡ false → benchCause state flash .holds ≡ false → flashCause (nodeIn state) flash .holds ≡ false
+flash-no : (state : List ℕ) (flash : ℕ) → bytesCause state .holds ≡ false → benchCause state flash .holds ≡ false
+    → flashCause (nodeIn state) flash .holds ≡ false
 unfolding nodeIn
 flash-no state flash s h =
     let both = neither (not (eqb flash 32768)) (not (keptOk state flash)) h in
@@ -63,7 +64,8 @@ memory-no pm dm io h =
     let d : ltb 32768 dm ≡ false = le-ltb 32768 dm (omega (arith, ltb-false 8192 dm (b .1))) in
     (λ i. p i || d i || ltb 4096 io) ∙ a .1
 
-link-no : (state : List ℕ) (link : ℕ) → bytesCause state .holds ≡ false → portCause state link .holds ≡ false → linkCause (nodeIn state) link .holds ≡ false
+link-no : (state : List ℕ) (link : ℕ) → bytesCause state .holds ≡ false → portCause state link .holds ≡ false
+    → linkCause (nodeIn state) link .holds ≡ false
 unfolding nodeIn
 link-no state link s h =
     let below : ltb link (portsIn state) ≡ true =
@@ -82,7 +84,9 @@ buffer-no reply h = ap (λ (n : ℕ). ltb n 12288) (reply-long reply h)
 -- the five entries
 
 pub request-fine : (link : ℕ) (packet state : List ℕ) (runs : Lent)
-    → requestCheck link (length packet / 2) state (length (runs .flash) / 2) (length (runs .memories .pm) / 4) (length (runs .memories .dm) / 2) (length (runs .memories .io) / 2) (length (runs .reply) / 2) ≡ Verdict.Fine
+    → requestCheck link (length packet / 2) state (length (runs .flash) / 2) (length (runs .memories .pm) / 4)
+    (length (runs .memories .dm) / 2) (length (runs .memories .io) / 2) (length (runs .reply) / 2)
+    ≡ Verdict.Fine
     → verdictOn (nodeIn state) link (wordsOf 2 packet) (runWords runs) ≡ Verdict.Fine
 unfolding requestCheck requestVerdict
 request-fine link packet state runs h =
@@ -91,43 +95,67 @@ request-fine link packet state runs h =
     let pm = length (runs .memories .pm) / 4 in
     let dm = length (runs .memories .dm) / 2 in
     let io = length (runs .memories .io) / 2 in
-    let none = fine-tells (benchCause state flash ∷ replyCause (length (runs .reply) / 2) ∷ memoriesCause pm dm io ∷ portCause state link ∷ bytesCause state ∷ busyCause n (length packet / 2) ∷ []) h in
+    let none =
+    fine-tells
+    (benchCause state flash ∷ replyCause (length (runs .reply) / 2) ∷ memoriesCause pm dm io ∷ portCause state link ∷ bytesCause state
+    ∷ busyCause n (length packet / 2) ∷ [])
+    h in
     let s = none .1 .1 .1 .1 .0 in
-    (λ i. requestVerdict n link (length-words-of 2 packet i) (length-words-of 2 (runs .flash) i) (length-words-of 4 (runs .memories .pm) i) (length-words-of 2 (runs .memories .dm) i) (length-words-of 2 (runs .memories .io) i) (length (replyWords (runs .reply))))
-    ∙ none-refuses (flashCause n flash ∷ replyCause (length (replyWords (runs .reply))) ∷ memoryCause pm dm io ∷ linkCause n link ∷ stateCause n ∷ busyCause n (length packet / 2) ∷ [])
-    (flash-no state flash s (none .0), (buffer-no (runs .reply) (none .1 .0), (memory-no pm dm io (none .1 .1 .0), (link-no state link s (none .1 .1 .1 .0), (state-no state s, (none .1 .1 .1 .1 .1 .0, tt))))))
+    (λ i. requestVerdict n link (length-words-of 2 packet i) (length-words-of 2 (runs .flash) i) (length-words-of 4 (runs .memories .pm) i)
+    (length-words-of 2 (runs .memories .dm) i) (length-words-of 2 (runs .memories .io) i) (length (replyWords (runs .reply))))
+    ∙ none-refuses
+    (flashCause n flash ∷ replyCause (length (replyWords (runs .reply))) ∷ memoryCause pm dm io ∷ linkCause n link ∷ stateCause n
+    ∷ busyCause n (length packet / 2) ∷ []) (
+      flash-no state flash s (none .0),
+      (
+        buffer-no (runs .reply) (none .1 .0),
+        (memory-no pm dm io (none .1 .1 .0), (link-no state link s (none .1 .1 .1 .0), (state-no state s, (none .1 .1 .1 .1 .1 .0, tt)))),
+      ),
+    )
 
 pub reply-fine : (slave : ℕ) (packet state reply : List ℕ) → replyCheck slave (length packet / 2) state (length reply / 2) ≡ Verdict.Fine
     → replyVerdict (nodeIn state) slave (length (replyWords reply)) ≡ Verdict.Fine
 unfolding replyCheck replyVerdict
 reply-fine slave packet state reply h =
     let n = nodeIn state in
-    let none = fine-tells (replyCause (length reply / 2) ∷ lengthCause (length packet / 2) ∷ slaveCause slave ∷ bytesCause state ∷ unaskedCause n slave ∷ []) h in
+    let none =
+    fine-tells
+    (replyCause (length reply / 2) ∷ lengthCause (length packet / 2) ∷ slaveCause slave ∷ bytesCause state ∷ unaskedCause n slave ∷ [])
+    h in
     none-refuses (replyCause (length (replyWords reply)) ∷ slaveCause slave ∷ stateCause n ∷ unaskedCause n slave ∷ [])
     (buffer-no reply (none .0), (none .1 .1 .0, (state-no state (none .1 .1 .1 .0), (none .1 .1 .1 .1 .0, tt))))
 
-pub poll-fine : (state reply : List ℕ) → pollCheck state (length reply / 2) ≡ Verdict.Fine → pollVerdict (nodeIn state) (length (replyWords reply)) ≡ Verdict.Fine
+pub poll-fine : (state reply : List ℕ) → pollCheck state (length reply / 2) ≡ Verdict.Fine
+    → pollVerdict (nodeIn state) (length (replyWords reply)) ≡ Verdict.Fine
 unfolding pollCheck pollVerdict
 poll-fine state reply h =
     let n = nodeIn state in
     let none = fine-tells (replyCause (length reply / 2) ∷ bytesCause state ∷ pollCause n ∷ []) h in
-    none-refuses (replyCause (length (replyWords reply)) ∷ stateCause n ∷ pollCause n ∷ []) (buffer-no reply (none .0), (state-no state (none .1 .0), (none .1 .1 .0, tt)))
+    none-refuses (replyCause (length (replyWords reply)) ∷ stateCause n ∷ pollCause n ∷ [])
+    (buffer-no reply (none .0), (state-no state (none .1 .0), (none .1 .1 .0, tt)))
 
-pub erase-fine : (state flash : List ℕ) → eraseCheck state (length flash / 2) ≡ Verdict.Fine → eraseVerdict (nodeIn state) (length (wordsOf 2 flash)) ≡ Verdict.Fine
+pub erase-fine : (state flash : List ℕ) → eraseCheck state (length flash / 2) ≡ Verdict.Fine
+    → eraseVerdict (nodeIn state) (length (wordsOf 2 flash)) ≡ Verdict.Fine
 unfolding eraseCheck eraseVerdict
 erase-fine state flash h =
     let n = nodeIn state in
     let none = fine-tells (benchCause state (length flash / 2) ∷ bytesCause state ∷ []) h in
     ap (eraseVerdict n) (length-words-of 2 flash)
-    ∙ none-refuses (flashCause n (length flash / 2) ∷ stateCause n ∷ []) (flash-no state (length flash / 2) (none .1 .0) (none .0), (state-no state (none .1 .0), tt))
+    ∙ none-refuses (flashCause n (length flash / 2) ∷ stateCause n ∷ [])
+    (flash-no state (length flash / 2) (none .1 .0) (none .0), (state-no state (none .1 .0), tt))
 
-pub start-fine : (kind ports subdetector : ℕ) (state flash : List ℕ) → startCheck kind ports subdetector state (length flash / 2) ≡ Verdict.Fine
+pub start-fine : (kind ports subdetector : ℕ) (state flash : List ℕ)
+    → startCheck kind ports subdetector state (length flash / 2) ≡ Verdict.Fine
     → startVerdict kind ports subdetector (length (wordsOf 2 flash)) ≡ Verdict.Fine
 unfolding startCheck startVerdict
 start-fine kind ports subdetector state flash h =
     let words = length flash / 2 in
     let numbers : Bool = not (portsOk ports) || not (kindOk kind) || ltb 7 subdetector in
-    let none = fine-tells (cause Refusal.FlashSize (not (eqb words 32768)) ∷ cause Refusal.Number numbers ∷ cause Refusal.State (not (eqb (length state) 172)) ∷ []) h in
+    let none =
+    fine-tells
+    (cause Refusal.FlashSize (not (eqb words 32768)) ∷ cause Refusal.Number numbers
+    ∷ cause Refusal.State (not (eqb (length state) 172)) ∷ [])
+    h in
     let bench : words ≡ 32768 = eqb-true words 32768 (not-false (eqb words 32768) (none .0)) in
     let sized : not (sizeOk words) ≡ false = ap (λ (n : ℕ). not (sizeOk n)) bench in
     ap (startVerdict kind ports subdetector) (length-words-of 2 flash)

@@ -1,11 +1,11 @@
 -- Bytes pass refusal 5 exactly if they are those of a state: bytes that are encoded are below 256, and the numbers that stand in such bytes
 -- have the sizes of their types. Assumes nothing.
-use Prim.Native.Nat.{ℕ, zero, suc, _+_, _*_, _/_, _%_, _^_, _<_}
+use Prim.Native.Nat.{ℕ, zero, suc, _/_, _^_, _<_}
 use native.Mathlib.Omega.{arith}
-use mathlib.Core.Path.{_≡_, refl, sym, ap, _∙_, subst}
-use mathlib.Core.Bool.{Bool, true}
+use mathlib.Core.Path.{_≡_, sym, ap, _∙_, subst}
+use mathlib.Core.Bool.{true}
 use mathlib.Core.List.{List, [], _∷_, _++_}
-use lib.ListN.{length, take, drop}
+use lib.ListN.{take, drop}
 use lib.Dec.{eqb}
 use Rattle.base.specs.Words.{Below}
 use Rattle.base.proofs.Part.{below-drop, below-append}
