@@ -46,7 +46,7 @@ fine-then : (t : Bool) (r : Refusal) (v : Verdict) → pick t (Verdict.No r) v �
 fine-then true r v e = let z : _≡_ {A = ℕ} 0 1 = cc in absurd (omega arith)
 fine-then false r v e = (refl, e)
 
-neither : (t u : Bool) → (t || u) ≡ false → (t ≡ false) × (u ≡ false)
+pub neither : (t u : Bool) → (t || u) ≡ false → (t ≡ false) × (u ≡ false)
 neither true u e = absurd (false≢true (sym e))
 neither false u e = (refl, e)
 
