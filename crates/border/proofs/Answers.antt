@@ -47,8 +47,10 @@ use Rattle.logodwen.specs.Entry.{memoryWords, replyWords, isSet}
 use Rattle.logodwen.proofs.Runs.{length-words, length-words-of}
 use Rattle.logodwen.proofs.Entering.{reply-fine, poll-fine, erase-fine}
 use Rattle.logodwen.proofs.Small.{size-most}
+use Rattle.border.specs.Exactly.{entries}
 use Rattle.border.specs.Host.{Entry, isDone}
 use Rattle.border.specs.Answers.{Says, Bounds, answerIn, NothingCut}
+use Rattle.border.proofs.Fine.{state-sound}
 use Rattle.border.proofs.Steps.{Made, start-begins, done-made, done-taken}
 use Rattle.border.proofs.Replies.{Short, own-replied}
 
@@ -179,11 +181,7 @@ judged-bounds (Verdict.No r) n l e b h = absurd (false≢true (sym h))
 
 -- what the bytes of a state tell, and what is lent of a reply buffer
 state-pending : (state : List ℕ) → areState state ≡ true → pendingOk (nodeIn state .given .ports) (nodeIn state .pending) ≡ true
-unfolding areState
-state-pending state h =
-    let same = alike (encodeOf (nodeIn state)) state in
-    let rest = and-right (eqb (length state) 172) (same && stateOk (nodeIn state)) h in
-    ranges-tell (nodeIn state) (and-right same (stateOk (nodeIn state)) rest) .pending
+state-pending state h = ranges-tell (nodeIn state) (state-sound state h) .pending
 
 directory-long : (state : List ℕ) → length (nodeIn state .directory) ≡ 32
 unfolding nodeIn
@@ -214,7 +212,7 @@ entry-bounds (Entry.Erase budget) state flash m t =
     judged-bounds (eraseVerdict (nodeIn state) (length (wordsOf 2 flash))) (nodeIn state) (lentFlash (wordsOf 2 flash)) (eraseEffect (nodeIn state) budget (wordsOf 2 flash))
     (erase-bounds (unitOf (wordsOf 2 flash)) (nodeIn state .erasing) budget (omega (arith, length-words-of 2 flash, f .0))) t
 
-pub nothing-cut : NothingCut
+pub nothing-cut : NothingCut entries
 nothing-cut e state flash h =
     let m = done-made e state flash h in
     let a = answerIn e state flash in

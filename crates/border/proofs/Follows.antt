@@ -17,6 +17,7 @@ use Rattle.demands.specs.Flash.{erasingSite}
 use Rattle.demands.specs.Files.{Spares as SparedBy, Runs as Calls}
 use Rattle.logodwen.specs.Bytes.{wordsOf}
 use Rattle.logodwen.specs.StateBytes.{nodeIn, progressIn}
+use Rattle.border.specs.Exactly.{entries}
 use Rattle.border.specs.Host.{Entry, InC, stateAfter, flashAfter, onWords}
 use Rattle.border.specs.ReadsBack.{sectorIn, Spares, Runs}
 use Rattle.border.proofs.Steps.{Step, entry-step, undone-left}
@@ -40,28 +41,28 @@ pub record Follows (s name : ℕ) (state flash later after : List ℕ) : Type 0 
   pub calls : Calls logodwen s name (nodeIn state) (wordsOf 2 flash) (nodeIn later) (wordsOf 2 after)
 
 module _ {s name : ℕ} {state flash : List ℕ} where
-  entry-follows : (e : Entry) (later after : List ℕ) → InC e → Spares s name e later after → Follows s name state flash later after
-      → Follows s name state flash (stateAfter e later after) (flashAfter e later after)
+  entry-follows : (e : Entry) (later after : List ℕ) → InC e → Spares entries s name e later after → Follows s name state flash later after
+      → Follows s name state flash (stateAfter entries e later after) (flashAfter entries e later after)
   entry-follows e later after c p f = by (entry-step e later after)
     where
-      by : Step e later after → Follows s name state flash (stateAfter e later after) (flashAfter e later after)
+      by : Step e later after → Follows s name state flash (stateAfter entries e later after) (flashAfter entries e later after)
       by (Step.Leaves l) =
-          subst (λ (x : List ℕ). Follows s name state flash x (flashAfter e later after)) (sym (l .node))
+          subst (λ (x : List ℕ). Follows s name state flash x (flashAfter entries e later after)) (sym (l .node))
           (subst (λ (x : List ℕ). Follows s name state flash later x) (sym (l .words)) f)
       by (Step.Makes m) =
           let moved = made-moves e later after c (f .stands) m in
           let site = ap (λ (n : Node). erasingSite (n .erasing)) (moved .node) in
           let spares : SparedBy logodwen s name (onWords e) (nodeIn later) (wordsOf 2 after) =
-          record { erasure = λ q. p .erasure (erasing-sector (stateAfter e later after) s (site ∙ q)); attribute = p .attribute } in
+          record { erasure = λ q. p .erasure (erasing-sector (stateAfter entries e later after) s (site ∙ q)); attribute = p .attribute } in
           record {
             stands = moved .stands;
             calls =
-                subst (λ (n : Node). Calls logodwen s name (nodeIn state) (wordsOf 2 flash) n (wordsOf 2 (flashAfter e later after))) (sym (moved .node))
+                subst (λ (n : Node). Calls logodwen s name (nodeIn state) (wordsOf 2 flash) n (wordsOf 2 (flashAfter entries e later after))) (sym (moved .node))
                 (subst (λ (x : List ℕ). Calls logodwen s name (nodeIn state) (wordsOf 2 flash) (nodeAfter logodwen (onWords e) (nodeIn later) (wordsOf 2 after)) x) (sym (moved .words))
                 (Calls.Then (f .calls) (onWords e) (lends e c) spares));
           }
 
-  pub run-follows : {later after : List ℕ} → Stands state flash → Runs s name state flash later after → Follows s name state flash later after
+  pub run-follows : {later after : List ℕ} → Stands state flash → Runs entries s name state flash later after → Follows s name state flash later after
   run-follows st Runs.Here = record { stands = st; calls = Calls.Here }
   run-follows st (Runs.Then {later = later} {after = after} r e c p) = entry-follows e later after c p (run-follows st r)
   run-follows st (Runs.Refused {later = later} {after = after} r e other h) =

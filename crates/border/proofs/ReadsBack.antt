@@ -38,11 +38,14 @@ use Rattle.logodwen.specs.Entry.{Answered, memoryWords, replyWords, isSet}
 use Rattle.logodwen.proofs.Runs.{length-words-of}
 use Rattle.logodwen.proofs.Entering.{request-fine}
 use Rattle.logodwen.proofs.Small.{size-most}
+use Rattle.border.specs.Exactly.{entries}
 use Rattle.border.specs.Host.{Entry, InC, answerOf, numberAfter, stateAfter, flashAfter, isDone, Hosted}
-use Rattle.border.specs.ReadsBack.{fileWrite, fileRead, nameIn, endNumber, wholeNumber, sectorIn, sectorByte, Runs, Reads, Written, ReadsBack}
+use Rattle.border.specs.Kept.{wholeNumber}
+use Rattle.border.specs.ReadsBack.{fileWrite, fileRead, nameIn, endNumber, sectorIn, sectorByte, Runs, Reads, Written, ReadsBack}
 use Rattle.border.proofs.Runs.{words-of-below, words-two, first-word, words-bytes-of, store-laid, store-front}
 use Rattle.border.proofs.Steps.{Made, done-made, done-taken}
 use Rattle.border.proofs.Stands.{Stands, Moved, made-moves, hosted-stands}
+use Rattle.border.proofs.Delivered.{asked, does, number-is, delivered, reply-bytes}
 use Rattle.border.proofs.Follows.{no-erasing, run-follows}
 
 -- the words of the two packets
@@ -78,7 +81,7 @@ module _ (n : Node) (clock link bc : ℕ) (errors : Bool) (packet : List ℕ) (l
 
 module _ (state flash : List ℕ) (st : Stands state flash) (clock link bc errors : ℕ) (file : List ℕ) (m : Memories) (reply : List ℕ)
     (c : InC (Entry.Request clock link bc errors (fileWrite file) m reply)) (even : length file % 2 ≡ 0)
-    (h : numberAfter (Entry.Request clock link bc errors (fileWrite file) m reply) state flash ≡ endNumber) where
+    (h : numberAfter entries (Entry.Request clock link bc errors (fileWrite file) m reply) state flash ≡ endNumber) where
   abbrev write : Entry
   write = Entry.Request clock link bc errors (fileWrite file) m reply
 
@@ -145,7 +148,7 @@ module _ (state flash : List ℕ) (st : Stands state flash) (clock link bc error
   file-bytes = ap (bytesOf 2) stored-file ∙ words-bytes-of file below even
 
   -- the bytes stand in it
-  file-stands : flashAfter write state flash ≡ laid flash (sectorByte (place .sector)) file
+  file-stands : flashAfter entries write state flash ≡ laid flash (sectorByte (place .sector)) file
   file-stands =
       let start : (startOf (unitOf words) (place .sector) + 0) * 2 ≡ sectorByte (place .sector) =
       ap (λ (k : ℕ). (k + 0) * 2) (ap (λ (u : ℕ). startOf u (place .sector)) unit) ∙ omega arith in
@@ -156,81 +159,61 @@ module _ (state flash : List ℕ) (st : Stands state flash) (clock link bc error
       ∙ (λ i. laid flash (start i) (file-bytes i))
 
   -- a File Read
-  module _ (later after : List ℕ) (run : Runs (place .sector) (nameIn file) (stateAfter write state flash) (flashAfter write state flash) later after) (quiet : sectorIn later ≡ 0)
+  module _ (later after : List ℕ) (run : Runs entries (place .sector) (nameIn file) (stateAfter entries write state flash) (flashAfter entries write state flash) later after) (quiet : sectorIn later ≡ 0)
       (clock′ link′ bc′ : ℕ) (header : List ℕ) (m′ : Memories) (reply′ : List ℕ) (whole : bc′ % 4 ≡ 3) (two : length header ≡ 2) (named : nameIn header ≡ nameIn file)
-      (done : isDone (numberAfter (Entry.Request clock′ link′ bc′ 0 (fileRead header) m′ reply′) later after) ≡ true) where
-    abbrev read : Entry
-    read = Entry.Request clock′ link′ bc′ 0 (fileRead header) m′ reply′
+      (done : isDone (numberAfter entries (Entry.Request clock′ link′ bc′ 0 (fileRead header) m′ reply′) later after) ≡ true) where
+    abbrev asking : List ℕ
+    asking = wordsOf 2 (fileRead header)
 
-    abbrev asked : List ℕ
-    asked = wordsOf 2 (fileRead header)
-
-    abbrev r : Outcome
-    r = requestOf (nodeIn later) clock′ link′ bc′ false asked (lent (wordsOf 2 after) (memoryWords m′) (replyWords reply′))
-
-    reading : Made read later after
-    reading = done-made read later after done
-
-    asked-two : length asked ≡ 2
-    asked-two = length-words-of 2 (fileRead header) ∙ omega arith
-
-    delivered : Delivered logodwen (nodeIn later) clock′ link′ bc′ false asked (lent (wordsOf 2 after) (memoryWords m′) (replyWords reply′))
-    delivered =
-        record {
-          taken = done-taken (r .turn .answer) (ap isDone (sym (reading .number)) ∙ done);
-          clean = refl;
-          least = omega (arith, asked-two);
-          most = omega (arith, asked-two);
-          whole = whole;
-        }
+    asking-two : length asking ≡ 2
+    asking-two = length-words-of 2 (fileRead header) ∙ omega arith
 
     file-named : nameIn file ≡ fileName (drop 1 packet)
     file-named = sym (ap nameOf (ap (λ (x : List ℕ). getD x 0 0) stored-file ∙ first-word file even))
 
-    asked-named : nameOf (getD asked 1 0) ≡ fileName (drop 1 packet)
-    asked-named =
+    asking-named : nameOf (getD asking 1 0) ≡ fileName (drop 1 packet)
+    asking-named =
         ap nameOf (ap (λ (x : List ℕ). getD x 1 0) (read-words header) ∙ first-word header (omega arith)) ∙ named ∙ file-named
 
     calls : Calls logodwen (place .sector) (fileName (drop 1 packet)) (o .turn .node) (o .after .flash) (nodeIn later) (wordsOf 2 after)
     calls =
         subst (λ (k : ℕ). Calls logodwen (place .sector) k (o .turn .node) (o .after .flash) (nodeIn later) (wordsOf 2 after)) file-named
         (subst (λ (x : Node). Calls logodwen (place .sector) (nameIn file) x (o .after .flash) (nodeIn later) (wordsOf 2 after)) (moved .node)
-        (subst (λ (x : List ℕ). Calls logodwen (place .sector) (nameIn file) (nodeIn (stateAfter write state flash)) x (nodeIn later) (wordsOf 2 after)) (moved .words)
+        (subst (λ (x : List ℕ). Calls logodwen (place .sector) (nameIn file) (nodeIn (stateAfter entries write state flash)) x (nodeIn later) (wordsOf 2 after)) (moved .words)
         (run-follows (moved .stands) run .calls)))
 
-    answered : (r .turn .answer ≡ Answer.Reply (replied 3 (length (drop 1 packet) + 2))) × (take (length (drop 1 packet)) (r .after .reply) ≡ drop 1 packet)
-    answered =
+    abbrev r : Outcome
+    r = does clock′ link′ bc′ (fileRead header) m′ reply′ later after
+
+    answers : (r .turn .answer ≡ Answer.Reply (replied 3 (length (drop 1 packet) + 2))) × (take (length (drop 1 packet)) (r .after .reply) ≡ drop 1 packet)
+    answers =
         words-back n words (st .reached) clock link bc (isSet errors) packet (memoryWords m) (replyWords reply) (place .sector)
         (words-of-below (fileWrite file) (c .4)) command (place .placed) short (ap (λ (x : Outcome). x .turn .answer) did)
-        (nodeIn later) (wordsOf 2 after) calls (no-erasing later quiet) clock′ link′ bc′ false asked (memoryWords m′) (replyWords reply′)
-        (ap (isCommand 0x05) (read-words header)) asked-two asked-named delivered
+        (nodeIn later) (wordsOf 2 after) calls (no-erasing later quiet) clock′ link′ bc′ false asking (memoryWords m′) (replyWords reply′)
+        (ap (isCommand 0x05) (read-words header)) asking-two asking-named
+        (delivered clock′ link′ bc′ (fileRead header) m′ reply′ later after done whole (omega arith) (omega arith))
 
-    number-read : numberAfter read later after ≡ wholeNumber (length file / 2 + 2)
-    number-read = reading .number ∙ ap answerNumber (answered .0) ∙ ap (λ (k : ℕ). wholeNumber (k + 2)) count
+    reads-file : (numberAfter entries (asked clock′ link′ bc′ (fileRead header) m′ reply′ later after) later after ≡ wholeNumber (length file / 2 + 2))
+        × (take (length file) (answerOf entries (asked clock′ link′ bc′ (fileRead header) m′ reply′ later after) later after .runs .reply) ≡ file)
+    reads-file =
+        let long : length (drop 1 packet) * 2 ≡ length file = omega (arith, count) in (
+          number-is clock′ link′ bc′ (fileRead header) m′ reply′ later after done
+          ∙ ap answerNumber (answers .0)
+          ∙ ap (λ (k : ℕ). wholeNumber (k + 2)) count,
+          ap (λ (k : ℕ). take k (answerOf entries (asked clock′ link′ bc′ (fileRead header) m′ reply′ later after) later after .runs .reply)) (sym long)
+          ∙ reply-bytes clock′ link′ bc′ (fileRead header) m′ reply′ later after done (length (drop 1 packet)) (drop 1 packet) refl (answers .1)
+          ∙ file-bytes,
+        )
 
-    bytes-read : take (length file) (answerOf read later after .runs .reply) ≡ file
-    bytes-read =
-        let long : length file ≡ length (drop 1 packet) * 2 = omega (arith, count) in
-        let front : length (drop 1 packet) ≤ length (r .after .reply) =
-        omega (arith, length-take (length (drop 1 packet)) (r .after .reply), ap length (answered .1)) in
-        ap (λ (a : Answered). take (length file) (a .runs .reply)) (reading .does)
-        ∙ ap (λ (k : ℕ). take k (storeWords 2 (r .after .reply) reply′)) long
-        ∙ store-front (r .after .reply) reply′ (length (drop 1 packet)) front
-        ∙ ap (bytesOf 2) (answered .1)
-        ∙ file-bytes
-
-  file-written : Written file flash (stateAfter write state flash) (flashAfter write state flash)
+  file-written : Written entries file flash (stateAfter entries write state flash) (flashAfter entries write state flash)
   file-written =
       record {
         sector = place .sector;
         is = fits .sector;
         stands = file-stands;
-        reads = λ later after run quiet clock′ link′ bc′ header m′ reply′ whole two named done. (
-          number-read later after run quiet clock′ link′ bc′ header m′ reply′ whole two named done,
-          bytes-read later after run quiet clock′ link′ bc′ header m′ reply′ whole two named done,
-        );
+        reads = reads-file;
       }
 
-pub reads-back : ReadsBack
+pub reads-back : ReadsBack entries
 reads-back state flash hosted clock link bc errors file m reply c even h =
     file-written state flash (hosted-stands hosted) clock link bc errors file m reply c even h

@@ -1,6 +1,6 @@
 -- Words in runs of bytes: how small they are, that words stored in a run are its words, and that words laid into a run are bytes laid into
 -- it. Assumes nothing.
-use Prim.Native.Nat.{ℕ, zero, suc, _+_, _*_, _/_, _%_, _≤_, _<_}
+use Prim.Native.Nat.{ℕ, zero, suc, _+_, _*_, _/_, _%_, _^_, _≤_, _<_}
 use native.Mathlib.Omega.{arith}
 use mathlib.Core.Path.{_≡_, refl, sym, ap, _∙_}
 use mathlib.Core.List.{List, [], _∷_, _++_}
@@ -20,34 +20,40 @@ below-laid ws at new h g =
     below-append (take at ws ++ new) (drop (at + length new) ws) (below-append (take at ws) new (below-take at ws h) g)
     (below-drop (at + length new) ws h)
 
--- a word of two bytes
-two-below : (bytes : List ℕ) → Below 256 bytes → valueOf (take 2 bytes) < 65536
-unfolding valueOf
-two-below [] h = omega arith
-two-below (a ∷ []) h = let p = h 0 in omega arith
-two-below (a ∷ b ∷ bytes) h = let p = h 0 in let q = h 1 in omega arith
+-- what is read has the size of its bytes
 
-pub words-below : (n : ℕ) (bytes : List ℕ) → Below 256 bytes → Below 65536 (wordsIn 2 n bytes)
+power-some : (k : ℕ) → 0 < 256 ^ k
+power-some zero = omega arith
+power-some (suc k) = let p = power-some k in omega arith
+
+pub value-below : (k : ℕ) (bs : List ℕ) → Below 256 bs → valueOf (take k bs) < 256 ^ k
+unfolding valueOf
+value-below zero bs h = omega arith
+value-below (suc k) [] h = power-some (suc k)
+value-below (suc k) (b ∷ bs) h = omega (arith, h 0, value-below k bs (λ i. h (suc i)))
+
+pub words-below : (k n : ℕ) (bs : List ℕ) → Below 256 bs → Below (256 ^ k) (wordsIn k n bs)
 unfolding wordsIn
-words-below zero bytes h i = omega arith
-words-below (suc n) bytes h zero = two-below bytes h
-words-below (suc n) bytes h (suc i) = words-below n (drop 2 bytes) (below-drop 2 bytes h) i
+words-below k zero bs h i = power-some k
+words-below k (suc n) bs h zero = value-below k bs h
+words-below k (suc n) bs h (suc i) = words-below k n (drop k bs) (below-drop k bs h) i
 
 pub words-of-below : (bytes : List ℕ) → Below 256 bytes → Below 65536 (wordsOf 2 bytes)
 unfolding wordsOf
-words-of-below bytes h = words-below (length bytes / 2) bytes h
+words-of-below bytes h = words-below 2 (length bytes / 2) bytes h
 
--- the bytes of words
-digits-below : (k x : ℕ) → Below 256 (digitsOf k x)
+-- what is stored is below 256
+
+pub below-digits : (k x : ℕ) → Below 256 (digitsOf k x)
 unfolding digitsOf
-digits-below zero x i = omega arith
-digits-below (suc k) x zero = omega arith
-digits-below (suc k) x (suc i) = digits-below k (x / 256) i
+below-digits zero x i = omega arith
+below-digits (suc k) x zero = omega arith
+below-digits (suc k) x (suc i) = below-digits k (x / 256) i
 
-pub bytes-below : (k : ℕ) (ws : List ℕ) → Below 256 (bytesOf k ws)
+pub below-bytes : (k : ℕ) (ws : List ℕ) → Below 256 (bytesOf k ws)
 unfolding bytesOf
-bytes-below k [] i = omega arith
-bytes-below k (w ∷ ws) i = below-append (digitsOf k w) (bytesOf k ws) (digits-below k w) (bytes-below k ws) i
+below-bytes k [] i = omega arith
+below-bytes k (w ∷ ws) i = below-append (digitsOf k w) (bytesOf k ws) (below-digits k w) (below-bytes k ws) i
 
 -- words stored over all words of a run are then its words
 pub stored-words : (ws bytes : List ℕ) → Below 65536 ws → length ws ≡ length bytes / 2 → wordsOf 2 (storeWords 2 ws bytes) ≡ ws
@@ -60,7 +66,7 @@ stored-words ws bytes h e =
     ∙ words-bytes 2 ws (drop (0 + length (bytesOf 2 ws)) bytes) h
 
 pub stored-below : (ws bytes : List ℕ) → Below 256 bytes → Below 256 (storeWords 2 ws bytes)
-stored-below ws bytes h = below-laid bytes 0 (bytesOf 2 ws) h (bytes-below 2 ws)
+stored-below ws bytes h = below-laid bytes 0 (bytesOf 2 ws) h (below-bytes 2 ws)
 
 -- the words of a run that starts with two bytes
 pub words-two : (a b : ℕ) (bytes : List ℕ) → wordsOf 2 (a ∷ b ∷ bytes) ≡ valueOf (a ∷ b ∷ []) ∷ wordsOf 2 bytes

@@ -18,6 +18,7 @@ use Rattle.logodwen.specs.StateBytes.{encodeOf, nodeIn, areState}
 use Rattle.logodwen.specs.Kept.{Typed}
 use Rattle.logodwen.proofs.Runs.{length-words-of}
 use Rattle.logodwen.proofs.ThereAndBack.{decoded-encoded}
+use Rattle.border.specs.Exactly.{entries}
 use Rattle.border.specs.Host.{Entry, InC, numberAfter, stateAfter, flashAfter, onWords, isDone, Hosted}
 use Rattle.border.proofs.Runs.{words-of-below, stored-words, stored-below}
 use Rattle.border.proofs.Flash.{flash-below, flash-size}
@@ -75,9 +76,9 @@ clocked (Entry.Erase budget) c = tt
 
 -- a call that is made: its state and its flash are those that the bytes then stand for
 pub record Moved (e : Entry) (state flash : List ℕ) : Type 0 where
-  pub node : nodeIn (stateAfter e state flash) ≡ nodeAfter logodwen (onWords e) (nodeIn state) (wordsOf 2 flash)
-  pub words : wordsOf 2 (flashAfter e state flash) ≡ flashOf logodwen (onWords e) (nodeIn state) (wordsOf 2 flash)
-  pub stands : Stands (stateAfter e state flash) (flashAfter e state flash)
+  pub node : nodeIn (stateAfter entries e state flash) ≡ nodeAfter logodwen (onWords e) (nodeIn state) (wordsOf 2 flash)
+  pub words : wordsOf 2 (flashAfter entries e state flash) ≡ flashOf logodwen (onWords e) (nodeIn state) (wordsOf 2 flash)
+  pub stands : Stands (stateAfter entries e state flash) (flashAfter entries e state flash)
 
 pub made-moves : (e : Entry) (state flash : List ℕ) → InC e → Stands state flash → Made e state flash → Moved e state flash
 made-moves e state flash c s m =
@@ -92,25 +93,25 @@ made-moves e state flash c s m =
     let reached = Reached.Then (s .reached) (onWords e) (lends e c) in
     let small = call-small (onWords e) (nodeIn state) words (clocked e c) (s .small) in
     record {
-      node = encoded-node next left (stateAfter e state flash) reached small below (m .node);
+      node = encoded-node next left (stateAfter entries e state flash) reached small below (m .node);
       words = read;
-      stands = reached-stands next left (stateAfter e state flash) (flashAfter e state flash) reached small below (m .node) read bytes;
+      stands = reached-stands next left (stateAfter entries e state flash) (flashAfter entries e state flash) reached small below (m .node) read bytes;
     }
 
 -- every entry hands them on
-pub next-stands : (e : Entry) (state flash : List ℕ) → InC e → Stands state flash → Stands (stateAfter e state flash) (flashAfter e state flash)
+pub next-stands : (e : Entry) (state flash : List ℕ) → InC e → Stands state flash → Stands (stateAfter entries e state flash) (flashAfter entries e state flash)
 next-stands e state flash c s = by (entry-step e state flash)
   where
-    by : Step e state flash → Stands (stateAfter e state flash) (flashAfter e state flash)
+    by : Step e state flash → Stands (stateAfter entries e state flash) (flashAfter entries e state flash)
     by (Step.Leaves l) =
-        subst (λ (x : List ℕ). Stands x (flashAfter e state flash)) (sym (l .node)) (subst (λ (x : List ℕ). Stands state x) (sym (l .words)) s)
+        subst (λ (x : List ℕ). Stands x (flashAfter entries e state flash)) (sym (l .node)) (subst (λ (x : List ℕ). Stands state x) (sym (l .words)) s)
     by (Step.Makes m) = made-moves e state flash c s m .stands
 
 -- a start gives them
 first-stands : (kind ports subdetector program version tests clock : ℕ) (state flash : List ℕ)
     → InC (Entry.Start kind ports subdetector program version tests clock) → Below 256 flash
-    → numberAfter (Entry.Start kind ports subdetector program version tests clock) state flash ≡ 0
-    → Stands (stateAfter (Entry.Start kind ports subdetector program version tests clock) state flash) flash
+    → numberAfter entries (Entry.Start kind ports subdetector program version tests clock) state flash ≡ 0
+    → Stands (stateAfter entries (Entry.Start kind ports subdetector program version tests clock) state flash) flash
 first-stands kind ports subdetector program version tests clock state flash c b h =
     by (entry-step begun state flash)
   where
@@ -120,16 +121,16 @@ first-stands kind ports subdetector program version tests clock state flash c b 
     words : List ℕ
     words = wordsOf 2 flash
 
-    by : Step begun state flash → Stands (stateAfter begun state flash) flash
+    by : Step begun state flash → Stands (stateAfter entries begun state flash) flash
     by (Step.Leaves l) = absurd (false≢true (sym (refusal-undone (l .refusal)) ∙ ap isDone (sym (l .number) ∙ h)))
     by (Step.Makes m) =
         let taken = start-taken kind ports subdetector program version tests clock state flash (m .fine) in
-        reached-stands (startOf kind ports subdetector program version tests clock words .node) words (stateAfter begun state flash) flash
+        reached-stands (startOf kind ports subdetector program version tests clock words .node) words (stateAfter entries begun state flash) flash
         (Reached.First kind ports subdetector program version tests clock words taken)
         (start-small kind ports subdetector program version tests clock words (clocked begun c)) (words-of-below flash b)
         (m .node ∙ ap encodeOf (sym (no _ taken refl))) refl b
 
-pub hosted-stands : {state flash : List ℕ} → Hosted state flash → Stands state flash
+pub hosted-stands : {state flash : List ℕ} → Hosted entries state flash → Stands state flash
 hosted-stands (Hosted.First kind ports subdetector program version tests clock state flash c b h) =
     first-stands kind ports subdetector program version tests clock state flash c b h
 hosted-stands (Hosted.Then {state = state} {flash = flash} r e c) = next-stands e state flash c (hosted-stands r)

@@ -13,7 +13,7 @@ use Rattle.node.specs.State.{refusalNumber}
 use Rattle.node.specs.Valid.{kindOk, portsOk}
 use Rattle.node.specs.Refusals.{cause}
 use Rattle.node.specs.Effect.{Lent, lent, Outcome, outcome}
-use Rattle.node.specs.Calls.{lentReply, lentFlash, startOf, requestOf, replyOf, pollOf, eraseOf}
+use Rattle.node.specs.Calls.{lentReply, lentFlash, given, startBy, startOf, requestOf, replyOf, pollOf, eraseOf}
 use Rattle.node.specs.declared.Answer.{Answer}
 use Rattle.node.specs.declared.Refusal.{Refusal}
 use Rattle.node.specs.declared.Verdict.{Verdict}
@@ -29,7 +29,11 @@ use Rattle.logodwen.specs.Entry.{Answered, answered, inBytes, told, entered, re
 use Rattle.logodwen.proofs.Runs.{length-words-of}
 use Rattle.logodwen.proofs.Entering.{start-done}
 use Rattle.logodwen.proofs.ThereAndBack.{encoded-decoded, bytes-kept}
+use Rattle.border.specs.Exactly.{entries}
 use Rattle.border.specs.Host.{Entry, answerOf, numberAfter, stateAfter, flashLeft, flashAfter, onWords, isDone}
+use Rattle.border.specs.Answers.{answerIn}
+use Rattle.border.proofs.Fine.{start-fine}
+use Rattle.border.proofs.Exactly.{done-low}
 
 -- an entry as its definition has it: the verdict, the runs that it is lent, and what the node's call comes to
 
@@ -58,7 +62,7 @@ outcomeOf (Entry.Reply clock slave bc errors status address packet reply) state 
 outcomeOf (Entry.Poll clock reply) state flash = pollOf (nodeIn state) clock (replyWords reply)
 outcomeOf (Entry.Erase budget) state flash = eraseOf (nodeIn state) budget (wordsOf 2 flash)
 
-entry-is : (e : Entry) (state flash : List ℕ) → answerOf e state flash ≡ entered (checkOf e state flash) state (runsOf e flash) (outcomeOf e state flash)
+entry-is : (e : Entry) (state flash : List ℕ) → answerOf entries e state flash ≡ entered (checkOf e state flash) state (runsOf e flash) (outcomeOf e state flash)
 unfolding startEntry requestEntry replyEntry pollEntry eraseEntry
 entry-is (Entry.Start kind ports subdetector program version tests clock) state flash = refl
 entry-is (Entry.Request clock link bc errors packet m reply) state flash = refl
@@ -67,7 +71,7 @@ entry-is (Entry.Poll clock reply) state flash = refl
 entry-is (Entry.Erase budget) state flash = refl
 
 -- its parts are those of the node's call: the answer ..
-answer-is : (e : Entry) (state flash : List ℕ) → outcomeOf e state flash .turn .answer ≡ turnOf logodwen (onWords e) (nodeIn state) (wordsOf 2 flash) .answer
+answer-is : (e : Entry) (state flash : List ℕ) → outcomeOf e state flash .turn .answer ≡ answerIn e state flash
 answer-is (Entry.Start kind ports subdetector program version tests clock) state flash = refl
 answer-is (Entry.Request clock link bc errors packet m reply) state flash = refl
 answer-is (Entry.Reply clock slave bc errors status address packet reply) state flash = refl
@@ -78,14 +82,10 @@ answer-is (Entry.Erase budget) state flash = refl
 pub start-begins : (kind ports subdetector program version tests clock : ℕ) (state flash : List ℕ)
     → startCheck kind ports subdetector state (length flash / 2) ≡ Verdict.Fine
     → startOf kind ports subdetector program version tests clock (wordsOf 2 flash) .answer ≡ Answer.Started
-unfolding startCheck
+unfolding startOf
 start-begins kind ports subdetector program version tests clock state flash h =
-    let size : Bool = not (eqb (length flash / 2) 32768) in
-    let numbers : Bool = not (portsOk ports) || not (kindOk kind) || ltb 7 subdetector in
-    let none =
-    fine-tells (cause Refusal.FlashSize size ∷ cause Refusal.Number numbers ∷ cause Refusal.State (not (eqb (length state) 172)) ∷ []) h in
-    start-done kind ports subdetector program version tests clock (wordsOf 2 flash)
-    (length-words-of 2 flash ∙ eqb-true (length flash / 2) 32768 (not-false (eqb (length flash / 2) 32768) (none .0))) (none .1 .0)
+    let g = given kind ports subdetector program version tests clock (length (wordsOf 2 flash)) in
+    ap (λ (v : Verdict). startBy v g (wordsOf 2 flash) .answer) (start-fine kind ports subdetector state flash h)
 
 pub start-taken : (kind ports subdetector program version tests clock : ℕ) (state flash : List ℕ)
     → startCheck kind ports subdetector state (length flash / 2) ≡ Verdict.Fine
@@ -121,17 +121,17 @@ flash-left (Entry.Erase budget) number state flash = refl
 -- the node's call made
 pub record Made (e : Entry) (state flash : List ℕ) : Type 0 where
   pub fine : checkOf e state flash ≡ Verdict.Fine
-  pub does : answerOf e state flash ≡ told (inBytes (outcomeOf e state flash) (runsOf e flash))
-  pub number : numberAfter e state flash ≡ answerNumber (turnOf logodwen (onWords e) (nodeIn state) (wordsOf 2 flash) .answer)
-  pub node : stateAfter e state flash ≡ encodeOf (nodeAfter logodwen (onWords e) (nodeIn state) (wordsOf 2 flash))
-  pub words : Below 256 flash → flashAfter e state flash ≡ storeWords 2 (flashOf logodwen (onWords e) (nodeIn state) (wordsOf 2 flash)) flash
+  pub does : answerOf entries e state flash ≡ told (inBytes (outcomeOf e state flash) (runsOf e flash))
+  pub number : numberAfter entries e state flash ≡ answerNumber (answerIn e state flash)
+  pub node : stateAfter entries e state flash ≡ encodeOf (nodeAfter logodwen (onWords e) (nodeIn state) (wordsOf 2 flash))
+  pub words : Below 256 flash → flashAfter entries e state flash ≡ storeWords 2 (flashOf logodwen (onWords e) (nodeIn state) (wordsOf 2 flash)) flash
 
 -- all as it was
 pub record Left (e : Entry) (state flash : List ℕ) : Type 0 where
   pub refusal : Refusal
-  pub number : numberAfter e state flash ≡ refusalNumber refusal
-  pub node : stateAfter e state flash ≡ state
-  pub words : flashAfter e state flash ≡ flash
+  pub number : numberAfter entries e state flash ≡ refusalNumber refusal
+  pub node : stateAfter entries e state flash ≡ state
+  pub words : flashAfter entries e state flash ≡ flash
 
 pub data Step (e : Entry) (state flash : List ℕ) : Type 0 where
   Leaves : Left e state flash → Step e state flash
@@ -170,14 +170,6 @@ refusal-undone Refusal.State = refl
 refusal-undone Refusal.Busy = refl
 refusal-undone Refusal.Unasked = refl
 
-pub taken-done : (a : Answer) → isRefused a ≡ false → isDone (answerNumber a) ≡ true
-taken-done (Answer.Refused r) h = absurd (false≢true (sym h))
-taken-done Answer.Started h = refl
-taken-done (Answer.Reply r) h = eq-eqb (answerNumber (Answer.Reply r) % 256) 0 (omega arith)
-taken-done (Answer.Ask a) h = eq-eqb (answerNumber (Answer.Ask a) % 256) 0 (omega arith)
-taken-done Answer.Waiting h = refl
-taken-done (Answer.Erased count) h = eq-eqb (answerNumber (Answer.Erased count) % 256) 0 (omega arith)
-
 pub done-taken : (a : Answer) → isDone (answerNumber a) ≡ true → isRefused a ≡ false
 done-taken (Answer.Refused r) h = absurd (false≢true (sym (refusal-undone r) ∙ h))
 done-taken Answer.Started h = refl
@@ -187,7 +179,7 @@ done-taken Answer.Waiting h = refl
 done-taken (Answer.Erased count) h = refl
 
 -- an entry that is done makes the node's call
-pub done-made : (e : Entry) (state flash : List ℕ) → isDone (numberAfter e state flash) ≡ true → Made e state flash
+pub done-made : (e : Entry) (state flash : List ℕ) → isDone (numberAfter entries e state flash) ≡ true → Made e state flash
 done-made e state flash h = by (entry-step e state flash)
   where
     by : Step e state flash → Made e state flash
@@ -195,14 +187,14 @@ done-made e state flash h = by (entry-step e state flash)
     by (Step.Makes m) = m
 
 -- an entry that isn't done leaves the bytes of a state
-pub undone-left : (e : Entry) (state flash : List ℕ) → areState state ≡ true → isDone (numberAfter e state flash) ≡ false → stateAfter e state flash ≡ state
+pub undone-left : (e : Entry) (state flash : List ℕ) → areState state ≡ true → isDone (numberAfter entries e state flash) ≡ false → stateAfter entries e state flash ≡ state
 undone-left e state flash s h = by (entry-step e state flash)
   where
-    call : (m : Made e state flash) (t : Bool) → isRefused (turnOf logodwen (onWords e) (nodeIn state) (wordsOf 2 flash) .answer) ≡ t → stateAfter e state flash ≡ state
+    call : (m : Made e state flash) (t : Bool) → isRefused (answerIn e state flash) ≡ t → stateAfter entries e state flash ≡ state
     call m true q = m .node ∙ ap encodeOf (refused-same (onWords e) (nodeIn state) (wordsOf 2 flash) q) ∙ encoded-decoded state s
     call m false q =
-        absurd (false≢true (sym h ∙ ap isDone (m .number) ∙ taken-done (turnOf logodwen (onWords e) (nodeIn state) (wordsOf 2 flash) .answer) q))
+        absurd (false≢true (sym h ∙ ap isDone (m .number) ∙ eq-eqb (answerNumber (answerIn e state flash) % 256) 0 (done-low (answerIn e state flash) q)))
 
-    by : Step e state flash → stateAfter e state flash ≡ state
+    by : Step e state flash → stateAfter entries e state flash ≡ state
     by (Step.Leaves l) = l .node
-    by (Step.Makes m) = call m (isRefused (turnOf logodwen (onWords e) (nodeIn state) (wordsOf 2 flash) .answer)) refl
+    by (Step.Makes m) = call m (isRefused (answerIn e state flash)) refl

@@ -9,6 +9,7 @@ use Rattle.node.specs.declared.Answer.{Answer}
 use Rattle.demands.specs.Machine.{logodwen, turnOf}
 use Rattle.logodwen.specs.Bytes.{wordsOf}
 use Rattle.logodwen.specs.StateBytes.{nodeIn}
+use Rattle.border.specs.Exactly.{Entries}
 use Rattle.border.specs.Host.{Entry, numberAfter, onWords, isDone}
 
 -- What stands in the bits of a number of 64: kind in 15-8, who in 23-16, from in 31-24, words in 63-32, and 0 in 7-0.
@@ -45,7 +46,7 @@ abbrev pub answerIn : Entry → List ℕ → List ℕ → Answer
 answerIn e state flash = turnOf logodwen (onWords e) (nodeIn state) (wordsOf 2 flash) .answer
 
 -- Any entry that is done, lent any bytes at all.
-abbrev pub NothingCut : Type 0
-NothingCut =
-    (e : Entry) (state flash : List ℕ) → isDone (numberAfter e state flash) ≡ true
-    → Says (numberAfter e state flash) (answerIn e state flash) × Bounds (answerIn e state flash)
+abbrev pub NothingCut : Entries → Type 0
+NothingCut E =
+    (e : Entry) (state flash : List ℕ) → isDone (numberAfter E e state flash) ≡ true
+    → Says (numberAfter E e state flash) (answerIn e state flash) × Bounds (answerIn e state flash)

@@ -1,6 +1,6 @@
 -- A host in C, as it keeps a node: 172 state bytes and the flash's bytes, lent to entry after entry. What an entry is given, what the
--- C types say of it, the bytes that it leaves, and all bytes that a host can come to have. 01 'Covered' and 'Call refusals'. Assumes
--- nothing.
+-- C types say of it, the bytes that it leaves, and all bytes that a host can come to have. As the demands, these are of any five
+-- entries, so that wrong ones can be seen to be shut out. 01 'Covered' and 'Call refusals'. Assumes nothing.
 use Prim.Native.Nat.{ℕ, _%_, _<_}
 use mathlib.Core.Path.{_≡_}
 use mathlib.Core.Bool.{Bool, false}
@@ -11,7 +11,8 @@ use Rattle.memory.specs.Segment.{Memories}
 use Rattle.node.specs.Effect.{lent}
 use Rattle.demands.specs.Machine.{Call}
 use Rattle.logodwen.specs.Bytes.{wordsOf}
-use Rattle.logodwen.specs.Entry.{Answered, memoryWords, replyWords, isSet, startEntry, requestEntry, replyEntry, pollEntry, eraseEntry}
+use Rattle.logodwen.specs.Entry.{Answered, memoryWords, replyWords, isSet}
+use Rattle.border.specs.Exactly.{Entries}
 
 -- An entry, with all that it is given and lent but the state bytes and the flash bytes. Packets, memories and reply buffers are bytes.
 pub data Entry : Type 0 where
@@ -46,22 +47,22 @@ InC (Entry.Poll clock reply) = U32 clock × U8s reply
 InC (Entry.Erase budget) = U64 budget
 
 -- What an entry answers and leaves, lent these state bytes and these flash bytes.
-abbrev pub answerOf : Entry → List ℕ → List ℕ → Answered
-answerOf (Entry.Start kind ports subdetector program version tests clock) state flash =
-    startEntry kind ports subdetector program version tests clock flash state
-answerOf (Entry.Request clock link bc errors packet m reply) state flash =
-    requestEntry clock link bc errors packet state (lent flash m reply)
-answerOf (Entry.Reply clock slave bc errors status address packet reply) state flash =
-    replyEntry clock slave bc errors status address packet state reply
-answerOf (Entry.Poll clock reply) state flash = pollEntry clock state reply
-answerOf (Entry.Erase budget) state flash = eraseEntry budget state flash
+abbrev pub answerOf : Entries → Entry → List ℕ → List ℕ → Answered
+answerOf E (Entry.Start kind ports subdetector program version tests clock) state flash =
+    E .start kind ports subdetector program version tests clock flash state
+answerOf E (Entry.Request clock link bc errors packet m reply) state flash =
+    E .request clock link bc errors packet state (lent flash m reply)
+answerOf E (Entry.Reply clock slave bc errors status address packet reply) state flash =
+    E .reply clock slave bc errors status address packet state reply
+answerOf E (Entry.Poll clock reply) state flash = E .poll clock state reply
+answerOf E (Entry.Erase budget) state flash = E .erase budget state flash
 
 -- The number that it answers, and the state bytes after it.
-abbrev pub numberAfter : Entry → List ℕ → List ℕ → ℕ
-numberAfter e state flash = answerOf e state flash .number
+abbrev pub numberAfter : Entries → Entry → List ℕ → List ℕ → ℕ
+numberAfter E e state flash = answerOf E e state flash .number
 
-abbrev pub stateAfter : Entry → List ℕ → List ℕ → List ℕ
-stateAfter e state flash = answerOf e state flash .state
+abbrev pub stateAfter : Entries → Entry → List ℕ → List ℕ → List ℕ
+stateAfter E e state flash = answerOf E e state flash .state
 
 -- The flash bytes after it: start reads them, reply and poll are not lent them.
 abbrev pub flashLeft : Entry → Answered → List ℕ → List ℕ
@@ -71,8 +72,8 @@ flashLeft (Entry.Reply clock slave bc errors status address packet reply) a flas
 flashLeft (Entry.Poll clock reply) a flash = flash
 flashLeft (Entry.Erase budget) a flash = a .runs .flash
 
-abbrev pub flashAfter : Entry → List ℕ → List ℕ → List ℕ
-flashAfter e state flash = flashLeft e (answerOf e state flash) flash
+abbrev pub flashAfter : Entries → Entry → List ℕ → List ℕ → List ℕ
+flashAfter E e state flash = flashLeft e (answerOf E e state flash) flash
 
 -- The node's call that an entry is: on the words of the bytes that it is lent.
 abbrev pub onWords : Entry → Call
@@ -89,14 +90,14 @@ abbrev pub isDone : ℕ → Bool
 isDone number = eqb (number % 256) 0
 
 -- The state bytes and flash bytes that a host can come to have. Clock, packet, memories and reply buffer are fresh at every entry.
-pub data Hosted : List ℕ → List ℕ → Type 0 where
+pub data Hosted (E : Entries) : List ℕ → List ℕ → Type 0 where
   -- a start answered 0, on any flash bytes, whatever the state bytes were
   First : (kind ports subdetector program version tests clock : ℕ) (state flash : List ℕ)
       → InC (Entry.Start kind ports subdetector program version tests clock) → U8s flash
-      → numberAfter (Entry.Start kind ports subdetector program version tests clock) state flash ≡ 0
-      → Hosted (stateAfter (Entry.Start kind ports subdetector program version tests clock) state flash) flash
+      → numberAfter E (Entry.Start kind ports subdetector program version tests clock) state flash ≡ 0
+      → Hosted E (stateAfter E (Entry.Start kind ports subdetector program version tests clock) state flash) flash
   -- then any entry, lent those, done or refused
-  Then : {state flash : List ℕ} → Hosted state flash → (e : Entry) → InC e → Hosted (stateAfter e state flash) (flashAfter e state flash)
+  Then : {state flash : List ℕ} → Hosted E state flash → (e : Entry) → InC e → Hosted E (stateAfter E e state flash) (flashAfter E e state flash)
   -- or an entry that is refused, whatever flash it was lent
-  Refused : {state flash : List ℕ} → Hosted state flash → (e : Entry) (other : List ℕ) → isDone (numberAfter e state other) ≡ false
-      → Hosted (stateAfter e state other) flash
+  Refused : {state flash : List ℕ} → Hosted E state flash → (e : Entry) (other : List ℕ) → isDone (numberAfter E e state other) ≡ false
+      → Hosted E (stateAfter E e state other) flash
