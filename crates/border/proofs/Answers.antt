@@ -1,6 +1,6 @@
 -- The number of an entry that is done has the node's answer in its bits: each part of an answer is small enough for its place. Assumes
 -- nothing.
-use Prim.Native.Nat.{ℕ, _+_, _*_, _/_, _≤_, _<_}
+use Prim.Native.Nat.{ℕ, _+_, _*_, _/_, _≤_}
 use native.Mathlib.Omega.{arith}
 use mathlib.Core.Path.{_≡_, refl, sym, ap, _∙_, subst}
 use mathlib.Core.Logic.{_⊎_, inl, inr}
@@ -9,12 +9,12 @@ use mathlib.Core.List.{List, [], _∷_}
 use lib.ListN.{length, take, length-take}
 use lib.Dec.{ltb, leb, eqb}
 use borrow.Author.Tests.{eqb-true, leb-true, ltb-false}
-use Rattle.base.proofs.Pick.{pick-case, and-left, and-right}
-use Rattle.flash.specs.Geometry.{unitOf, sizeOf}
+use Rattle.base.proofs.Pick.{pick-case, and-right}
+use Rattle.flash.specs.Geometry.{unitOf}
 use Rattle.flash.specs.Change.{eraseCount}
 use Rattle.flash.specs.declared.Erasing.{Erasing}
 use Rattle.group.specs.Kind.{answer, Answer as SlaveAnswer}
-use Rattle.group.specs.Slaves.{hasSlave, slavesUp, above, slavesOf, nextOf}
+use Rattle.group.specs.Slaves.{hasSlave, slavesUp, above, nextOf}
 use Rattle.group.specs.Fragment.{Assembly, assembly, taken}
 use Rattle.group.specs.Time.{isLate}
 use Rattle.group.specs.Ending.{Sent, zeroReply, groupStatus, sealed, endBy, endOf}
@@ -27,7 +27,7 @@ use Rattle.group.proofs.Sets.{up-tells}
 use Rattle.group.proofs.Takes.{taken-changes}
 use Rattle.node.specs.Effect.{Effect, Lent, lent}
 use Rattle.node.specs.Refusals.{replyVerdict, pollVerdict, eraseVerdict}
-use Rattle.node.specs.Valid.{askOk, gatheringOk, pendingOk, stateOk}
+use Rattle.node.specs.Valid.{askOk, gatheringOk, pendingOk}
 use Rattle.node.specs.Settings.{statusIn}
 use Rattle.node.specs.Slaves.{heard, silent, goesOn, hears, askedAt, replyEffect, pollEffect}
 use Rattle.node.specs.Calls.{judged, lentReply, lentFlash, routed, requestOf, replyOf, pollOf, eraseEffect, eraseOf}
@@ -40,8 +40,8 @@ use Rattle.node.proofs.Routes.{Named, route-case}
 use Rattle.node.proofs.Ranges.{ranges-tell}
 use Rattle.demands.specs.Machine.{isRefused}
 use Rattle.demands.proofs.Taken.{verdictOn, requestEffect}
-use Rattle.logodwen.specs.Bytes.{wordsIn, wordsOf}
-use Rattle.logodwen.specs.StateBytes.{encodeOf, nodeIn, alike, areState}
+use Rattle.logodwen.specs.Bytes.{wordsOf}
+use Rattle.logodwen.specs.StateBytes.{nodeIn, areState}
 use Rattle.logodwen.specs.Number.{answerNumber}
 use Rattle.logodwen.specs.Entry.{memoryWords, replyWords, isSet}
 use Rattle.logodwen.proofs.Runs.{length-words, length-words-of}

@@ -1,6 +1,6 @@
 -- The state bytes that a host has are those of a state, and the directory in them is fresh: by the node's, which they stand for.
 -- Assumes nothing.
-use Prim.Native.Nat.{ℕ, _*_}
+use Prim.Native.Nat.{ℕ}
 use native.Mathlib.Omega.{arith}
 use mathlib.Core.Path.{_≡_, refl, sym, ap, _∙_}
 use mathlib.Core.Bool.{false}

@@ -3,13 +3,13 @@ use Prim.Native.Nat.{ℕ, _+_, _*_, _/_, _%_, _≤_}
 use native.Mathlib.Omega.{arith}
 use mathlib.Core.Path.{_≡_, refl, sym, ap, _∙_, subst}
 use mathlib.Core.Bool.{Bool, true, false}
-use mathlib.Core.List.{List, [], _∷_}
-use lib.ListN.{length, getD, take, drop, length-take}
+use mathlib.Core.List.{List, _∷_}
+use lib.ListN.{length, getD, take, drop}
 use Rattle.base.specs.Pick.{pick}
 use Rattle.base.specs.Words.{laid, Below}
 use Rattle.base.proofs.Part.{below-drop}
 use Rattle.image.specs.Header.{nameOf}
-use Rattle.flash.specs.Geometry.{unitOf, sizeOf, startOf}
+use Rattle.flash.specs.Geometry.{unitOf, startOf}
 use Rattle.flash.specs.declared.Erasing.{Erasing}
 use Rattle.flash.specs.declared.Found.{Found}
 use Rattle.flash.proofs.Changes.{stored-laid}
@@ -25,24 +25,24 @@ use Rattle.node.specs.Calls.{requestOf}
 use Rattle.node.specs.declared.Answer.{Answer}
 use Rattle.node.specs.declared.Node.{Node}
 use Rattle.node.proofs.Why.{placed-tells}
-use Rattle.demands.specs.Machine.{logodwen, isRefused}
-use Rattle.demands.specs.Requests.{end, Delivered, isCommand}
+use Rattle.demands.specs.Machine.{logodwen}
+use Rattle.demands.specs.Requests.{isCommand}
 use Rattle.demands.specs.Files.{fileName, Runs as Calls}
 use Rattle.demands.proofs.Commands.{command-told, Own, answered-own}
 use Rattle.demands.proofs.Writes.{write-did}
 use Rattle.demands.proofs.ReadsBack.{reads-back as words-back}
-use Rattle.logodwen.specs.Bytes.{valueOf, numberAt, wordsOf, bytesOf, storeWords}
+use Rattle.logodwen.specs.Bytes.{valueOf, wordsOf, bytesOf, storeWords}
 use Rattle.logodwen.specs.StateBytes.{nodeIn}
 use Rattle.logodwen.specs.Number.{answerNumber}
-use Rattle.logodwen.specs.Entry.{Answered, memoryWords, replyWords, isSet}
+use Rattle.logodwen.specs.Entry.{memoryWords, replyWords, isSet}
 use Rattle.logodwen.proofs.Runs.{length-words-of}
 use Rattle.logodwen.proofs.Entering.{request-fine}
 use Rattle.logodwen.proofs.Small.{size-most}
 use Rattle.border.specs.Exactly.{entries}
-use Rattle.border.specs.Host.{Entry, InC, answerOf, numberAfter, stateAfter, flashAfter, isDone, Hosted}
+use Rattle.border.specs.Host.{Entry, InC, answerOf, numberAfter, stateAfter, flashAfter, isDone}
 use Rattle.border.specs.Kept.{wholeNumber}
-use Rattle.border.specs.ReadsBack.{fileWrite, fileRead, nameIn, endNumber, sectorIn, sectorByte, Runs, Reads, Written, ReadsBack}
-use Rattle.border.proofs.Runs.{words-of-below, words-two, first-word, words-bytes-of, store-laid, store-front}
+use Rattle.border.specs.ReadsBack.{fileWrite, fileRead, nameIn, endNumber, sectorIn, sectorByte, Runs, Written, ReadsBack}
+use Rattle.border.proofs.Runs.{words-of-below, words-two, first-word, words-bytes-of, store-laid}
 use Rattle.border.proofs.Steps.{Made, done-made, done-taken}
 use Rattle.border.proofs.Stands.{Stands, Moved, made-moves, hosted-stands}
 use Rattle.border.proofs.Delivered.{asked, does, number-is, delivered, reply-bytes}

@@ -1,16 +1,14 @@
 -- The bytes that a host has stand for a state that is reached, with the flash that is reached with it. Assumes nothing.
-use Prim.Native.Nat.{ℕ, _/_}
+use Prim.Native.Nat.{ℕ}
 use mathlib.Core.Path.{_≡_, refl, sym, ap, _∙_, subst}
 use mathlib.Core.Bool.{true, false, false≢true}
 use mathlib.Core.List.{List}
-use lib.ListN.{length}
-use lib.Dec.{eqb}
 use Rattle.base.specs.Words.{Below}
 use Rattle.base.proofs.Pick.{no}
 use Rattle.node.specs.Calls.{startOf}
 use Rattle.node.specs.declared.Node.{Node}
 use Rattle.node.proofs.Ranges.{ranges-told}
-use Rattle.demands.specs.Machine.{Call, logodwen, flashOf, isRefused}
+use Rattle.demands.specs.Machine.{logodwen, flashOf}
 use Rattle.demands.specs.Reached.{Lends16, stateAfter as nodeAfter, Reached}
 use Rattle.demands.proofs.Sound.{reached-sound}
 use Rattle.logodwen.specs.Bytes.{wordsOf}
@@ -23,7 +21,7 @@ use Rattle.border.specs.Host.{Entry, InC, numberAfter, stateAfter, flash
 use Rattle.border.proofs.Runs.{words-of-below, stored-words, stored-below}
 use Rattle.border.proofs.Flash.{flash-below, flash-size}
 use Rattle.border.proofs.Typed.{Small, Clocked, start-small, call-small, small-typed}
-use Rattle.border.proofs.Steps.{Left, Made, Step, entry-step, start-taken, refusal-undone, undone-left}
+use Rattle.border.proofs.Steps.{Made, Step, entry-step, start-taken, refusal-undone, undone-left}
 
 pub record Stands (state flash : List ℕ) : Type 0 where
   pub reached : Reached logodwen (nodeIn state) (wordsOf 2 flash)

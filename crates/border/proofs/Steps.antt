@@ -1,24 +1,19 @@
 -- What an entry comes to: refused, it leaves state and flash bytes; or it is the node's call on the words. Assumes nothing.
 use Prim.Native.Nat.{ℕ, _/_, _%_}
-use native.Mathlib.Omega.{arith}
 use mathlib.Core.Path.{_≡_, refl, sym, ap, _∙_}
-use mathlib.Core.Bool.{Bool, true, false, _||_, not, false≢true}
-use mathlib.Core.List.{List, [], _∷_}
+use mathlib.Core.Bool.{Bool, true, false, false≢true}
+use mathlib.Core.List.{List, []}
 use lib.ListN.{length}
-use lib.Dec.{ltb, eqb}
-use borrow.Author.Tests.{eq-eqb, eqb-true, not-false}
+use borrow.Author.Tests.{eq-eqb}
 use Rattle.base.specs.Words.{Below}
 use Rattle.base.proofs.Pick.{no}
 use Rattle.node.specs.State.{refusalNumber}
-use Rattle.node.specs.Valid.{kindOk, portsOk}
-use Rattle.node.specs.Refusals.{cause}
 use Rattle.node.specs.Effect.{Lent, lent, Outcome, outcome}
 use Rattle.node.specs.Calls.{lentReply, lentFlash, given, startBy, startOf, requestOf, replyOf, pollOf, eraseOf}
 use Rattle.node.specs.declared.Answer.{Answer}
 use Rattle.node.specs.declared.Refusal.{Refusal}
 use Rattle.node.specs.declared.Verdict.{Verdict}
-use Rattle.node.proofs.Verdicts.{fine-tells}
-use Rattle.demands.specs.Machine.{Call, logodwen, turnOf, flashOf, isRefused}
+use Rattle.demands.specs.Machine.{logodwen, flashOf, isRefused}
 use Rattle.demands.specs.Reached.{stateAfter as nodeAfter}
 use Rattle.demands.proofs.Sound.{refused-same}
 use Rattle.logodwen.specs.Bytes.{wordsOf, storeWords}
@@ -26,8 +21,6 @@ use Rattle.logodwen.specs.StateBytes.{encodeOf, nodeIn, areState}
 use Rattle.logodwen.specs.Number.{answerNumber}
 use Rattle.logodwen.specs.Causes.{requestCheck, replyCheck, pollCheck, eraseCheck, startCheck}
 use Rattle.logodwen.specs.Entry.{Answered, answered, inBytes, told, entered, replyWords, runWords, isSet, startEntry, requestEntry, replyEntry, pollEntry, eraseEntry}
-use Rattle.logodwen.proofs.Runs.{length-words-of}
-use Rattle.logodwen.proofs.Entering.{start-done}
 use Rattle.logodwen.proofs.ThereAndBack.{encoded-decoded, bytes-kept}
 use Rattle.border.specs.Exactly.{entries}
 use Rattle.border.specs.Host.{Entry, answerOf, numberAfter, stateAfter, flashLeft, flashAfter, onWords, isDone}
