@@ -22,11 +22,11 @@ use Rattle.border.proofs.Runs.{store-front}
 use Rattle.border.proofs.Steps.{Made, done-made, done-taken}
 
 module _ (clock link bc : ℕ) (packet : List ℕ) (m : Memories) (reply state flash : List ℕ) where
-  abbrev pub asked : Entry
+  abbrev asked : Entry
   asked = Entry.Request clock link bc 0 packet m reply
 
   -- what the node's request comes to
-  abbrev pub does : Outcome
+  abbrev does : Outcome
   does = requestOf (nodeIn state) clock link bc false (wordsOf 2 packet) (lent (wordsOf 2 flash) (memoryWords m) (replyWords reply))
 
   module _ (done : isDone (numberAfter entries asked state flash) ≡ true) where
