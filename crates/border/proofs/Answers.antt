@@ -1,6 +1,6 @@
 -- The number of an entry that is done has the node's answer in its bits: each part of an answer is small enough for its place. Assumes
 -- nothing.
-use Prim.Native.Nat.{ℕ, _+_, _*_, _/_, _≤_}
+use Prim.Native.Nat.{ℕ, _+_, _*_, _/_, _≤_, _<_}
 use native.Mathlib.Omega.{arith}
 use mathlib.Core.Path.{_≡_, refl, sym, ap, _∙_, subst}
 use mathlib.Core.Logic.{_⊎_, inl, inr}
@@ -42,34 +42,34 @@ use Rattle.demands.specs.Machine.{isRefused}
 use Rattle.demands.proofs.Taken.{verdictOn, requestEffect}
 use Rattle.logodwen.specs.Bytes.{wordsOf}
 use Rattle.logodwen.specs.StateBytes.{nodeIn, areState}
-use Rattle.logodwen.specs.Number.{answerNumber}
+use Rattle.logodwen.specs.Number.{fields, answerNumber}
 use Rattle.logodwen.specs.Entry.{memoryWords, replyWords, isSet}
 use Rattle.logodwen.proofs.Runs.{length-words, length-words-of}
 use Rattle.logodwen.proofs.Entering.{reply-fine, poll-fine, erase-fine}
 use Rattle.logodwen.proofs.Small.{size-most}
 use Rattle.border.specs.Exactly.{entries}
 use Rattle.border.specs.Host.{Entry, isDone}
-use Rattle.border.specs.Answers.{Says, Bounds, answerIn, NothingCut}
+use Rattle.border.specs.Answers.{InBits, Says, Bounds, answerIn, NothingCut}
 use Rattle.border.proofs.Fine.{state-sound}
 use Rattle.border.proofs.Steps.{Made, start-begins, done-made, done-taken}
 use Rattle.border.proofs.Replies.{Short, own-replied}
 
 -- an answer within bounds stands in the bits of its number
+fields-in : (k w f n : ℕ) → k < 256 → w < 256 → f < 256 → n < 4294967296 → InBits (fields k w f n) k w f n
+fields-in k w f n p q r s =
+    record { done = omega arith; kind = omega arith; who = omega arith; from = omega arith; words = omega arith; most = s }
+
 bounds-say : (a : Answer) → Bounds a → Says (answerNumber a) a
 bounds-say (Answer.Refused r) b = absurd b
-bounds-say Answer.Started b =
-    record { done = refl; kind = refl; who = refl; from = refl; words = refl; most = omega arith }
-bounds-say (Answer.Reply r) (c, w) =
-    record { done = omega arith; kind = omega arith; who = omega arith; from = omega arith; words = omega arith; most = omega arith }
-bounds-say (Answer.Ask a) (s, from) = by from
+bounds-say Answer.Started b = fields-in 0 0 0 0 (omega arith) (omega arith) (omega arith) (omega arith)
+bounds-say (Answer.Reply r) (c, w) = fields-in 1 (r .bc) 0 (r .words) (omega arith) (omega arith) (omega arith) (omega arith)
+bounds-say (Answer.Ask a) (s, f) = fields-in 2 (a .slave) (a .from) 0 (omega arith) (omega arith) (by f) (omega arith)
   where
-    by : (a .from ≡ 1) ⊎ (a .from ≡ 2) → Says (answerNumber (Answer.Ask a)) (Answer.Ask a)
-    by (inl e) = record { done = omega arith; kind = omega arith; who = omega arith; from = omega arith; words = omega arith; most = omega arith }
-    by (inr e) = record { done = omega arith; kind = omega arith; who = omega arith; from = omega arith; words = omega arith; most = omega arith }
-bounds-say Answer.Waiting b =
-    record { done = refl; kind = refl; who = refl; from = refl; words = refl; most = omega arith }
-bounds-say (Answer.Erased count) b =
-    record { done = omega arith; kind = omega arith; who = omega arith; from = omega arith; words = omega arith; most = omega arith }
+    by : (a .from ≡ 1) ⊎ (a .from ≡ 2) → a .from < 256
+    by (inl e) = omega arith
+    by (inr e) = omega arith
+bounds-say Answer.Waiting b = fields-in 3 0 0 0 (omega arith) (omega arith) (omega arith) (omega arith)
+bounds-say (Answer.Erased count) b = fields-in 0 0 0 count (omega arith) (omega arith) (omega arith) (omega arith)
 
 -- a slave that is asked is one of 24
 next-small : (set b s : ℕ) → nextOf (slavesUp set b) ≡ Next.Slave s → s ≤ 23
@@ -88,8 +88,8 @@ named-from Named.all = inl refl
 request-bounds : (n : Node) (clock link bc : ℕ) (errors : Bool) (packet : List ℕ) (l : Lent) → length (n .directory) ≡ 32
     → Bounds (requestEffect n clock link bc errors packet l .answer)
 request-bounds n clock link bc errors packet l d =
-    route-case (λ r. Bounds (routed r n clock link packet l .answer)) n link bc errors packet (omega arith, omega arith) (omega arith, omega arith)
-    (λ _. (omega arith, omega arith)) (λ id _. own-replied n l packet id clock link d) (λ s h. (h, inl refl))
+    route-case (λ r. Bounds (routed r n clock link packet l .answer)) n link bc errors packet (omega arith, omega arith)
+    (omega arith, omega arith) (λ _. (omega arith, omega arith)) (λ id _. own-replied n l packet id clock link d) (λ s h. (h, inl refl))
     (λ set from s named e. (next-small set 0 s e, named-from named))
 
 -- a slave's answer, where the reply buffer has at most 12,288 words
@@ -136,11 +136,11 @@ one-or-two x h = by (eqb x 1) refl h
 
 gathering-from : (slave : ℕ) (g : Gathering) → gatheringOk slave g ≡ true → (g .from ≡ 1) ⊎ (g .from ≡ 2)
 gathering-from slave g h =
-    let three = hasSlave (g .set) slave && ltb (g .set) 16777216 && leb (g .built .words + 5 * (length (above (g .set) slave) + 1) + 2) 12288 in
-    one-or-two (g .from) (and-right three (eqb (g .from) 1 || eqb (g .from) 2) h)
+    let room = leb (g .built .words + 5 * (length (above (g .set) slave) + 1) + 2) 12288 in
+    one-or-two (g .from) (and-right (hasSlave (g .set) slave && ltb (g .set) 16777216 && room) (eqb (g .from) 1 || eqb (g .from) 2) h)
 
-hears-bounds : (ports : ℕ) (p : Pending) (n : Node) (clock : ℕ) (h : Heard) (words reply : List ℕ) → pendingOk ports p ≡ true → length reply ≤ 12288
-    → Bounds (hears p n clock h words reply .answer)
+hears-bounds : (ports : ℕ) (p : Pending) (n : Node) (clock : ℕ) (h : Heard) (words reply : List ℕ) → pendingOk ports p ≡ true
+    → length reply ≤ 12288 → Bounds (hears p n clock h words reply .answer)
 hears-bounds ports Pending.Nothing n clock h words reply ok b = tt
 hears-bounds ports (Pending.Slave a) n clock h words reply ok b = passed-short reply (answer h words)
 hears-bounds ports (Pending.Group a g) n clock h words reply ok b = by (nextOf (above (g .set) (a .slave))) refl
@@ -152,13 +152,16 @@ hears-bounds ports (Pending.Group a g) n clock h words reply ok b = by (nextOf (
     by Next.Nobody e =
         let k = taken-changes (assembly reply (g .built)) (length (above (g .set) (a .slave))) (a .slave) (answer h words) .size in
         end-short after (statusIn n) (omega arith)
-    by (Next.Slave s) e = (next-small (g .set) (a .slave + 1) s e, gathering-from (a .slave) g (and-right (askOk ports a) (gatheringOk (a .slave) g) ok))
+    by (Next.Slave s) e =
+        (next-small (g .set) (a .slave + 1) s e, gathering-from (a .slave) g (and-right (askOk ports a) (gatheringOk (a .slave) g) ok))
 
-reply-bounds : (n : Node) (clock : ℕ) (errors : Bool) (status address bc : ℕ) (words reply : List ℕ) → pendingOk (n .given .ports) (n .pending) ≡ true
-    → length reply ≤ 12288 → Bounds (replyEffect n clock errors status address bc words reply .answer)
+reply-bounds : (n : Node) (clock : ℕ) (errors : Bool) (status address bc : ℕ) (words reply : List ℕ)
+    → pendingOk (n .given .ports) (n .pending) ≡ true → length reply ≤ 12288
+    → Bounds (replyEffect n clock errors status address bc words reply .answer)
 unfolding replyEffect
 reply-bounds n clock errors status address bc words reply ok b =
-    hears-bounds (n .given .ports) (n .pending) n clock (heard (isLate clock (askedAt (n .pending))) errors status address bc) words reply ok b
+    let h = heard (isLate clock (askedAt (n .pending))) errors status address bc in
+    hears-bounds (n .given .ports) (n .pending) n clock h words reply ok b
 
 poll-bounds : (n : Node) (clock : ℕ) (reply : List ℕ) → pendingOk (n .given .ports) (n .pending) ≡ true → length reply ≤ 12288
     → Bounds (pollEffect n clock reply .answer)
@@ -190,27 +193,37 @@ directory-long state = length-words 2 32 _
 reply-most : (reply : List ℕ) → length (replyWords reply) ≤ 12288
 reply-most reply = omega (arith, length-words-of 2 (take 24576 reply), length-take 24576 reply)
 
-entry-bounds : (e : Entry) (state flash : List ℕ) → Made e state flash → isRefused (answerIn e state flash) ≡ false → Bounds (answerIn e state flash)
+entry-bounds : (e : Entry) (state flash : List ℕ) → Made e state flash → isRefused (answerIn e state flash) ≡ false
+    → Bounds (answerIn e state flash)
 unfolding requestOf replyOf pollOf eraseOf
 entry-bounds (Entry.Start kind ports subdetector program version tests clock) state flash m t =
     subst Bounds (sym (start-begins kind ports subdetector program version tests clock state flash (m .fine))) tt
 entry-bounds (Entry.Request clock link bc errors packet mem reply) state flash m t =
+    let n = nodeIn state in
+    let words = wordsOf 2 packet in
     let l : Lent = lent (wordsOf 2 flash) (memoryWords mem) (replyWords reply) in
-    judged-bounds (verdictOn (nodeIn state) link (wordsOf 2 packet) l) (nodeIn state) l (requestEffect (nodeIn state) clock link bc (isSet errors) (wordsOf 2 packet) l)
-    (request-bounds (nodeIn state) clock link bc (isSet errors) (wordsOf 2 packet) l (directory-long state)) t
+    judged-bounds (verdictOn n link words l) n l (requestEffect n clock link bc (isSet errors) words l)
+    (request-bounds n clock link bc (isSet errors) words l (directory-long state)) t
 entry-bounds (Entry.Reply clock slave bc errors status address packet reply) state flash m t =
     let f = reply-fine slave (length packet / 2) state (length reply / 2) (m .fine) in
-    judged-bounds (replyVerdict (nodeIn state) slave (length (replyWords reply))) (nodeIn state) (lentReply (replyWords reply))
-    (replyEffect (nodeIn state) clock (isSet errors) status address bc (wordsOf 2 packet) (replyWords reply))
-    (reply-bounds (nodeIn state) clock (isSet errors) status address bc (wordsOf 2 packet) (replyWords reply) (state-pending state (f .bytes)) (reply-most reply)) t
+    let n = nodeIn state in
+    let words = wordsOf 2 packet in
+    let buffer = replyWords reply in
+    judged-bounds (replyVerdict n slave (length buffer)) n (lentReply buffer)
+    (replyEffect n clock (isSet errors) status address bc words buffer)
+    (reply-bounds n clock (isSet errors) status address bc words buffer (state-pending state (f .bytes)) (reply-most reply)) t
 entry-bounds (Entry.Poll clock reply) state flash m t =
     let f = poll-fine state (length reply / 2) (m .fine) in
-    judged-bounds (pollVerdict (nodeIn state) (length (replyWords reply))) (nodeIn state) (lentReply (replyWords reply)) (pollEffect (nodeIn state) clock (replyWords reply))
-    (poll-bounds (nodeIn state) clock (replyWords reply) (state-pending state (f .1)) (reply-most reply)) t
+    let n = nodeIn state in
+    let buffer = replyWords reply in
+    judged-bounds (pollVerdict n (length buffer)) n (lentReply buffer) (pollEffect n clock buffer)
+    (poll-bounds n clock buffer (state-pending state (f .1)) (reply-most reply)) t
 entry-bounds (Entry.Erase budget) state flash m t =
     let f = erase-fine state (length flash / 2) (m .fine) in
-    judged-bounds (eraseVerdict (nodeIn state) (length (wordsOf 2 flash))) (nodeIn state) (lentFlash (wordsOf 2 flash)) (eraseEffect (nodeIn state) budget (wordsOf 2 flash))
-    (erase-bounds (unitOf (wordsOf 2 flash)) (nodeIn state .erasing) budget (omega (arith, length-words-of 2 flash, f .0))) t
+    let n = nodeIn state in
+    let words = wordsOf 2 flash in
+    judged-bounds (eraseVerdict n (length words)) n (lentFlash words) (eraseEffect n budget words)
+    (erase-bounds (unitOf words) (n .erasing) budget (omega (arith, length-words-of 2 flash, f .0))) t
 
 pub nothing-cut : NothingCut entries
 nothing-cut e state flash h =

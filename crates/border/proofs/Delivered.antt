@@ -7,7 +7,7 @@ use mathlib.Core.Bool.{true, false}
 use mathlib.Core.List.{List}
 use lib.ListN.{length, take, length-take}
 use Rattle.memory.specs.Segment.{Memories}
-use Rattle.node.specs.Effect.{lent, Outcome}
+use Rattle.node.specs.Effect.{Lent, lent, Outcome}
 use Rattle.node.specs.Calls.{requestOf}
 use Rattle.demands.specs.Machine.{logodwen}
 use Rattle.demands.specs.Requests.{Delivered}
@@ -25,9 +25,12 @@ module _ (clock link bc : ℕ) (packet : List ℕ) (m : Memories) (reply state f
   abbrev asked : Entry
   asked = Entry.Request clock link bc 0 packet m reply
 
+  abbrev l : Lent
+  l = lent (wordsOf 2 flash) (memoryWords m) (replyWords reply)
+
   -- what the node's request comes to
   abbrev does : Outcome
-  does = requestOf (nodeIn state) clock link bc false (wordsOf 2 packet) (lent (wordsOf 2 flash) (memoryWords m) (replyWords reply))
+  does = requestOf (nodeIn state) clock link bc false (wordsOf 2 packet) l
 
   module _ (done : isDone (numberAfter entries asked state flash) ≡ true) where
     made : Made asked state flash
@@ -37,7 +40,7 @@ module _ (clock link bc : ℕ) (packet : List ℕ) (m : Memories) (reply state f
     number-is = made .number
 
     pub delivered : bc % 4 ≡ 3 → 1 ≤ length packet / 2 → length packet / 2 ≤ 8192
-        → Delivered logodwen (nodeIn state) clock link bc false (wordsOf 2 packet) (lent (wordsOf 2 flash) (memoryWords m) (replyWords reply))
+        → Delivered logodwen (nodeIn state) clock link bc false (wordsOf 2 packet) l
     delivered whole least most =
         let k = length-words-of 2 packet in
         record {
@@ -52,4 +55,6 @@ module _ (clock link bc : ℕ) (packet : List ℕ) (m : Memories) (reply state f
         → take (k * 2) (answerOf entries asked state flash .runs .reply) ≡ bytesOf 2 ws
     reply-bytes k ws n e =
         let front : k ≤ length (does .after .reply) = omega (arith, length-take k (does .after .reply), ap length e) in
-        ap (λ (a : Answered). take (k * 2) (a .runs .reply)) (made .does) ∙ store-front (does .after .reply) reply k front ∙ ap (bytesOf 2) e
+        ap (λ (a : Answered). take (k * 2) (a .runs .reply)) (made .does)
+        ∙ store-front (does .after .reply) reply k front
+        ∙ ap (bytesOf 2) e

@@ -18,7 +18,7 @@ use Rattle.flash.specs.declared.Status.{Status}
 use Rattle.flash.proofs.Attribute.{Cleared, setting-tells}
 use Rattle.flash.proofs.Geometry.{sector-most}
 use Rattle.node.specs.Refusals.{eraseVerdict}
-use Rattle.node.specs.Effect.{lent, Change, flashAfter}
+use Rattle.node.specs.Effect.{Effect, lent, Change, flashAfter}
 use Rattle.node.specs.Calls.{judged, lentFlash, requestOf, eraseEffect, eraseOf}
 use Rattle.node.specs.declared.Node.{Node}
 use Rattle.node.specs.declared.Verdict.{Verdict}
@@ -65,7 +65,8 @@ unfolding entriesFrom entryFor
 entries-below zero s flash erasing h = λ i. omega arith
 entries-below (suc n) s flash erasing h =
     below-append (entryFor erasing s (sectorOf flash s)) (entriesFrom n (s + 1) flash erasing)
-    (entry-below s (firstOf (sectorOf flash s)) (statusIn erasing s (sectorOf flash s)) (first-below (sectorOf flash s) (sector-below flash s h)))
+    (entry-below s (firstOf (sectorOf flash s)) (statusIn erasing s (sectorOf flash s))
+    (first-below (sectorOf flash s) (sector-below flash s h)))
     (entries-below n (s + 1) flash erasing h)
 
 pub directory-below : (flash : List ℕ) (erasing : Erasing) → Below 65536 flash → Below 65536 (directoryOf flash erasing)
@@ -107,7 +108,8 @@ why-below (Change.Wrote s file) n flash packet w b h =
     stored-below flash s file h (subst (λ (x : List ℕ). Below 65536 x) (w .words) (below-drop 1 packet b))
 why-below (Change.Headed s end header) n flash packet w b h =
     let first = first-below (sectorOf flash s) (sector-below flash s h) in
-    stored-below flash s (header ∷ []) h (one-below header (cleared-below first (setting-tells (firstOf (sectorOf flash s)) (getD packet 2 0) header (w .set))))
+    let cleared = setting-tells (firstOf (sectorOf flash s)) (getD packet 2 0) header (w .set) in
+    stored-below flash s (header ∷ []) h (one-below header (cleared-below first cleared))
 why-below (Change.Begun s) n flash packet w b h = h
 why-below (Change.Blanked budget) n flash packet w b h = absurd w
 
@@ -116,10 +118,11 @@ unfolding requestOf eraseOf
 flash-below (Call.Start kind ports subdetector program version tests clock) n flash b h = h
 flash-below (Call.Request clock link bc errors packet m reply) n flash b h = by (verdictOn n link packet (lent flash m reply))
   where
-    by : (v : Verdict) → Below 65536 (judged v n (lent flash m reply) (requestEffect n clock link bc errors packet (lent flash m reply)) .after .flash)
-    by Verdict.Fine =
-        why-below (requestEffect n clock link bc errors packet (lent flash m reply) .change) n flash packet
-        (request-why n (lent flash m reply) packet clock link bc errors .0) b h
+    e : Effect
+    e = requestEffect n clock link bc errors packet (lent flash m reply)
+
+    by : (v : Verdict) → Below 65536 (judged v n (lent flash m reply) e .after .flash)
+    by Verdict.Fine = why-below (e .change) n flash packet (request-why n (lent flash m reply) packet clock link bc errors .0) b h
     by (Verdict.No r) = h
 flash-below (Call.Reply clock slave bc errors status address words reply) n flash b h = h
 flash-below (Call.Poll clock reply) n flash b h = h
@@ -135,8 +138,11 @@ unfolding requestOf eraseOf
 flash-size (Call.Start kind ports subdetector program version tests clock) n flash = refl
 flash-size (Call.Request clock link bc errors packet m reply) n flash = by (verdictOn n link packet (lent flash m reply))
   where
-    by : (v : Verdict) → length (judged v n (lent flash m reply) (requestEffect n clock link bc errors packet (lent flash m reply)) .after .flash) ≡ length flash
-    by Verdict.Fine = change-size (requestEffect n clock link bc errors packet (lent flash m reply) .change) (n .erasing) flash
+    e : Effect
+    e = requestEffect n clock link bc errors packet (lent flash m reply)
+
+    by : (v : Verdict) → length (judged v n (lent flash m reply) e .after .flash) ≡ length flash
+    by Verdict.Fine = change-size (e .change) (n .erasing) flash
     by (Verdict.No r) = refl
 flash-size (Call.Reply clock slave bc errors status address words reply) n flash = refl
 flash-size (Call.Poll clock reply) n flash = refl

@@ -51,20 +51,22 @@ module _ {s name : ℕ} {state flash : List ℕ} where
           (subst (λ (x : List ℕ). Follows s name state flash later x) (sym (l .words)) f)
       by (Step.Makes m) =
           let moved = made-moves e later after c (f .stands) m in
+          let to : Node → List ℕ → Type 0 = Calls logodwen s name (nodeIn state) (wordsOf 2 flash) in
           let site = ap (λ (n : Node). erasingSite (n .erasing)) (moved .node) in
           let spares : SparedBy logodwen s name (onWords e) (nodeIn later) (wordsOf 2 after) =
           record { erasure = λ q. p .erasure (erasing-sector (stateAfter entries e later after) s (site ∙ q)); attribute = p .attribute } in
           record {
             stands = moved .stands;
             calls =
-                subst (λ (n : Node). Calls logodwen s name (nodeIn state) (wordsOf 2 flash) n (wordsOf 2 (flashAfter entries e later after))) (sym (moved .node))
-                (subst (λ (x : List ℕ). Calls logodwen s name (nodeIn state) (wordsOf 2 flash) (nodeAfter logodwen (onWords e) (nodeIn later) (wordsOf 2 after)) x) (sym (moved .words))
+                subst (λ (n : Node). to n (wordsOf 2 (flashAfter entries e later after))) (sym (moved .node))
+                (subst (λ (x : List ℕ). to (nodeAfter logodwen (onWords e) (nodeIn later) (wordsOf 2 after)) x) (sym (moved .words))
                 (Calls.Then (f .calls) (onWords e) (lends e c) spares));
           }
 
-  pub run-follows : {later after : List ℕ} → Stands state flash → Runs entries s name state flash later after → Follows s name state flash later after
+  pub run-follows : {later after : List ℕ} → Stands state flash → Runs entries s name state flash later after
+      → Follows s name state flash later after
   run-follows st Runs.Here = record { stands = st; calls = Calls.Here }
   run-follows st (Runs.Then {later = later} {after = after} r e c p) = entry-follows e later after c p (run-follows st r)
   run-follows st (Runs.Refused {later = later} {after = after} r e other h) =
       let f = run-follows st r in
-      subst (λ (x : List ℕ). Follows s name state flash x after) (sym (undone-left e later other (f .stands .bytes) h)) f
+      subst (λ (x : List ℕ). Follows s name state flash x after) (sym (undone-left e later other h)) f

@@ -38,7 +38,8 @@ directory-bytes n t =
     let masks = bytesOf 4 (n .masks) in
     let long : length (numbers ++ masks) ≡ 108 =
     length-append numbers masks ∙ omega (arith, length-numbers n, length-bytes 4 (n .masks), t .masks) in
-    ap (drop 108) (sym (append-assoc numbers masks (bytesOf 2 (n .directory)))) ∙ drop-at (numbers ++ masks) (bytesOf 2 (n .directory)) 108 long
+    ap (drop 108) (sym (append-assoc numbers masks (bytesOf 2 (n .directory))))
+    ∙ drop-at (numbers ++ masks) (bytesOf 2 (n .directory)) 108 long
 
 pub always-state : AlwaysState entries
 always-state state flash h = hosted-stands h .bytes
@@ -55,9 +56,12 @@ unfolding wordsOf wordsIn valueOf
 summary-is-true state flash h clock link bc m reply whole done =
     let s = hosted-stands h in
     let packet : List ℕ = 0x2E ∷ 0x07 ∷ [] in
+    let words : List ℕ = wordsOf 2 flash in
     let d = delivered clock link bc packet m reply state flash done whole (omega arith) (omega arith) in
-    let r = word-summary (nodeIn state) (wordsOf 2 flash) (s .reached) clock link bc false (wordsOf 2 packet) (memoryWords m) (replyWords reply) d refl refl in
-    let fresh = r .1 ∙ ap (directoryOf (wordsOf 2 flash)) (erasing-is state) in (
+    let r =
+    word-summary (nodeIn state) words (s .reached) clock link bc false (wordsOf 2 packet) (memoryWords m) (replyWords reply) d refl refl in
+    let fresh = r .1 ∙ ap (directoryOf words) (erasing-is state) in (
       number-is clock link bc packet m reply state flash done ∙ ap answerNumber (r .0),
-      reply-bytes clock link bc packet m reply state flash done 32 (directoryOf (wordsOf 2 flash) (erasingIn state)) (length-directory (wordsOf 2 flash) (erasingIn state)) fresh,
+      reply-bytes clock link bc packet m reply state flash done 32 (directoryOf words (erasingIn state))
+          (length-directory words (erasingIn state)) fresh,
     )

@@ -191,6 +191,7 @@ module _ (state flash : List ℕ) (st : Stands state flash) (clock link bc error
 
     file-reads : Reads entries file later after
     file-reads clock′ link′ bc′ header m′ reply′ whole two name done =
+        let read : Entry = Entry.Request clock′ link′ bc′ 0 (fileRead header) m′ reply′ in
         let asked : List ℕ = wordsOf 2 (fileRead header) in
         let words-two : length asked ≡ 2 = length-words-of 2 (fileRead header) ∙ omega arith in
         let word = ap (λ (x : List ℕ). getD x 1 0) (read-words header) ∙ first-word header (omega arith) in
@@ -205,8 +206,7 @@ module _ (state flash : List ℕ) (st : Stands state flash) (clock link bc error
           number-is clock′ link′ bc′ (fileRead header) m′ reply′ later after done
               ∙ ap answerNumber (answers .0)
               ∙ ap (λ (k : ℕ). wholeNumber (k + 2)) count,
-          subst (λ (k : ℕ). take k (answerOf entries (Entry.Request clock′ link′ bc′ 0 (fileRead header) m′ reply′) later after .runs .reply) ≡ file)
-              long (front ∙ sent-bytes),
+          subst (λ (k : ℕ). take k (answerOf entries read later after .runs .reply) ≡ file) long (front ∙ sent-bytes),
         )
 
   file-written : Written entries file flash state₁ flash₁

@@ -71,7 +71,7 @@ module _ (n : Node) (l : Lent) (packet : List ℕ) where
       by : (words : List ℕ) (t : Status) → Replied (readBy (statusIn n) words t)
       by words (Status.Good k) =
           pick-case Replied (leb k 12286)
-          (λ e. let m = leb-true k 12286 e in let t = length-take k words in short (statusIn n) (take k words) (omega arith)) (λ _. abort)
+          (λ e. short (statusIn n) (take k words) (omega (arith, leb-true k 12286 e, length-take k words))) (λ _. abort)
       by words Status.Empty = abort
       by words Status.Bad = abort
       by words Status.Erasing = abort
@@ -94,7 +94,10 @@ module _ (n : Node) (l : Lent) (packet : List ℕ) where
     where
       by : (words : List ℕ) (t : Status) → Replied (loadBy words (l .memories) t)
       by words (Status.Good k) =
-          pick-case Replied (loadable (length (l .memories .pm)) (length (l .memories .dm)) (length (l .memories .io)) words) (λ _. end) (λ _. abort)
+          let pm = length (l .memories .pm) in
+          let dm = length (l .memories .dm) in
+          let io = length (l .memories .io) in
+          pick-case Replied (loadable pm dm io words) (λ _. end) (λ _. abort)
       by words Status.Empty = abort
       by words Status.Bad = abort
       by words Status.Erasing = abort
@@ -190,7 +193,7 @@ module _ (n : Node) (l : Lent) (packet : List ℕ) where
       pick-case Replied (eqb id 0x0C) (λ _. sized 1 _ (short (statusIn n) (statusWords (n .given) (n .counts) clock link) (omega arith)))
       (λ _. pick-case Replied (eqb id 0x0D)
       (λ _. pick-case Replied (leb (length packet) 8001)
-      (λ e. let m = leb-true (length packet) 8001 e in let k = length-drop 1 packet in short (statusIn n) (drop 1 packet) (omega arith)) (λ _. abort))
+      (λ e. short (statusIn n) (drop 1 packet) (omega (arith, leb-true (length packet) 8001 e, length-drop 1 packet))) (λ _. abort))
       (λ _. pick-case Replied (eqb id 0x12) (λ _. sized 1 _ (short (statusIn n) (n .mode ∷ []) (omega arith)))
       (λ _. pick-case Replied (eqb id 0x52) (λ _. sized 2 _ (pick-case Replied (leb (getD packet 1 0) 3) (λ _. end) (λ _. abort)))
       (λ _. pick-case Replied (eqb id 0x17)

@@ -111,9 +111,9 @@ unfolding laid
 bytes-laid ws at new =
     let n = length-bytes 2 new in
     let e : (at + length new) * 2 ≡ at * 2 + length (bytesOf 2 new) = omega arith in
-    bytes-append 2 (take at ws ++ new) (drop (at + length new) ws)
-    ∙ ap (λ (l : List ℕ). l ++ bytesOf 2 (drop (at + length new) ws)) (bytes-append 2 (take at ws) new ∙ ap (λ (l : List ℕ). l ++ bytesOf 2 new) (bytes-take at ws))
-    ∙ ap (λ (l : List ℕ). (take (at * 2) (bytesOf 2 ws) ++ bytesOf 2 new) ++ l) (bytes-drop (at + length new) ws ∙ ap (λ (k : ℕ). drop k (bytesOf 2 ws)) e)
+    let front = bytes-append 2 (take at ws) new ∙ ap (λ (l : List ℕ). l ++ bytesOf 2 new) (bytes-take at ws) in
+    let back = bytes-drop (at + length new) ws ∙ ap (λ (k : ℕ). drop k (bytesOf 2 ws)) e in
+    bytes-append 2 (take at ws ++ new) (drop (at + length new) ws) ∙ (λ i. front i ++ back i)
 
 laid-front : (ws new : List ℕ) → laid ws 0 new ≡ new ++ drop (0 + length new) ws
 unfolding laid

@@ -36,7 +36,8 @@ stands-typed state flash s =
 
 -- the bytes of a state that is reached
 
-module _ (n : Node) (words state : List ℕ) (r : Reached logodwen n words) (s : Small n) (b : Below 65536 words) (e : state ≡ encodeOf n) where
+module _ (n : Node) (words state : List ℕ) (r : Reached logodwen n words) (s : Small n) (b : Below 65536 words)
+    (e : state ≡ encodeOf n) where
   encoded : (areState (encodeOf n) ≡ true) × (nodeIn (encodeOf n) ≡ n)
   encoded = decoded-encoded n (ranges-told n (reached-sound r .valid .ranges)) (small-typed n words s (reached-sound r) b)
 
@@ -93,16 +94,20 @@ made-moves e state flash c s m =
     record {
       node = encoded-node next left (stateAfter entries e state flash) reached small below (m .node);
       words = read;
-      stands = reached-stands next left (stateAfter entries e state flash) (flashAfter entries e state flash) reached small below (m .node) read bytes;
+      stands =
+          reached-stands next left (stateAfter entries e state flash) (flashAfter entries e state flash) reached small below (m .node) read
+          bytes;
     }
 
 -- every entry hands them on
-pub next-stands : (e : Entry) (state flash : List ℕ) → InC e → Stands state flash → Stands (stateAfter entries e state flash) (flashAfter entries e state flash)
+pub next-stands : (e : Entry) (state flash : List ℕ) → InC e → Stands state flash
+    → Stands (stateAfter entries e state flash) (flashAfter entries e state flash)
 next-stands e state flash c s = by (entry-step e state flash)
   where
     by : Step e state flash → Stands (stateAfter entries e state flash) (flashAfter entries e state flash)
     by (Step.Leaves l) =
-        subst (λ (x : List ℕ). Stands x (flashAfter entries e state flash)) (sym (l .node)) (subst (λ (x : List ℕ). Stands state x) (sym (l .words)) s)
+        subst (λ (x : List ℕ). Stands x (flashAfter entries e state flash)) (sym (l .node))
+        (subst (λ (x : List ℕ). Stands state x) (sym (l .words)) s)
     by (Step.Makes m) = made-moves e state flash c s m .stands
 
 -- a start gives them
@@ -123,7 +128,8 @@ first-stands kind ports subdetector program version tests clock state flash c b 
     by (Step.Leaves l) = absurd (false≢true (sym (refusal-undone (l .refusal)) ∙ ap isDone (sym (l .number) ∙ h)))
     by (Step.Makes m) =
         let taken = start-taken kind ports subdetector program version tests clock state flash (m .fine) in
-        reached-stands (startOf kind ports subdetector program version tests clock words .node) words (stateAfter entries begun state flash) flash
+        reached-stands (startOf kind ports subdetector program version tests clock words .node) words
+        (stateAfter entries begun state flash) flash
         (Reached.First kind ports subdetector program version tests clock words taken)
         (start-small kind ports subdetector program version tests clock words (clocked begun c)) (words-of-below flash b)
         (m .node ∙ ap encodeOf (sym (no _ taken refl))) refl b
@@ -133,4 +139,4 @@ hosted-stands (Hosted.First kind ports subdetector program version tests clock s
     first-stands kind ports subdetector program version tests clock state flash c b h
 hosted-stands (Hosted.Then {state = state} {flash = flash} r e c) = next-stands e state flash c (hosted-stands r)
 hosted-stands (Hosted.Refused {state = state} {flash = flash} r e other h) =
-    let s = hosted-stands r in subst (λ (x : List ℕ). Stands x flash) (sym (undone-left e state other (s .bytes) h)) s
+    let s = hosted-stands r in subst (λ (x : List ℕ). Stands x flash) (sym (undone-left e state other h)) s

@@ -1,10 +1,10 @@
 -- What an entry comes to: refused, it leaves state and flash bytes; or it is the node's call on the words. Assumes nothing.
 use Prim.Native.Nat.{ℕ, _/_, _%_}
 use mathlib.Core.Path.{_≡_, refl, sym, ap, _∙_}
-use mathlib.Core.Bool.{Bool, true, false, false≢true}
+use mathlib.Core.Bool.{true, false, false≢true}
 use mathlib.Core.List.{List, []}
 use lib.ListN.{length}
-use borrow.Author.Tests.{eq-eqb}
+use borrow.Author.Tests.{eqb-false}
 use Rattle.base.specs.Words.{Below}
 use Rattle.base.proofs.Pick.{no}
 use Rattle.node.specs.State.{refusalNumber}
@@ -15,26 +15,28 @@ use Rattle.node.specs.declared.Refusal.{Refusal}
 use Rattle.node.specs.declared.Verdict.{Verdict}
 use Rattle.demands.specs.Machine.{logodwen, flashOf, isRefused}
 use Rattle.demands.specs.Reached.{stateAfter as nodeAfter}
-use Rattle.demands.proofs.Sound.{refused-same}
 use Rattle.logodwen.specs.Bytes.{wordsOf, storeWords}
-use Rattle.logodwen.specs.StateBytes.{encodeOf, nodeIn, areState}
+use Rattle.logodwen.specs.StateBytes.{encodeOf, nodeIn}
 use Rattle.logodwen.specs.Number.{answerNumber}
 use Rattle.logodwen.specs.Causes.{requestCheck, replyCheck, pollCheck, eraseCheck, startCheck}
 use Rattle.logodwen.specs.Entry.{Answered, answered, inBytes, told, entered, replyWords, runWords, isSet, startEntry, requestEntry, replyEntry, pollEntry, eraseEntry}
-use Rattle.logodwen.proofs.ThereAndBack.{encoded-decoded, bytes-kept}
+use Rattle.logodwen.proofs.ThereAndBack.{bytes-kept}
 use Rattle.border.specs.Exactly.{entries}
 use Rattle.border.specs.Host.{Entry, answerOf, numberAfter, stateAfter, flashLeft, flashAfter, onWords, isDone}
 use Rattle.border.specs.Answers.{answerIn}
 use Rattle.border.proofs.Fine.{start-fine}
-use Rattle.border.proofs.Exactly.{done-low}
+use Rattle.border.proofs.Exactly.{refused-exactly}
 
 -- an entry as its definition has it: the verdict, the runs that it is lent, and what the node's call comes to
 
 abbrev pub checkOf : Entry → List ℕ → List ℕ → Verdict
-checkOf (Entry.Start kind ports subdetector program version tests clock) state flash = startCheck kind ports subdetector state (length flash / 2)
+checkOf (Entry.Start kind ports subdetector program version tests clock) state flash =
+    startCheck kind ports subdetector state (length flash / 2)
 checkOf (Entry.Request clock link bc errors packet m reply) state flash =
-    requestCheck link (length packet / 2) state (length flash / 2) (length (m .pm) / 4) (length (m .dm) / 2) (length (m .io) / 2) (length reply / 2)
-checkOf (Entry.Reply clock slave bc errors status address packet reply) state flash = replyCheck slave (length packet / 2) state (length reply / 2)
+    requestCheck link (length packet / 2) state (length flash / 2) (length (m .pm) / 4) (length (m .dm) / 2) (length (m .io) / 2)
+    (length reply / 2)
+checkOf (Entry.Reply clock slave bc errors status address packet reply) state flash =
+    replyCheck slave (length packet / 2) state (length reply / 2)
 checkOf (Entry.Poll clock reply) state flash = pollCheck state (length reply / 2)
 checkOf (Entry.Erase budget) state flash = eraseCheck state (length flash / 2)
 
@@ -55,7 +57,8 @@ outcomeOf (Entry.Reply clock slave bc errors status address packet reply) state 
 outcomeOf (Entry.Poll clock reply) state flash = pollOf (nodeIn state) clock (replyWords reply)
 outcomeOf (Entry.Erase budget) state flash = eraseOf (nodeIn state) budget (wordsOf 2 flash)
 
-entry-is : (e : Entry) (state flash : List ℕ) → answerOf entries e state flash ≡ entered (checkOf e state flash) state (runsOf e flash) (outcomeOf e state flash)
+entry-is : (e : Entry) (state flash : List ℕ)
+    → answerOf entries e state flash ≡ entered (checkOf e state flash) state (runsOf e flash) (outcomeOf e state flash)
 unfolding startEntry requestEntry replyEntry pollEntry eraseEntry
 entry-is (Entry.Start kind ports subdetector program version tests clock) state flash = refl
 entry-is (Entry.Request clock link bc errors packet m reply) state flash = refl
@@ -97,7 +100,8 @@ node-is (Entry.Erase budget) state flash h = refl
 
 -- .. and the flash
 flash-is : (e : Entry) (state flash : List ℕ) → Below 256 flash
-    → flashLeft e (told (inBytes (outcomeOf e state flash) (runsOf e flash))) flash ≡ storeWords 2 (flashOf logodwen (onWords e) (nodeIn state) (wordsOf 2 flash)) flash
+    → flashLeft e (told (inBytes (outcomeOf e state flash) (runsOf e flash))) flash
+    ≡ storeWords 2 (flashOf logodwen (onWords e) (nodeIn state) (wordsOf 2 flash)) flash
 flash-is (Entry.Start kind ports subdetector program version tests clock) state flash b = sym (bytes-kept 2 flash b)
 flash-is (Entry.Request clock link bc errors packet m reply) state flash b = refl
 flash-is (Entry.Reply clock slave bc errors status address packet reply) state flash b = sym (bytes-kept 2 flash b)
@@ -117,7 +121,8 @@ pub record Made (e : Entry) (state flash : List ℕ) : Type 0 where
   pub does : answerOf entries e state flash ≡ told (inBytes (outcomeOf e state flash) (runsOf e flash))
   pub number : numberAfter entries e state flash ≡ answerNumber (answerIn e state flash)
   pub node : stateAfter entries e state flash ≡ encodeOf (nodeAfter logodwen (onWords e) (nodeIn state) (wordsOf 2 flash))
-  pub words : Below 256 flash → flashAfter entries e state flash ≡ storeWords 2 (flashOf logodwen (onWords e) (nodeIn state) (wordsOf 2 flash)) flash
+  pub words : Below 256 flash
+      → flashAfter entries e state flash ≡ storeWords 2 (flashOf logodwen (onWords e) (nodeIn state) (wordsOf 2 flash)) flash
 
 -- all as it was
 pub record Left (e : Entry) (state flash : List ℕ) : Type 0 where
@@ -179,15 +184,18 @@ done-made e state flash h = by (entry-step e state flash)
     by (Step.Leaves l) = absurd (false≢true (sym (refusal-undone (l .refusal)) ∙ ap isDone (sym (l .number)) ∙ h))
     by (Step.Makes m) = m
 
--- an entry that isn't done leaves the bytes of a state
-pub undone-left : (e : Entry) (state flash : List ℕ) → areState state ≡ true → isDone (numberAfter entries e state flash) ≡ false → stateAfter entries e state flash ≡ state
-undone-left e state flash s h = by (entry-step e state flash)
-  where
-    call : (m : Made e state flash) (t : Bool) → isRefused (answerIn e state flash) ≡ t → stateAfter entries e state flash ≡ state
-    call m true q = m .node ∙ ap encodeOf (refused-same (onWords e) (nodeIn state) (wordsOf 2 flash) q) ∙ encoded-decoded state s
-    call m false q =
-        absurd (false≢true (sym h ∙ ap isDone (m .number) ∙ eq-eqb (answerNumber (answerIn e state flash) % 256) 0 (done-low (answerIn e state flash) q)))
+-- an entry that isn't done is refused, and leaves the state bytes
 
-    by : Step e state flash → stateAfter entries e state flash ≡ state
-    by (Step.Leaves l) = l .node
-    by (Step.Makes m) = call m (isRefused (answerIn e state flash)) refl
+undone : (number : ℕ) → isDone number ≡ false → number % 256 ≡ 0 → ⊥
+undone number h = eqb-false (number % 256) 0 h
+
+pub undone-left : (e : Entry) (state flash : List ℕ) → isDone (numberAfter entries e state flash) ≡ false
+    → stateAfter entries e state flash ≡ state
+undone-left (Entry.Start kind ports subdetector program version tests clock) state flash h =
+    refused-exactly .start kind ports subdetector program version tests clock flash state .1 (undone _ h) .bytes
+undone-left (Entry.Request clock link bc errors packet m reply) state flash h =
+    refused-exactly .request clock link bc errors packet state (lent flash m reply) .1 (undone _ h) .bytes
+undone-left (Entry.Reply clock slave bc errors status address packet reply) state flash h =
+    refused-exactly .reply clock slave bc errors status address packet state reply .1 (undone _ h) .bytes
+undone-left (Entry.Poll clock reply) state flash h = refused-exactly .poll clock state reply .1 (undone _ h) .bytes
+undone-left (Entry.Erase budget) state flash h = refused-exactly .erase budget state flash .1 (undone _ h) .bytes

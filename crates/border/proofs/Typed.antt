@@ -11,7 +11,7 @@ use Rattle.base.proofs.Pick.{pick-case}
 use Rattle.flash.proofs.Entries.{length-directory}
 use Rattle.group.specs.Kind.{answer}
 use Rattle.group.specs.Slaves.{above, nextOf}
-use Rattle.group.specs.Fragment.{assembly, taken}
+use Rattle.group.specs.Fragment.{Assembly, assembly, taken}
 use Rattle.group.specs.Time.{isLate}
 use Rattle.group.specs.declared.Heard.{Heard}
 use Rattle.group.specs.declared.Next.{Next}
@@ -45,7 +45,8 @@ pub record Small (n : Node) : Type 0 where
 
 -- what the C types say of a call's clock and words
 abbrev pub Clocked : Call → Type 0
-Clocked (Call.Start kind ports subdetector program version tests clock) = (program < 65536) × (version < 65536) × (tests < 65536) × (clock < 4294967296)
+Clocked (Call.Start kind ports subdetector program version tests clock) =
+    (program < 65536) × (version < 65536) × (tests < 65536) × (clock < 4294967296)
 Clocked (Call.Request clock link bc errors packet m reply) = clock < 4294967296
 Clocked (Call.Reply clock slave bc errors status address words reply) = clock < 4294967296
 Clocked (Call.Poll clock reply) = clock < 4294967296
@@ -80,14 +81,19 @@ At p = waitOf p .at < 4294967296
 request-asked : (n : Node) (clock link bc : ℕ) (errors : Bool) (packet : List ℕ) (l : Lent) → clock < 4294967296 → At (n .pending)
     → At (requestEffect n clock link bc errors packet l .pending)
 request-asked n clock link bc errors packet l c h =
-    route-case (λ r. At (routed r n clock link packet l .pending)) n link bc errors packet h h (λ _. omega arith) (λ id _. h) (λ s _. c) (λ set from s _ _. c)
+    route-case (λ r. At (routed r n clock link packet l .pending)) n link bc errors packet h h (λ _. omega arith) (λ id _. h) (λ s _. c)
+    (λ set from s _ _. c)
 
-hears-asked : (p : Pending) (n : Node) (clock : ℕ) (h : Heard) (words reply : List ℕ) → clock < 4294967296 → At (hears p n clock h words reply .pending)
+hears-asked : (p : Pending) (n : Node) (clock : ℕ) (h : Heard) (words reply : List ℕ) → clock < 4294967296
+    → At (hears p n clock h words reply .pending)
 hears-asked Pending.Nothing n clock h words reply c = omega arith
 hears-asked (Pending.Slave a) n clock h words reply c = omega arith
 hears-asked (Pending.Group a g) n clock h words reply c = by (nextOf (above (g .set) (a .slave)))
   where
-    by : (next : Next) → At (goesOn n a g clock (taken (assembly reply (g .built)) (length (above (g .set) (a .slave))) (a .slave) (answer h words)) next .pending)
+    after : Assembly
+    after = taken (assembly reply (g .built)) (length (above (g .set) (a .slave))) (a .slave) (answer h words)
+
+    by : (next : Next) → At (goesOn n a g clock after next .pending)
     by Next.Nobody = omega arith
     by (Next.Slave s) = c
 
@@ -100,21 +106,42 @@ reply-asked n clock errors status address bc words reply c =
 poll-asked : (n : Node) (clock : ℕ) (reply : List ℕ) → clock < 4294967296 → At (n .pending) → At (pollEffect n clock reply .pending)
 unfolding pollEffect
 poll-asked n clock reply c h =
-    pick-case (λ (e : Effect). At (e .pending)) (isLate clock (askedAt (n .pending))) (λ _. hears-asked (n .pending) n clock silent [] reply c) (λ _. h)
+    pick-case (λ (e : Effect). At (e .pending)) (isLate clock (askedAt (n .pending)))
+    (λ _. hears-asked (n .pending) n clock silent [] reply c) (λ _. h)
 
 judged-small : (v : Verdict) (n : Node) (l : Lent) (e : Effect) → Small n → At (e .pending) → Small (judged v n l e .turn .node)
 judged-small Verdict.Fine n l e s h = effect-small n (l .flash) e s h
 judged-small (Verdict.No r) n l e s h = s
 
 pub start-small : (kind ports subdetector program version tests clock : ℕ) (flash : List ℕ)
-    → Clocked (Call.Start kind ports subdetector program version tests clock) → Small (startOf kind ports subdetector program version tests clock flash .node)
+    → Clocked (Call.Start kind ports subdetector program version tests clock)
+    → Small (startOf kind ports subdetector program version tests clock flash .node)
 unfolding startOf
 start-small kind ports subdetector program version tests clock flash (p, v, t, c) = by (startVerdict kind ports subdetector (length flash))
   where
     by : (w : Verdict) → Small (startBy w (given kind ports subdetector program version tests clock (length flash)) flash .node)
-    by Verdict.Fine = record { masks = refl; program = p; version = v; tests = omega arith; clock = c; amswire = omega arith; flash = omega arith; asked = omega arith }
+    by Verdict.Fine =
+        record {
+          masks = refl;
+          program = p;
+          version = v;
+          tests = omega arith;
+          clock = c;
+          amswire = omega arith;
+          flash = omega arith;
+          asked = omega arith;
+        }
     by (Verdict.No r) =
-        record { masks = refl; program = omega arith; version = omega arith; tests = omega arith; clock = omega arith; amswire = omega arith; flash = omega arith; asked = omega arith }
+        record {
+          masks = refl;
+          program = omega arith;
+          version = omega arith;
+          tests = omega arith;
+          clock = omega arith;
+          amswire = omega arith;
+          flash = omega arith;
+          asked = omega arith;
+        }
 
 pub call-small : (c : Call) (n : Node) (flash : List ℕ) → Clocked c → Small n → Small (stateAfter logodwen c n flash)
 unfolding requestOf replyOf pollOf eraseOf
@@ -122,8 +149,9 @@ call-small (Call.Start kind ports subdetector program version tests clock) n fla
     pick-case Small (isRefused (startOf kind ports subdetector program version tests clock flash .answer)) (λ _. s)
     (λ _. start-small kind ports subdetector program version tests clock flash c)
 call-small (Call.Request clock link bc errors packet m reply) n flash c s =
-    judged-small (verdictOn n link packet (lent flash m reply)) n (lent flash m reply) (requestEffect n clock link bc errors packet (lent flash m reply)) s
-    (request-asked n clock link bc errors packet (lent flash m reply) c (s .asked))
+    let l : Lent = lent flash m reply in
+    judged-small (verdictOn n link packet l) n l (requestEffect n clock link bc errors packet l) s
+    (request-asked n clock link bc errors packet l c (s .asked))
 call-small (Call.Reply clock slave bc errors status address words reply) n flash c s =
     judged-small (replyVerdict n slave (length reply)) n (lentReply reply) (replyEffect n clock errors status address bc words reply) s
     (reply-asked n clock errors status address bc words reply c)

@@ -97,7 +97,8 @@ pub data Hosted (E : Entries) : List ℕ → List ℕ → Type 0 where
       → numberAfter E (Entry.Start kind ports subdetector program version tests clock) state flash ≡ 0
       → Hosted E (stateAfter E (Entry.Start kind ports subdetector program version tests clock) state flash) flash
   -- then any entry, lent those, done or refused
-  Then : {state flash : List ℕ} → Hosted E state flash → (e : Entry) → InC e → Hosted E (stateAfter E e state flash) (flashAfter E e state flash)
+  Then : {state flash : List ℕ} → Hosted E state flash → (e : Entry) → InC e
+      → Hosted E (stateAfter E e state flash) (flashAfter E e state flash)
   -- or an entry that is refused, whatever flash it was lent
   Refused : {state flash : List ℕ} → Hosted E state flash → (e : Entry) (other : List ℕ) → isDone (numberAfter E e state other) ≡ false
       → Hosted E (stateAfter E e state other) flash

@@ -43,4 +43,5 @@ SummaryIsTrue E =
     → (clock link bc : ℕ) (m : Memories) (reply : List ℕ)
     → let summary : Entry = Entry.Request clock link bc 0 (0x2E ∷ 0x07 ∷ []) m reply in
     bc % 4 ≡ 3 → isDone (numberAfter E summary state flash) ≡ true
-    → (numberAfter E summary state flash ≡ wholeNumber 34) × (take 64 (answerOf E summary state flash .runs .reply) ≡ directoryBytes state flash)
+    → (numberAfter E summary state flash ≡ wholeNumber 34)
+    × (take 64 (answerOf E summary state flash .runs .reply) ≡ directoryBytes state flash)

@@ -49,7 +49,8 @@ pub data Runs (E : Entries) (s name : ℕ) (state flash : List ℕ) : List ℕ �
   Here : Runs E s name state flash state flash
   Then : {later after : List ℕ} → Runs E s name state flash later after → (e : Entry) → InC e → Spares E s name e later after
       → Runs E s name state flash (stateAfter E e later after) (flashAfter E e later after)
-  Refused : {later after : List ℕ} → Runs E s name state flash later after → (e : Entry) (other : List ℕ) → isDone (numberAfter E e later other) ≡ false
+  Refused : {later after : List ℕ} → Runs E s name state flash later after → (e : Entry) (other : List ℕ)
+      → isDone (numberAfter E e later other) ≡ false
       → Runs E s name state flash (stateAfter E e later other) after
 
 -- Every File Read of the name that is done, without receive errors and with BC 11, answers a reply of the file's words, the status word
@@ -59,7 +60,8 @@ Reads E file state flash =
     (clock link bc : ℕ) (header : List ℕ) (m : Memories) (reply : List ℕ)
     → let read : Entry = Entry.Request clock link bc 0 (fileRead header) m reply in
     bc % 4 ≡ 3 → length header ≡ 2 → nameIn header ≡ nameIn file → isDone (numberAfter E read state flash) ≡ true
-    → (numberAfter E read state flash ≡ wholeNumber (length file / 2 + 2)) × (take (length file) (answerOf E read state flash .runs .reply) ≡ file)
+    → (numberAfter E read state flash ≡ wholeNumber (length file / 2 + 2))
+    × (take (length file) (answerOf E read state flash .runs .reply) ≡ file)
 
 -- A file that is written, from some flash bytes to others.
 pub record Written (E : Entries) (file before state flash : List ℕ) : Type 0 where
