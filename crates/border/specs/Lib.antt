@@ -4,3 +4,5 @@ pub mod Host
 pub mod Kept
 pub mod ReadsBack
 pub mod Answers
+pub mod ClosedRun
+pub mod ShutOut
