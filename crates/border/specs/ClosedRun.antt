@@ -30,7 +30,7 @@ entry low high address = low ∷ high ∷ 0 ∷ address ∷ 0 ∷ 0 ∷ 0 ∷ 0 
 abbrev pub empty : ℕ → List ℕ
 empty address = entry 0xFF 0xFF address
 
--- The state bytes, by the entry of sector 3: kind 2, ports 4, 8000 words of flash, masks 0, and the directory.
+-- The state bytes, by the entry of sector 3: kind 2, 4 ports, 32,768 words of flash, masks 0, and the directory.
 abbrev pub stateWith : List ℕ → List ℕ
 stateWith third =
     2 ∷ 4

@@ -1,5 +1,5 @@
--- Wrong entries, and for each the statement that it fails: those that 01 names under 'What calls owe', as a host in C would meet them. An
--- entry of which nothing is said is ours. Assumes nothing.
+-- Wrong entries, and for each the statement that it fails: two that 01 names under 'What calls owe', as a host in C would meet them, and
+-- one that a host would meet with a number of the wrong size. An entry of which nothing is said is ours. Assumes nothing.
 use Prim.Native.Nat.{ℕ, _%_}
 use mathlib.Core.List.{List}
 use Rattle.node.specs.Calls.{lentReply, lentFlash}
