@@ -9,7 +9,7 @@
 #include <stdbool.h>
 #include <stdio.h>
 
-enum { TEXT = 512 }; /* bytes of a detail or a message, at most */
+enum { TEXT = 5000 }; /* bytes of a detail or a message, at most: a path can have 4,096 */
 
 /* What a bench flash holds, for people. */
 #define FLASH_HOLDS "a bench flash holds eight files, one of at most 2,048 and seven of at most 4,096 words"

@@ -34,7 +34,7 @@ static bool is_written(FILE *file, const struct node *node) {
 }
 
 bool flash_file_write(const char *path, const struct node *node, char *why) {
-    char beside[4 * TEXT];
+    char beside[TEXT];
     if (snprintf(beside, sizeof beside, "%s.new", path) >= (int)sizeof beside)
         return say(why, "%.60s..: too long a name to keep a flash in", path);
     FILE *file = fopen(beside, "wbx"); /* x: what stands there already is not written over */

@@ -63,7 +63,7 @@ static bool take_hex(struct image *image, size_t count, char *why) {
 
 static bool take_raw(struct image *image, size_t count, char *why) {
     image->words = count / 2;
-    return count % 2 == 0 || say(why, "%zu bytes; a word is two bytes, so raw words are an even number", count);
+    return count % 2 == 0 || say(why, "%zu bytes; a raw word has two, so one is missing or left over", count);
 }
 
 /* Text that is hex and, taken as raw words, a valid file too could be meant either way. */

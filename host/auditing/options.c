@@ -41,7 +41,10 @@ static bool take_flag(struct options *options, const char *option, bool *is_know
     struct {
         const char *name;
         bool *set;
-    } flags[] = {{"--together", &options->together}, {"--keep", &options->keep}, {"--summary", &options->summary}, {"--quiet", &options->quiet}};
+    } flags[] = {{"--together", &options->together},
+                 {"--keep", &options->keep},
+                 {"--summary", &options->summary},
+                 {"--quiet", &options->quiet}};
     for (size_t i = 0; i < sizeof flags / sizeof *flags; i++)
         if (strcmp(option, flags[i].name) == 0)
             return *flags[i].set = true;

@@ -7,14 +7,14 @@
 #include <stdlib.h>
 #include <string.h>
 
-static void add(struct paths *paths, const char *folder, const char *name) {
-    size_t room = strlen(folder) + strlen(name) + 1;
+static void add(struct paths *paths, const char *folder, const char *parting, const char *name) {
+    size_t room = strlen(folder) + strlen(parting) + strlen(name) + 1;
     char *path = malloc(room), **more = realloc(paths->at, (paths->count + 1) * sizeof *more);
     if (path == NULL || more == NULL) {
         fprintf(stderr, "audit: out of memory\n");
         exit(2);
     }
-    snprintf(path, room, "%s%s", folder, name);
+    snprintf(path, room, "%s%s%s", folder, parting, name);
     paths->at = more;
     paths->at[paths->count++] = path;
 }
@@ -29,16 +29,17 @@ static int by_name(const void *one, const void *other) { return strcmp(*(char *c
 bool paths_add(struct paths *paths, const char *path, char *why) {
     DIR *folder = opendir(path);
     if (folder == NULL) { /* a file, or nothing: reading it tells */
-        add(paths, path, "");
+        add(paths, "", "", path);
         return true;
     }
-    char front[TEXT];
-    size_t before = paths->count, length = strlen(path);
-    snprintf(front, sizeof front, "%s%s", path, path[length - 1] == '/' ? "" : "/");
+    size_t before = paths->count;
+    const char *parting = path[strlen(path) - 1] == '/' ? "" : "/";
     for (struct dirent *entry; (entry = readdir(folder)) != NULL;)
         if (may_be_file(entry))
-            add(paths, front, entry->d_name);
+            add(paths, path, parting, entry->d_name);
     closedir(folder);
+    if (paths->count == before)
+        return say(why, "%s: a folder without files; give images, or a folder that has some", path);
     qsort(paths->at + before, paths->count - before, sizeof *paths->at, by_name);
-    return paths->count > before || say(why, "%s: a folder without files; give images, or a folder that has some", path);
+    return true;
 }
