@@ -4,8 +4,8 @@
     audit_images.py FOLDER    writes them all below FOLDER, the same ones each time
 
 Below FOLDER: `apart`, 200 images for flashes of their own; `together`, for one flash; `first` and `second`, for a flash that is kept, with what
-it holds then (`first.flash`, `second.flash`); `bad` and `bad.flash`, which has bad sectors. The report on each is in NAME.report; that on
-examples/images is in examples.report."""
+it holds then (`first.flash`, `second.flash`); `bad` and `bad.flash`, which has bad sectors. The report on each is in NAME.report; those on
+examples/images are in examples.report, a flash each, and in kept.report, the good ones in one."""
 
 import pathlib
 import random
@@ -271,8 +271,10 @@ def write_all(folder, pick):
     images = write_images(folder / "bad", [("41", raw(exactly(pick, 70, 0x41))), ("43", raw(exactly(pick, 70, 0x43)))])
     (folder / "bad.report").write_text(report(images, bench) + bench.table())
 
-    examples = sorted((PROJECT / EXAMPLES).iterdir())
-    (folder / "examples.report").write_text(report([(str(EXAMPLES / path.name), path.read_bytes()) for path in examples]))
+    images = [(str(EXAMPLES / path.name), path.read_bytes()) for path in sorted((PROJECT / EXAMPLES).iterdir())]
+    (folder / "examples.report").write_text(report(images))
+    bench = Bench()
+    (folder / "kept.report").write_text(report([image for image in images if "/good-" in image[0]], bench) + bench.table())
 
 
 def main(arguments):
