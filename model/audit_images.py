@@ -1,11 +1,11 @@
 #!/usr/bin/env python3
-"""Images for the test of host/audit, valid and damaged in each way that 01 forbids, with the report that each run must print, by the model.
+"""Images for the test of host/audit, valid and damaged in each way that 01 forbids, and the reports that must be printed of them.
 
     audit_images.py FOLDER    writes them all below FOLDER, the same ones each time
 
-Below FOLDER: `apart`, 200 images for flashes of their own; `together`, for one flash; `first` and `second`, for a flash that is kept, with what
-it holds then (`first.flash`, `second.flash`); `bad` and `bad.flash`, which has bad sectors. The report on each is in NAME.report; those on
-examples/images are in examples.report, a flash each, and in kept.report, the good ones in one."""
+Below FOLDER: `apart`, 200 images for flashes of their own; `together`, for one flash; `first` and `second`, for a flash that is kept,
+with what it holds then (`first.flash`, `second.flash`); `bad`, for `bad.flash`, which has bad sectors. The report on each is in
+NAME.report; those on examples/images are in examples.report, a flash each, and in kept.report, the good ones in one."""
 
 import pathlib
 import random

@@ -1,5 +1,5 @@
 /* The program behind host/audit: each image is written into a node's flash by File Write, read back by File Read, and compared word by
-   word with the file that was signed. Main.c says the order of things; the other files have one subject each. Words are two bytes, the
+   word with the file that was signed. main.c has the order of things; the other files have one subject each. Words are two bytes, the
    low byte first, and count from 0, the file's header. */
 #ifndef AUDIT_H
 #define AUDIT_H
@@ -13,9 +13,6 @@ enum { TEXT = 5000 }; /* bytes of a detail or a message, at most: a path can hav
 
 /* What a bench flash holds, for people. */
 #define FLASH_HOLDS "a bench flash holds eight files, one of at most 2,048 and seven of at most 4,096 words"
-
-/* A text in a room of TEXT bytes; answers false, so that what fails can say why in one line. */
-bool say(char *room, const char *form, ...);
 
 /* Options (options.c). */
 
@@ -128,6 +125,9 @@ bool flash_file_read(const char *path, bool may_be_new, struct node *node, bool 
 bool flash_file_write(const char *path, const struct node *node, char *why);
 
 /* What is printed (report.c). */
+
+/* A text in a room of TEXT bytes; answers false, so that what fails can say why in one line. */
+bool say(char *room, const char *form, ...);
 
 void report_head(const struct options *options);
 void report_columns(void);

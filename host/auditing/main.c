@@ -18,11 +18,11 @@ static void ends_with(struct audit *audit, int status) {
         audit->status = status;
 }
 
-/* A message on standard error, and the exit status that it means. */
-static void complain(struct audit *audit, int status, const char *about) {
+/* Says on standard error what is wrong, and ends with a status. */
+static void complain(struct audit *audit, int status) {
     report_progress_end();
     fflush(stdout);
-    fprintf(stderr, "audit: %s%s\n", about, audit->why);
+    fprintf(stderr, "audit: %s\n", audit->why);
     ends_with(audit, status);
 }
 
@@ -31,7 +31,7 @@ static bool is_started(struct audit *audit) {
     if (refusal == LOGODWEN_DONE)
         return true;
     say(audit->why, "the node did not start, refusal %s", logodwen_refusal_text(refusal));
-    complain(audit, NOT_TRUSTED, "");
+    complain(audit, NOT_TRUSTED);
     return false;
 }
 
@@ -41,7 +41,7 @@ static bool is_flash_there(struct audit *audit) {
     if (path == NULL) {
         node_blank(&audit->node);
     } else if (!flash_file_read(path, audit->options.keep, &audit->node, &is_new, audit->why)) {
-        complain(audit, NOT_READ, "");
+        complain(audit, NOT_READ);
         return false;
     }
     if (is_new && !audit->options.quiet)
@@ -49,25 +49,34 @@ static bool is_flash_there(struct audit *audit) {
     return is_started(audit);
 }
 
-/* The sector that an erasure means, and its words; the node may know none. */
-static void erase(struct audit *audit, struct erasure erasure) {
+/* The sector that is to be erased, 0 where no file has the name. */
+static unsigned sector_to_erase(struct node *node, struct erasure erasure) {
     struct entry directory[SECTORS];
-    bool is_known = node_directory(&audit->node, directory);
-    unsigned sector = erasure.is_sector ? erasure.which : is_known ? directory_named(directory, erasure.which) : 0;
+    if (erasure.is_sector)
+        return erasure.which;
+    return node_directory(node, directory) ? directory_named(directory, erasure.which) : 0;
+}
+
+static bool is_empty_now(struct node *node, unsigned sector) {
+    struct entry directory[SECTORS];
+    return sector != 0 && node_directory(node, directory) && entry_is_empty(directory[sector - SECTOR_FIRST]);
+}
+
+static void erase(struct audit *audit, struct erasure erasure) {
+    unsigned sector = sector_to_erase(&audit->node, erasure);
     uint64_t answered = node_erase(&audit->node, erasure);
     if (sector == 0 && logodwen_answer(answered) == LOGODWEN_REPLY && logodwen_bc(answered) == LOGODWEN_BC_ABORT) {
         say(audit->why, "--erase %02X: no file has this name; --summary shows the names", erasure.which);
-        complain(audit, SOME_DIFFER, "");
+        complain(audit, SOME_DIFFER);
         return;
     }
-    uint32_t set = node_erase_on(&audit->node);
-    is_known = is_known && sector != 0 && node_directory(&audit->node, directory);
-    if (is_known && set == sector_words(sector) && entry_is_empty(directory[sector - SECTOR_FIRST])) {
-        printf("# erased: sector %u, %u words\n", sector, (unsigned)set);
+    unsigned set = node_erase_on(&audit->node);
+    if (is_empty_now(&audit->node, sector) && set == sector_words(sector)) {
+        printf("# erased: sector %u, %u words\n", sector, set);
         return;
     }
-    say(audit->why, "sector %u should be erased and empty, but is not; words set: %u", sector, (unsigned)set);
-    complain(audit, NOT_TRUSTED, "DISPUTED: ");
+    say(audit->why, "DISPUTED: sector %u should be erased and empty, but is not; words set: %u", sector, set);
+    complain(audit, NOT_TRUSTED);
 }
 
 static void count(struct audit *audit, const char *path, const struct finding *finding) {
@@ -77,7 +86,7 @@ static void count(struct audit *audit, const char *path, const struct finding *f
     ends_with(audit, finding->verdict == AGREES ? ALL_AGREE : finding->verdict == UNREADABLE ? NOT_READ : SOME_DIFFER);
     if (finding->verdict == DISPUTED) {
         say(audit->why, "%s: DISPUTED: the node and this program disagree, so one has a fault; please report it with the image", path);
-        complain(audit, NOT_TRUSTED, "");
+        complain(audit, NOT_TRUSTED);
     }
 }
 
@@ -97,16 +106,16 @@ static void audit_image(struct audit *audit, const char *path) {
 static void keep(struct audit *audit) {
     if (audit->status == NOT_TRUSTED || audit->totals[DIFFERS] != 0) {
         say(audit->why, "%s is not written back, since the node did not do as it should", audit->options.flash);
-        complain(audit, SOME_DIFFER, "");
+        complain(audit, SOME_DIFFER);
     } else if (!flash_file_write(audit->options.flash, &audit->node, audit->why)) {
-        complain(audit, NOT_READ, "");
+        complain(audit, NOT_READ);
     }
 }
 
 static void audit_images(struct audit *audit) {
     for (size_t i = 0; i < audit->options.path_count; i++)
         if (!paths_add(&audit->paths, audit->options.paths[i], audit->why))
-            complain(audit, NOT_READ, "");
+            complain(audit, NOT_READ);
     if (!audit->options.quiet)
         report_columns();
     for (size_t i = 0; i < audit->paths.count; i++) {
@@ -127,7 +136,7 @@ static void run(struct audit *audit) {
     if (options->path_count > 0)
         audit_images(audit);
     if (options->summary && !report_directory(&audit->node, audit->why))
-        complain(audit, NOT_TRUSTED, "DISPUTED: ");
+        complain(audit, NOT_TRUSTED);
     if (options->keep)
         keep(audit);
 }
@@ -135,7 +144,7 @@ static void run(struct audit *audit) {
 int main(int count, char **arguments) {
     static struct audit audit;
     if (!options_read(count - 1, arguments + 1, &audit.options, audit.why)) {
-        complain(&audit, NOT_READ, "");
+        complain(&audit, NOT_READ);
         fprintf(stderr, "usage: host/audit [OPTION..] IMAGE..    as in: host/audit examples/images\n"
                         "host/audit --help tells the options, the verdicts and the exit status\n");
         return NOT_READ;
@@ -143,7 +152,7 @@ int main(int count, char **arguments) {
     run(&audit);
     if (fflush(stdout) != 0 || ferror(stdout)) {
         say(audit.why, "the report can't be written");
-        complain(&audit, NOT_READ, "");
+        complain(&audit, NOT_READ);
     }
     return audit.status;
 }

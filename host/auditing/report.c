@@ -2,7 +2,16 @@
 #define _POSIX_C_SOURCE 200809L
 #include "audit.h"
 
+#include <stdarg.h>
 #include <unistd.h>
+
+bool say(char *room, const char *form, ...) {
+    va_list values;
+    va_start(values, form);
+    vsnprintf(room, TEXT, form, values);
+    va_end(values);
+    return false;
+}
 
 static const char *const verdicts[VERDICTS] = {"AGREES",    "DIFFERS", "INVALID",    "TOO-LARGE",
                                                "NAME-USED", "NO-ROOM", "UNREADABLE", "DISPUTED"};
@@ -73,7 +82,7 @@ static void print_sector(unsigned sector, struct entry entry, size_t words) {
 bool report_directory(struct node *node, char *why) {
     struct entry directory[SECTORS];
     if (!node_directory(node, directory))
-        return say(why, "Flash Summary was not answered with a directory");
+        return say(why, "DISPUTED: Flash Summary was not answered with a directory");
     bool is_right = true;
     printf("# sector\tname\ttype\tattribute\twords\tstatus\n");
     for (unsigned sector = SECTOR_FIRST; sector <= SECTOR_LAST; sector++) {
@@ -83,7 +92,7 @@ bool report_directory(struct node *node, char *why) {
         bool is_good = !entry_is_erasing(entry) && !entry_is_bad(entry) && !entry_is_empty(entry);
         print_sector(sector, entry, is_good ? words : 0);
         if (is_good != (words != 0) && is_right)
-            is_right = say(why, "the directory has sector %u as %s, and by the rules its words are %s", sector, sector_status(entry),
+            is_right = say(why, "DISPUTED: the directory has sector %u as %s, but by the rules it is: %s", sector, sector_status(entry),
                            words != 0 ? "a valid file" : rule);
     }
     return is_right;

@@ -2,16 +2,6 @@
    verdict.c notices where the two disagree. */
 #include "audit.h"
 
-#include <stdarg.h>
-
-bool say(char *room, const char *form, ...) {
-    va_list values;
-    va_start(values, form);
-    vsnprintf(room, TEXT, form, values);
-    va_end(values);
-    return false;
-}
-
 /* Where a segment stands, for a message: "segment 2 of 3". */
 struct which {
     unsigned segment, of;
