@@ -4,14 +4,15 @@
     audit_images.py FOLDER    writes them all below FOLDER, the same ones each time
 
 Below FOLDER: `apart`, 200 images for flashes of their own; `together`, for one flash; `first` and `second`, for a flash that is kept,
-with what it holds then (`first.flash`, `second.flash`); `bad`, for `bad.flash`, which has bad sectors. The report on each is in
-NAME.report; those on examples/images are in examples.report, a flash each, and in kept.report, the good ones in one."""
+with what it holds then (`first.flash`, `second.flash`); `bad`, for `bad.flash`, which has bad sectors; `each`, an image for
+a library that reads each word wrong once. The report on each is in NAME.report; those on examples/images are in examples.report, a flash
+each, and in kept.report, the good ones in one."""
 
 import pathlib
 import random
 import sys
 
-from audit_report import Bench, report
+from audit_report import Bench, each_word_wrong, report
 from build import file_of, header, segment
 from files import DM, IO, PM, sealed
 from flash import extent, store
@@ -270,6 +271,10 @@ def write_all(folder, pick):
     bench = Bench(flash)
     images = write_images(folder / "bad", [("41", raw(exactly(pick, 70, 0x41))), ("43", raw(exactly(pick, 70, 0x43)))])
     (folder / "bad.report").write_text(report(images, bench) + bench.table())
+
+    image = in_rows(any_file(pick, 5))
+    (folder / "each").write_bytes(image)
+    (folder / "each.report").write_text(each_word_wrong("each", image))
 
     images = [(str(EXAMPLES / path.name), path.read_bytes()) for path in sorted((PROJECT / EXAMPLES).iterdir())]
     (folder / "examples.report").write_text(report(images))

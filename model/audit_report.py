@@ -178,15 +178,30 @@ class Bench:
         return "".join(lines)
 
 
+# Whole reports.
+
 ORDER = ("DIFFERS", "INVALID", "TOO-LARGE", "NAME-USED", "NO-ROOM", "UNREADABLE", "DISPUTED")
 
 
-def report(images, bench=None):
-    """The lines of images, each a path and its bytes, and their sum: on a blank flash each, or all in one."""
-    lines = [(bench or Bench()).line(path, data) for path, data in images]
-    verdicts = [line[5] for line in lines]
-    others = ", ".join("%d %s" % (verdicts.count(verdict), verdict) for verdict in ORDER if verdict in verdicts)
+def total(verdicts):
+    """The last line."""
     agree = verdicts.count(AGREES)
-    total = "# %d image%s: %d agree%s%s\n" % (
-        len(lines), "" if len(lines) == 1 else "s", agree, "s" if agree == 1 else "", "; " + others if others else "")
-    return "".join("\t".join(line) + "\n" for line in lines) + total
+    told = "# %d image%s: %d agree%s" % (len(verdicts), "" if len(verdicts) == 1 else "s", agree, "s" if agree == 1 else "")
+    others = ["%d %s" % (verdicts.count(verdict), verdict) for verdict in ORDER if verdict in verdicts]
+    return "; ".join([told] + ([", ".join(others)] if others else []))
+
+
+def lines_and_total(lines):
+    return "".join("\t".join(line) + "\n" for line in lines) + total([line[5] for line in lines]) + "\n"
+
+
+def report(images, bench=None):
+    """On images, each a path and its bytes: on a blank flash each, or all in one."""
+    return lines_and_total([(bench or Bench()).line(path, data) for path, data in images])
+
+
+def each_word_wrong(path, data):
+    """On an image that is audited as often as it has words, each time with the lowest bit of the next one wrong in what is read."""
+    fields, words = Bench().line(path, data), words_of(data)
+    details = ["word %d: signed %04X, read %04X" % (at, word, word ^ 1) for at, word in enumerate(words)]
+    return lines_and_total([fields[:5] + ["DIFFERS", detail] for detail in details])

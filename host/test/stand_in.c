@@ -15,11 +15,14 @@ static bool is_own(const uint8_t *packet, size_t packet_len, unsigned id) {
     return packet_len >= 2 && packet[0] == 0x2E && packet[1] == id;
 }
 
-/* The reply to a File Read with words, with a fault. */
+/* The reply to a File Read with words, with a fault. One word of the file is wrong, a different one each time, under a right FCS. */
 static uint64_t read_with_fault(uint64_t answered, uint8_t *reply) {
+    static size_t reads;
     size_t words = logodwen_words(answered);
-    if (FAULT == READ_WRONG)
-        reply[words] ^= 1; /* the low byte of a word in the middle, or the high one */
+    if (FAULT == READ_WRONG) {
+        reply[2 * (reads++ % (words - 2))] ^= 1;
+        logodwen_put(reply, words - 1, logodwen_fcs(reply, words - 1));
+    }
     if (FAULT == READ_UNSEALED)
         reply[2 * words - 1] ^= 1;
     return FAULT == READ_SHORT ? answered - ((uint64_t)1 << 32) : answered;
