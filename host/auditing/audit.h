@@ -101,8 +101,8 @@ bool entry_is_bad(struct entry entry);
 bool entry_is_erasing(struct entry entry);
 size_t sector_words(unsigned sector);
 const uint8_t *sector_begin(const struct node *node, unsigned sector);
-unsigned directory_named(const struct entry *directory, unsigned name);  /* the lowest sector with that name, or 0 */
-unsigned directory_place(const struct entry *directory, size_t words);   /* the lowest empty sector with room, or 0 */
+unsigned directory_named(const struct entry *directory, unsigned name); /* the lowest sector with that name, or 0 */
+unsigned directory_place(const struct entry *directory, size_t words);  /* the lowest empty sector with room, or 0 */
 
 /* The verdict on an image (verdict.c). */
 

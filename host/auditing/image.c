@@ -29,7 +29,7 @@ static size_t token_length(const uint8_t *bytes, size_t count, size_t at) {
     return end - at;
 }
 
-static bool is_no_word(const uint8_t *at, size_t length, size_t line, char *why) {
+static bool say_no_word(const uint8_t *at, size_t length, size_t line, char *why) {
     enum { SHOWN = 12 };
     char shown[SHOWN + 1] = "";
     for (size_t i = 0; i < length && i < SHOWN; i++)
@@ -55,7 +55,7 @@ static bool take_hex(struct image *image, size_t count, char *why) {
             logodwen_put(bytes, image->words++, (uint16_t)(high << 8 | low));
             at += length;
         } else {
-            return is_no_word(bytes + at, length, line, why);
+            return say_no_word(bytes + at, length, line, why);
         }
     }
     return true;

@@ -43,7 +43,7 @@ static struct forecast foretell(const struct entry *directory, const struct imag
     return rules_is_file(image->bytes, image->words, forecast.why) ? foretell_valid(directory, image) : forecast;
 }
 
-/* Whether both have a word at a place or neither does. */
+/* Whether as many words were read as were signed; if not, the first place that only one of the two has. */
 static bool are_as_long(const struct image *image, const uint8_t *read, size_t count, char *detail) {
     size_t all = image->words;
     if (count < all)
