@@ -1,10 +1,10 @@
 -- A call on the words of lent bytes: what it leaves in words, stored back, is what its definition leaves in bytes. A packet above 8,192
 -- words is ERROR whatever its words, so no more than 8,193 of them need be loaded. Assumes nothing.
-use Prim.Native.Nat.{ℕ, min, zero, suc, _+_, _*_, _/_, _≤_, _<_}
+use Prim.Native.Nat.{ℕ, min, zero, suc, _+_, _/_, _≤_, _<_}
 use native.Mathlib.Omega.{arith}
 use native.Mathlib.Nat.{min-zero, zero-min, suc-min-suc}
 use mathlib.Core.List.{List, [], _∷_, _++_}
-use mathlib.Core.Path.{_≡_, refl, sym, ap, _∙_}
+use mathlib.Core.Path.{_≡_, sym, ap, _∙_}
 use mathlib.Core.Bool.{Bool, true, false}
 use native.Mathlib.Decide.{decLe}
 use lib.ListN.{length, take, drop, length-append}
@@ -20,7 +20,7 @@ use Rattle.node.specs.declared.Node.{Node}
 use Rattle.node.specs.declared.Route.{Route}
 use Rattle.node.specs.declared.Turn.{Turn}
 use Rattle.logodwen.specs.Bytes.{wordsOf, bytesOf, storeWords, Loaded}
-use Rattle.logodwen.specs.Entry.{memoryWords, memoriesInBytes, replyWords, runWords, inBytes}
+use Rattle.logodwen.specs.Entry.{memoryWords, memoriesInBytes, replyWords, inBytes}
 use Rattle.logodwen.proofs.Runs.{length-words-of, loaded-full}
 
 -- where the flash, or the reply buffer, is the only run

@@ -8,7 +8,6 @@ ghost use Rattle.node.specs.Calls.{lentReply, lentFlash, startOf, requestOf, re
 ghost use Rattle.logodwen.specs.Bytes.{wordsOf};
 ghost use Rattle.logodwen.specs.Number.{fields, answerNumber};
 ghost use Rattle.logodwen.specs.Entry.{memoryWords, replyWords, runWords, inBytes, memoriesInBytes};
-use crate::checks::refusal_number;
 use crate::words::load16;
 use crate::words::load32;
 use crate::words::store16;
@@ -17,6 +16,7 @@ use base::least;
 use node::Answer;
 use node::Node;
 use node::Turn;
+use node::refusals::refusal_number;
 
 fn done(kind: u64, who: u64, from: u64, words: u64) -> u64
     ensures { λ r. ⌜ r ≡ fields kind who from words ⌝ }
