@@ -40,10 +40,10 @@ use Rattle.demands.proofs.Sound.{reached-sound}
 size-tells : (words : ℕ) → Tells (sizeOk words) (FlashSize words)
 size-tells words = or-tells (eqb-tells words 32768) (eqb-tells words 262144)
 
-kind-tells : (kind : ℕ) → Tells (kindOk kind) ((kind ≡ 1) ⊎ (kind ≡ 2))
+pub kind-tells : (kind : ℕ) → Tells (kindOk kind) ((kind ≡ 1) ⊎ (kind ≡ 2))
 kind-tells kind = or-tells (eqb-tells kind 1) (eqb-tells kind 2)
 
-ports-tells : (ports : ℕ) → Tells (portsOk ports) ((1 ≤ ports) × (ports ≤ 4))
+pub ports-tells : (ports : ℕ) → Tells (portsOk ports) ((1 ≤ ports) × (ports ≤ 4))
 ports-tells ports = and-tells (leb-tells 1 ports) (leb-tells ports 4)
 
 all-masks : (masks : List ℕ) → ((i : ℕ) → getD masks i 0 < 16777216) → masksOk masks ≡ true
@@ -111,18 +111,18 @@ link-tells : (ports link : ℕ) → Tells (leb ports link) (link < ports → ⊥
 link-tells ports link = same-tells (λ h l. absurd (omega arith)) (λ h. omega (arith, h)) (leb-tells ports link)
 
 -- a list of tests decides a list of causes, one by one
-abbrev Decides : List Test → List Cause → Type 0
+abbrev pub Decides : List Test → List Cause → Type 0
 Decides [] [] = Unit {0}
 Decides [] (c ∷ causes) = ⊥
 Decides (t ∷ tests) [] = ⊥
 Decides (t ∷ tests) (c ∷ causes) = ((refusalNumber (t .refusal) ≡ c .number) × Tells (t .holds) (c .holds)) × Decides tests causes
 
-abbrev verdictNumber : Verdict → ℕ
+abbrev pub verdictNumber : Verdict → ℕ
 verdictNumber Verdict.Fine = 0
 verdictNumber (Verdict.No r) = refusalNumber r
 
 -- then the verdict's number is that of the first cause that holds
-first-is : (tests : List Test) (causes : List Cause) → Decides tests causes → (i : ℕ) → (verdictNumber (firstOf tests) ≡ i) ↔ FirstOf causes i
+pub first-is : (tests : List Test) (causes : List Cause) → Decides tests causes → (i : ℕ) → (verdictNumber (firstOf tests) ≡ i) ↔ FirstOf causes i
 first-is [] [] d i = (λ e. e, λ e. e)
 first-is [] (c ∷ causes) d i = absurd d
 first-is (t ∷ tests) [] d i = absurd d

@@ -10,7 +10,6 @@ ghost use Rattle.logodwen.specs.Bytes.{wordsOf};
 ghost use Rattle.logodwen.specs.Number.{fields, answerNumber};
 ghost use Rattle.logodwen.specs.Entry.{memoryWords, replyWords, runWords, inBytes, memoriesInBytes, flashInBytes};
 ghost use Rattle.logodwen.specs.Apart.{idIn, needsMemories, needsFlash};
-use crate::checks::refusal_number;
 use crate::words::load16;
 use crate::words::load32;
 use crate::words::store16;
@@ -19,6 +18,7 @@ use base::least;
 use node::Answer;
 use node::Node;
 use node::Turn;
+use node::refusals::refusal_number;
 
 fn done(kind: u64, who: u64, from: u64, words: u64) -> u64
     ensures { λ r. ⌜ r ≡ fields kind who from words ⌝ }

@@ -1,0 +1,316 @@
+-- Each test of the border decides its cause, so an entry's verdict is the number of the first cause that holds; and an entry that is not
+-- refused makes a call that is not refused, whose number has the low byte 0. Assumes nothing.
+use Prim.Native.Nat.{ℕ, _*_, _/_, _%_, _≤_, _<_}
+use native.Mathlib.Omega.{arith}
+use mathlib.Core.Path.{_≡_, refl, sym, ap, _∙_}
+use mathlib.Core.Logic.{_⊎_, inl, inr}
+use mathlib.Core.Bool.{Bool, true, false, _||_, not, false≢true}
+use mathlib.Core.List.{List, [], _∷_}
+use lib.ListN.{length}
+use lib.Dec.{ltb, leb, eqb}
+use Rattle.base.specs.Pick.{pick}
+use Rattle.group.specs.Fragment.{built}
+use Rattle.node.specs.State.{refusalNumber}
+use Rattle.node.specs.Effect.{Effect, Lent, Outcome, outcome}
+use Rattle.node.specs.Valid.{kindOk, portsOk}
+use Rattle.node.specs.Refusals.{firstOf, isPending, isAsked, replyVerdict, pollVerdict, eraseVerdict, startVerdict}
+use Rattle.node.specs.Refusals.{Cause as Test, cause as test, replyCause as replyTest, slaveCause as slaveTest, busyCause as busyTest, pollCause as pollTest, unaskedCause as unaskedTest}
+use Rattle.node.specs.Slaves.{ask, gathering, replyEffect, pollEffect}
+use Rattle.node.specs.Calls.{judged, given, startBy, lentReply, lentFlash, eraseEffect, startOf, requestOf, replyOf, pollOf, eraseOf}
+use Rattle.node.specs.declared.Answer.{Answer}
+use Rattle.node.specs.declared.Ask.{Ask}
+use Rattle.node.specs.declared.Gathering.{Gathering}
+use Rattle.node.specs.declared.Given.{Given}
+use Rattle.node.specs.declared.Node.{Node}
+use Rattle.node.specs.declared.Pending.{Pending}
+use Rattle.node.specs.declared.Refusal.{Refusal}
+use Rattle.node.specs.declared.Verdict.{Verdict}
+use Rattle.demands.specs.Machine.{isRefused}
+use Rattle.demands.specs.Refusals.{Cause}
+use Rattle.demands.proofs.Tests.{Tells, leb-tells, ltb-tells, eqb-tells, and-tells, or-tells, not-tells, same-tells}
+use Rattle.demands.proofs.Refusals.{kind-tells, ports-tells, Decides, verdictNumber, first-is}
+use Rattle.demands.proofs.Taken.{verdictOn, requestEffect, request-taken, reply-taken, poll-taken}
+use Rattle.logodwen.specs.Bytes.{numberAt, wordsOf}
+use Rattle.logodwen.specs.StateBytes.{sizeIn, portsIn, tallyOf, waitIn, nodeIn}
+use Rattle.logodwen.specs.Number.{answerNumber}
+use Rattle.logodwen.specs.Causes.{benchCause as benchTest, memoriesCause as memoriesTest, lengthCause as lengthTest, portCause as portTest, bytesCause as bytesTest, requestCheck, replyCheck, pollCheck, eraseCheck, startCheck}
+use Rattle.logodwen.specs.Entry.{Answered, entered, isSet, replyWords, runWords, startEntry, requestEntry, replyEntry, pollEntry, eraseEntry}
+use Rattle.logodwen.specs.declared.Wait.{Wait}
+use Rattle.border.specs.Exactly.{entries, Above, BenchSize, Pends, Asks, startCauses, requestCauses, replyCauses, pollCauses, eraseCauses, Exactly, Unchanged, RefusedExactly}
+use Rattle.border.proofs.Fine.{request-fine, reply-fine, poll-fine, erase-fine, start-fine}
+use Rattle.border.proofs.OfState.{state-bytes-tell}
+
+-- tests on words decide causes on bytes
+
+bench-tells : (flash : List ℕ) → Tells (eqb (length flash / 2) 32768) (BenchSize flash)
+bench-tells flash = same-tells long words (eqb-tells (length flash / 2) 32768)
+  where
+    long : length flash / 2 ≡ 32768 → BenchSize flash
+    long h = by (eqb (length flash) 65536) (eqb-tells (length flash) 65536)
+      where
+        by : (t : Bool) → Tells t (length flash ≡ 65536) → BenchSize flash
+        by true p = inl (p .told refl)
+        by false p = inr (let odd : length flash ≡ 65536 → ⊥ = λ e. false≢true (p .tells e) in omega (arith, odd))
+
+    words : BenchSize flash → length flash / 2 ≡ 32768
+    words (inl e) = omega arith
+    words (inr e) = omega arith
+
+-- what is looked at only where the state bytes are 172
+where-tells : {t u : Bool} {A B : Type 0} → Tells t A → Tells u B → Tells (not (pick t u true)) (A × (B → ⊥))
+where-tells {t} {u} {A} {B} p q = record { told = left t p; tells = right t p }
+  where
+    left : (s : Bool) → Tells s A → not (pick s u true) ≡ true → A × (B → ⊥)
+    left true p′ e = (p′ .told refl, not-tells q .told e)
+    left false p′ e = absurd (false≢true e)
+
+    right : (s : Bool) → Tells s A → A × (B → ⊥) → not (pick s u true) ≡ true
+    right true p′ x = not-tells q .tells (x .1)
+    right false p′ x = absurd (false≢true (p′ .tells (x .0)))
+
+flash-tells : (state flash : List ℕ)
+    → Tells (benchTest state (length flash / 2) .holds)
+    ((BenchSize flash → ⊥) ⊎ ((length state ≡ 172) × (length flash / 2 ≡ sizeIn state → ⊥)))
+flash-tells state flash =
+    or-tells (not-tells (bench-tells flash)) (where-tells (eqb-tells (length state) 172) (eqb-tells (length flash / 2) (sizeIn state)))
+
+short-tells : (reply : List ℕ) → Tells (ltb (length reply / 2) 12288) (length reply < 2 * 12288)
+short-tells reply = same-tells (λ h. omega arith) (λ h. omega arith) (ltb-tells (length reply / 2) 12288)
+
+above-two : (words : ℕ) (run : List ℕ) → Tells (ltb words (length run / 2)) (Above 2 words run)
+above-two words run = same-tells (λ h. omega arith) (λ h. omega arith) (ltb-tells words (length run / 2))
+
+above-four : (words : ℕ) (run : List ℕ) → Tells (ltb words (length run / 4)) (Above 4 words run)
+above-four words run = same-tells (λ h. omega arith) (λ h. omega arith) (ltb-tells words (length run / 4))
+
+word-tells : (packet : List ℕ) → Tells (leb 1 (length packet / 2)) (2 ≤ length packet)
+word-tells packet = same-tells (λ h. omega arith) (λ h. omega arith) (leb-tells 1 (length packet / 2))
+
+-- what is pending, by the bytes that say it
+
+pends-by : (t u : Bool) (a : Ask) (g : Gathering) {A : Type 0} → Tells (t || u) A
+    → Tells (isPending (pick t (Pending.Slave a) (pick u (Pending.Group a g) Pending.Nothing))) A
+pends-by true u a g p = p
+pends-by false true a g p = p
+pends-by false false a g p = p
+
+asks-by : (t u : Bool) (a : Ask) (g : Gathering) (slave : ℕ) {A : Type 0} → Tells (t || u) A
+    → Tells (isAsked (pick t (Pending.Slave a) (pick u (Pending.Group a g) Pending.Nothing)) slave) (A × (a .slave ≡ slave))
+asks-by true u a g slave p = and-tells p (eqb-tells (a .slave) slave)
+asks-by false true a g slave p = and-tells p (eqb-tells (a .slave) slave)
+asks-by false false a g slave p = and-tells p (eqb-tells (a .slave) slave)
+
+some-tells : (state : List ℕ) → Tells (eqb (numberAt 1 15 state) 1 || eqb (numberAt 1 15 state) 2) (Pends state)
+some-tells state = or-tells (eqb-tells (numberAt 1 15 state) 1) (eqb-tells (numberAt 1 15 state) 2)
+
+abbrev askIn : Wait → Ask
+askIn w = ask (w .link) (w .slave) (w .at)
+
+abbrev gatheringIn : Wait → Gathering
+gatheringIn w = gathering (w .set) (w .from) (built (w .words) (tallyOf (w .tally)))
+
+pends-tells : (state : List ℕ) → Tells (isPending (nodeIn state .pending)) (Pends state)
+unfolding nodeIn
+pends-tells state =
+    let w = waitIn state in
+    pends-by (eqb (w .pending) 1) (eqb (w .pending) 2) (askIn w) (gatheringIn w) (some-tells state)
+
+asks-tells : (state : List ℕ) (slave : ℕ) → Tells (isAsked (nodeIn state .pending) slave) (Asks state slave)
+unfolding nodeIn
+asks-tells state slave =
+    let w = waitIn state in
+    asks-by (eqb (w .pending) 1) (eqb (w .pending) 2) (askIn w) (gatheringIn w) slave (some-tells state)
+
+-- a call that is done has the low byte 0, and a refusal's number is below 256
+
+done-low : (a : Answer) → isRefused a ≡ false → answerNumber a % 256 ≡ 0
+done-low (Answer.Refused r) h = absurd (false≢true (sym h))
+done-low Answer.Started h = refl
+done-low (Answer.Reply r) h = omega arith
+done-low (Answer.Ask a) h = omega arith
+done-low Answer.Waiting h = refl
+done-low (Answer.Erased count) h = omega arith
+
+refusal-low : (r : Refusal) → refusalNumber r < 256
+refusal-low Refusal.FlashSize = omega arith
+refusal-low Refusal.ReplySize = omega arith
+refusal-low Refusal.MemorySize = omega arith
+refusal-low Refusal.Number = omega arith
+refusal-low Refusal.State = omega arith
+refusal-low Refusal.Busy = omega arith
+refusal-low Refusal.Unasked = omega arith
+
+-- an entry whose call is not refused where its own verdict is fine
+entered-exactly : (tests : List Test) (causes : List Cause) (state : List ℕ) (runs : Lent) (o : Outcome)
+    → (firstOf tests ≡ Verdict.Fine → isRefused (o .turn .answer) ≡ false) → Decides tests causes
+    → Exactly causes (entered (firstOf tests) state runs o .number % 256) × Unchanged (entered (firstOf tests) state runs o) state runs
+entered-exactly tests causes state runs o taken d =
+    (λ i. let q = first-is tests causes d i in (λ h. q .0 (sym low ∙ h), λ h. low ∙ q .1 h), stays (firstOf tests) taken)
+  where
+    number : (v : Verdict) → (v ≡ Verdict.Fine → isRefused (o .turn .answer) ≡ false)
+        → entered v state runs o .number % 256 ≡ verdictNumber v
+    number Verdict.Fine h = done-low (o .turn .answer) (h refl)
+    number (Verdict.No r) h = omega (arith, refusal-low r)
+
+    low : entered (firstOf tests) state runs o .number % 256 ≡ verdictNumber (firstOf tests)
+    low = number (firstOf tests) taken
+
+    stays : (v : Verdict) → (v ≡ Verdict.Fine → isRefused (o .turn .answer) ≡ false) → Unchanged (entered v state runs o) state runs
+    stays Verdict.Fine h e = absurd (e (done-low (o .turn .answer) (h refl)))
+    stays (Verdict.No r) h e = record { alone = refusal-low r; bytes = refl; lent = refl }
+
+-- a call with a fine verdict is not refused
+judged-taken : (v : Verdict) (n : Node) (l : Lent) (e : Effect) → isRefused (e .answer) ≡ false → v ≡ Verdict.Fine
+    → isRefused (judged v n l e .turn .answer) ≡ false
+judged-taken v n l e t fine = ap (λ (w : Verdict). isRefused (judged w n l e .turn .answer)) fine ∙ t
+
+-- the five entries
+
+request-exactly : (clock link bc errors : ℕ) (packet state : List ℕ) (runs : Lent)
+    → Exactly (requestCauses link packet state runs) (requestEntry clock link bc errors packet state runs .number % 256)
+    × Unchanged (requestEntry clock link bc errors packet state runs) state runs
+unfolding requestEntry requestOf requestCheck
+request-exactly clock link bc errors packet state runs =
+    let n = nodeIn state in
+    let e = isSet errors in
+    let words = wordsOf 2 packet in
+    let lent = runWords runs in
+    let flash = length (runs .flash) / 2 in
+    let pm = length (runs .memories .pm) / 4 in
+    let dm = length (runs .memories .dm) / 2 in
+    let io = length (runs .memories .io) / 2 in
+    entered-exactly
+    (benchTest state flash ∷ replyTest (length (runs .reply) / 2) ∷ memoriesTest pm dm io ∷ portTest state link ∷ bytesTest state
+    ∷ busyTest n (length packet / 2) ∷ [])
+    (requestCauses link packet state runs) state runs (requestOf n clock link bc e words lent)
+    (λ h. judged-taken (verdictOn n link words lent) n lent (requestEffect n clock link bc e words lent)
+    (request-taken n clock link bc e words lent) (request-fine link packet state runs h)) (
+      (refl, flash-tells state (runs .flash)),
+      (
+        (refl, short-tells (runs .reply)),
+        (
+          (
+            refl,
+            or-tells (or-tells (above-four 8192 (runs .memories .pm)) (above-two 8192 (runs .memories .dm)))
+                (above-two 4096 (runs .memories .io)),
+          ),
+          (
+            (refl, where-tells (eqb-tells (length state) 172) (ltb-tells link (portsIn state))),
+            (
+              (refl, not-tells (state-bytes-tell state)),
+              (
+                (refl, and-tells (pends-tells state) (word-tells packet)),
+                tt,
+              ),
+            ),
+          ),
+        ),
+      ),
+    )
+
+reply-exactly : (clock slave bc errors status address : ℕ) (packet state reply : List ℕ)
+    → Exactly (replyCauses slave packet state reply) (replyEntry clock slave bc errors status address packet state reply .number % 256)
+    × Unchanged (replyEntry clock slave bc errors status address packet state reply) state (lentReply reply)
+unfolding replyEntry replyOf replyCheck
+reply-exactly clock slave bc errors status address packet state reply =
+    let n = nodeIn state in
+    let e = isSet errors in
+    let words = wordsOf 2 packet in
+    let buffer = replyWords reply in
+    entered-exactly
+    (replyTest (length reply / 2) ∷ lengthTest (length packet / 2) ∷ slaveTest slave ∷ bytesTest state ∷ unaskedTest n slave ∷ [])
+    (replyCauses slave packet state reply) state (lentReply reply) (replyOf n clock slave bc e status address words buffer)
+    (λ h. judged-taken (replyVerdict n slave (length buffer)) n (lentReply buffer) (replyEffect n clock e status address bc words buffer)
+    (reply-taken n clock e status address bc words buffer) (reply-fine slave packet state reply h)) (
+      (refl, short-tells reply),
+      (
+        (refl, above-two 32768 packet),
+        (
+          (refl, ltb-tells 23 slave),
+          (
+            (refl, not-tells (state-bytes-tell state)),
+            (
+              (refl, not-tells (asks-tells state slave)),
+              tt,
+            ),
+          ),
+        ),
+      ),
+    )
+
+poll-exactly : (clock : ℕ) (state reply : List ℕ)
+    → Exactly (pollCauses state reply) (pollEntry clock state reply .number % 256)
+    × Unchanged (pollEntry clock state reply) state (lentReply reply)
+unfolding pollEntry pollOf pollCheck
+poll-exactly clock state reply =
+    let n = nodeIn state in
+    let buffer = replyWords reply in
+    entered-exactly (replyTest (length reply / 2) ∷ bytesTest state ∷ pollTest n ∷ []) (pollCauses state reply) state (lentReply reply)
+    (pollOf n clock buffer)
+    (λ h. judged-taken (pollVerdict n (length buffer)) n (lentReply buffer) (pollEffect n clock buffer) (poll-taken n clock buffer)
+    (poll-fine state reply h))
+    ((refl, short-tells reply), ((refl, not-tells (state-bytes-tell state)), ((refl, not-tells (pends-tells state)), tt)))
+
+erase-exactly : (budget : ℕ) (state flash : List ℕ)
+    → Exactly (eraseCauses state flash) (eraseEntry budget state flash .number % 256)
+    × Unchanged (eraseEntry budget state flash) state (lentFlash flash)
+unfolding eraseEntry eraseOf eraseCheck
+erase-exactly budget state flash =
+    let n = nodeIn state in
+    let words = wordsOf 2 flash in
+    entered-exactly (benchTest state (length flash / 2) ∷ bytesTest state ∷ []) (eraseCauses state flash) state (lentFlash flash)
+    (eraseOf n budget words)
+    (λ h. judged-taken (eraseVerdict n (length words)) n (lentFlash words) (eraseEffect n budget words) refl (erase-fine state flash h))
+    ((refl, flash-tells state flash), ((refl, not-tells (state-bytes-tell state)), tt))
+
+-- the number of a start is its refusal's alone, so its low byte is the whole
+start-exactly : (kind ports subdetector program version tests clock : ℕ) (flash state : List ℕ)
+    → Exactly (startCauses kind ports subdetector flash state)
+    (startEntry kind ports subdetector program version tests clock flash state .number)
+    × Unchanged (startEntry kind ports subdetector program version tests clock flash state) state (lentReply [])
+unfolding startEntry startOf startCheck
+start-exactly kind ports subdetector program version tests clock flash state =
+    (λ i. let q = exactly .0 i in (λ h. q .0 (low ∙ h), λ h. sym low ∙ q .1 h), exactly .1)
+  where
+    words : List ℕ
+    words = wordsOf 2 flash
+
+    g : Given
+    g = given kind ports subdetector program version tests clock (length words)
+
+    o : Outcome
+    o = outcome (startBy (startVerdict kind ports subdetector (length words)) g words) (lentReply [])
+
+    causes : List Test
+    causes =
+        test Refusal.FlashSize (not (eqb (length flash / 2) 32768))
+        ∷ test Refusal.Number (not (portsOk ports) || not (kindOk kind) || ltb 7 subdetector)
+        ∷ test Refusal.State (not (eqb (length state) 172))
+        ∷ []
+
+    done : firstOf causes ≡ Verdict.Fine → o .turn .answer ≡ Answer.Started
+    done h = ap (λ (v : Verdict). startBy v g words .answer) (start-fine kind ports subdetector state flash h)
+
+    a : Answered
+    a = entered (firstOf causes) state (lentReply []) o
+
+    exactly : Exactly (startCauses kind ports subdetector flash state) (a .number % 256) × Unchanged a state (lentReply [])
+    exactly =
+        entered-exactly causes (startCauses kind ports subdetector flash state) state (lentReply []) o (λ h. ap isRefused (done h)) (
+          (refl, not-tells (bench-tells flash)),
+          (
+            (refl, or-tells (or-tells (not-tells (ports-tells ports)) (not-tells (kind-tells kind))) (ltb-tells 7 subdetector)),
+            ((refl, not-tells (eqb-tells (length state) 172)), tt),
+          ),
+        )
+
+    below : (v : Verdict) → (v ≡ Verdict.Fine → o .turn .answer ≡ Answer.Started) → entered v state (lentReply []) o .number < 256
+    below Verdict.Fine h = let e : answerNumber (o .turn .answer) ≡ 0 = ap answerNumber (h refl) in omega arith
+    below (Verdict.No r) h = refusal-low r
+
+    low : a .number % 256 ≡ a .number
+    low = omega (arith, below (firstOf causes) done)
+
+pub refused-exactly : RefusedExactly entries
+refused-exactly =
+    record { start = start-exactly; request = request-exactly; reply = reply-exactly; poll = poll-exactly; erase = erase-exactly }

@@ -1,0 +1,162 @@
+-- An entry that is not refused makes a call that is not refused: where the lent bytes pass the border's causes, their words and the
+-- state that they stand for pass the node's. Assumes nothing.
+use Prim.Native.Nat.{ℕ, _/_, _≤_}
+use native.Mathlib.Omega.{arith}
+use mathlib.Core.Path.{_≡_, refl, sym, ap, _∙_}
+use mathlib.Core.Bool.{Bool, true, false, _&&_, _||_, not}
+use mathlib.Core.List.{List, [], _∷_}
+use lib.ListN.{length, take}
+use lib.Seq.{length-take-le}
+use lib.Dec.{ltb, eqb}
+use borrow.Author.Tests.{ltb-true, ltb-false, le-ltb, lt-leb, eqb-true, eq-eqb, not-false}
+use Rattle.base.specs.Pick.{pick}
+use Rattle.base.proofs.Pick.{no, and-right}
+use Rattle.node.specs.Effect.{Lent}
+use Rattle.node.specs.Valid.{sizeOk, kindOk, portsOk, stateOk}
+use Rattle.node.specs.Refusals.{Cause, cause, firstOf, flashCause, replyCause, memoryCause, linkCause, slaveCause, stateCause, busyCause, pollCause, unaskedCause, requestVerdict, replyVerdict, pollVerdict, eraseVerdict, startVerdict}
+use Rattle.node.specs.declared.Refusal.{Refusal}
+use Rattle.node.specs.declared.Verdict.{Verdict}
+use Rattle.node.proofs.Verdicts.{NoneHolds, fine-tells, or-neither}
+use Rattle.demands.proofs.Taken.{verdictOn}
+use Rattle.logodwen.specs.Bytes.{wordsOf}
+use Rattle.logodwen.specs.StateBytes.{sizeIn, portsIn, encodeOf, nodeIn, alike, areState}
+use Rattle.logodwen.specs.Causes.{keptOk, linkOk, benchCause, memoriesCause, lengthCause, portCause, bytesCause, requestCheck, replyCheck, pollCheck, eraseCheck, startCheck}
+use Rattle.logodwen.specs.Entry.{replyWords, runWords}
+use Rattle.logodwen.proofs.Runs.{length-words-of}
+use Rattle.logodwen.proofs.Entering.{state-long}
+
+-- where no cause holds, none refuses
+none-refuses : (causes : List Cause) → NoneHolds causes → firstOf causes ≡ Verdict.Fine
+none-refuses [] h = refl
+none-refuses (c ∷ causes) h = sym (no _ (h .0) (sym (none-refuses causes (h .1))))
+
+-- bytes that pass refusal 5 stand for a state
+pub state-sound : (state : List ℕ) → areState state ≡ true → stateOk (nodeIn state) ≡ true
+unfolding areState
+state-sound state h =
+    let same = alike (encodeOf (nodeIn state)) state in
+    and-right same (stateOk (nodeIn state)) (and-right (eqb (length state) 172) (same && stateOk (nodeIn state)) h)
+
+-- what is read off the state bytes as they are is what their node keeps
+where-long : (state : List ℕ) (t : Bool) → areState state ≡ true → pick (eqb (length state) 172) t true ≡ true → t ≡ true
+where-long state t h e = sym (ap (λ (b : Bool). pick b t true) (eq-eqb (length state) 172 (state-long state h))) ∙ e
+
+-- cause by cause
+
+state-no : (state : List ℕ) → bytesCause state .holds ≡ false → stateCause (nodeIn state) .holds ≡ false
+state-no state h = ap not (state-sound state (not-false (areState state) h))
+
+flash-no : (state : List ℕ) (flash : ℕ) → bytesCause state .holds ≡ false → benchCause state flash .holds ≡ false
+    → flashCause (nodeIn state) flash .holds ≡ false
+unfolding nodeIn
+flash-no state flash s h =
+    let both = or-neither (not (eqb flash 32768)) (not (keptOk state flash)) h in
+    let bench : flash ≡ 32768 = eqb-true flash 32768 (not-false (eqb flash 32768) (both .0)) in
+    let kept : eqb flash (sizeIn state) ≡ true =
+    where-long state (eqb flash (sizeIn state)) (not-false (areState state) s) (not-false (keptOk state flash) (both .1)) in
+    (λ i. not (sizeOk (bench i)) || not (eqb flash (sizeIn state))) ∙ ap not kept
+
+memory-no : (pm dm io : ℕ) → memoriesCause pm dm io .holds ≡ false → memoryCause pm dm io .holds ≡ false
+memory-no pm dm io h =
+    let a = or-neither (ltb 8192 pm || ltb 8192 dm) (ltb 4096 io) h in
+    let b = or-neither (ltb 8192 pm) (ltb 8192 dm) (a .0) in
+    let p : ltb 32768 pm ≡ false = le-ltb 32768 pm (omega (arith, ltb-false 8192 pm (b .0))) in
+    let d : ltb 32768 dm ≡ false = le-ltb 32768 dm (omega (arith, ltb-false 8192 dm (b .1))) in
+    (λ i. p i || d i || ltb 4096 io) ∙ a .1
+
+link-no : (state : List ℕ) (link : ℕ) → bytesCause state .holds ≡ false → portCause state link .holds ≡ false
+    → linkCause (nodeIn state) link .holds ≡ false
+unfolding nodeIn
+link-no state link s h =
+    let below : ltb link (portsIn state) ≡ true =
+    where-long state (ltb link (portsIn state)) (not-false (areState state) s) (not-false (linkOk state link) h) in
+    lt-leb (portsIn state) link (ltb-true link (portsIn state) below)
+
+-- the lent part of a reply buffer that passes refusal 2 is long enough
+reply-long : (reply : List ℕ) → replyCause (length reply / 2) .holds ≡ false → length (replyWords reply) ≡ 12288
+reply-long reply h =
+    let long : 12288 ≤ length reply / 2 = ltb-false (length reply / 2) 12288 h in
+    length-words-of 2 (take 24576 reply) ∙ ap (_/ 2) (length-take-le 24576 reply (omega arith))
+
+buffer-no : (reply : List ℕ) → replyCause (length reply / 2) .holds ≡ false → replyCause (length (replyWords reply)) .holds ≡ false
+buffer-no reply h = ap (λ (n : ℕ). ltb n 12288) (reply-long reply h)
+
+-- the five entries
+
+pub request-fine : (link : ℕ) (packet state : List ℕ) (runs : Lent)
+    → requestCheck link (length packet / 2) state (length (runs .flash) / 2) (length (runs .memories .pm) / 4)
+    (length (runs .memories .dm) / 2) (length (runs .memories .io) / 2) (length (runs .reply) / 2)
+    ≡ Verdict.Fine
+    → verdictOn (nodeIn state) link (wordsOf 2 packet) (runWords runs) ≡ Verdict.Fine
+unfolding requestCheck requestVerdict
+request-fine link packet state runs h =
+    let n = nodeIn state in
+    let flash = length (runs .flash) / 2 in
+    let pm = length (runs .memories .pm) / 4 in
+    let dm = length (runs .memories .dm) / 2 in
+    let io = length (runs .memories .io) / 2 in
+    let none =
+    fine-tells
+    (benchCause state flash ∷ replyCause (length (runs .reply) / 2) ∷ memoriesCause pm dm io ∷ portCause state link ∷ bytesCause state
+    ∷ busyCause n (length packet / 2) ∷ [])
+    h in
+    let s = none .1 .1 .1 .1 .0 in
+    (λ i. requestVerdict n link (length-words-of 2 packet i) (length-words-of 2 (runs .flash) i) (length-words-of 4 (runs .memories .pm) i)
+    (length-words-of 2 (runs .memories .dm) i) (length-words-of 2 (runs .memories .io) i) (length (replyWords (runs .reply))))
+    ∙ none-refuses
+    (flashCause n flash ∷ replyCause (length (replyWords (runs .reply))) ∷ memoryCause pm dm io ∷ linkCause n link ∷ stateCause n
+    ∷ busyCause n (length packet / 2) ∷ []) (
+      flash-no state flash s (none .0),
+      (
+        buffer-no (runs .reply) (none .1 .0),
+        (memory-no pm dm io (none .1 .1 .0), (link-no state link s (none .1 .1 .1 .0), (state-no state s, (none .1 .1 .1 .1 .1 .0, tt)))),
+      ),
+    )
+
+pub reply-fine : (slave : ℕ) (packet state reply : List ℕ) → replyCheck slave (length packet / 2) state (length reply / 2) ≡ Verdict.Fine
+    → replyVerdict (nodeIn state) slave (length (replyWords reply)) ≡ Verdict.Fine
+unfolding replyCheck replyVerdict
+reply-fine slave packet state reply h =
+    let n = nodeIn state in
+    let none =
+    fine-tells
+    (replyCause (length reply / 2) ∷ lengthCause (length packet / 2) ∷ slaveCause slave ∷ bytesCause state ∷ unaskedCause n slave ∷ [])
+    h in
+    none-refuses (replyCause (length (replyWords reply)) ∷ slaveCause slave ∷ stateCause n ∷ unaskedCause n slave ∷ [])
+    (buffer-no reply (none .0), (none .1 .1 .0, (state-no state (none .1 .1 .1 .0), (none .1 .1 .1 .1 .0, tt))))
+
+pub poll-fine : (state reply : List ℕ) → pollCheck state (length reply / 2) ≡ Verdict.Fine
+    → pollVerdict (nodeIn state) (length (replyWords reply)) ≡ Verdict.Fine
+unfolding pollCheck pollVerdict
+poll-fine state reply h =
+    let n = nodeIn state in
+    let none = fine-tells (replyCause (length reply / 2) ∷ bytesCause state ∷ pollCause n ∷ []) h in
+    none-refuses (replyCause (length (replyWords reply)) ∷ stateCause n ∷ pollCause n ∷ [])
+    (buffer-no reply (none .0), (state-no state (none .1 .0), (none .1 .1 .0, tt)))
+
+pub erase-fine : (state flash : List ℕ) → eraseCheck state (length flash / 2) ≡ Verdict.Fine
+    → eraseVerdict (nodeIn state) (length (wordsOf 2 flash)) ≡ Verdict.Fine
+unfolding eraseCheck eraseVerdict
+erase-fine state flash h =
+    let n = nodeIn state in
+    let none = fine-tells (benchCause state (length flash / 2) ∷ bytesCause state ∷ []) h in
+    ap (eraseVerdict n) (length-words-of 2 flash)
+    ∙ none-refuses (flashCause n (length flash / 2) ∷ stateCause n ∷ [])
+    (flash-no state (length flash / 2) (none .1 .0) (none .0), (state-no state (none .1 .0), tt))
+
+pub start-fine : (kind ports subdetector : ℕ) (state flash : List ℕ)
+    → startCheck kind ports subdetector state (length flash / 2) ≡ Verdict.Fine
+    → startVerdict kind ports subdetector (length (wordsOf 2 flash)) ≡ Verdict.Fine
+unfolding startCheck startVerdict
+start-fine kind ports subdetector state flash h =
+    let words = length flash / 2 in
+    let numbers : Bool = not (portsOk ports) || not (kindOk kind) || ltb 7 subdetector in
+    let none =
+    fine-tells
+    (cause Refusal.FlashSize (not (eqb words 32768)) ∷ cause Refusal.Number numbers
+    ∷ cause Refusal.State (not (eqb (length state) 172)) ∷ [])
+    h in
+    let bench : words ≡ 32768 = eqb-true words 32768 (not-false (eqb words 32768) (none .0)) in
+    let sized : not (sizeOk words) ≡ false = ap (λ (n : ℕ). not (sizeOk n)) bench in
+    ap (startVerdict kind ports subdetector) (length-words-of 2 flash)
+    ∙ none-refuses (cause Refusal.FlashSize (not (sizeOk words)) ∷ cause Refusal.Number numbers ∷ []) (sized, (none .1 .0, tt))

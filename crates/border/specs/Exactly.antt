@@ -1,0 +1,126 @@
+-- Refused exactly, over the bytes that a host lends: the low byte of the number that an entry answers is the number of the first cause
+-- that holds, and 0 where none does; and a refused entry leaves every byte. 01 'Call refusals', each cause in the words of its table, with
+-- the limits that 'Covered' sets at the C border. Assumes nothing.
+use Prim.Native.Nat.{ℕ, _+_, _*_, _/_, _%_, _≤_, _<_}
+use mathlib.Core.Path.{_≡_}
+use mathlib.Core.Logic.{_⊎_, _↔_}
+use mathlib.Core.Bool.{true}
+use mathlib.Core.List.{List, [], _∷_}
+use lib.ListN.{length}
+use Rattle.node.specs.Effect.{Lent}
+use Rattle.node.specs.Calls.{lentReply, lentFlash}
+use Rattle.node.specs.declared.Node.{Node}
+use Rattle.demands.specs.Refusals.{Cause, cause, FirstOf, IsState}
+use Rattle.logodwen.specs.Bytes.{numberAt}
+use Rattle.logodwen.specs.StateBytes.{sizeIn, portsIn, encodeOf, nodeIn, areState}
+use Rattle.logodwen.specs.Kept.{Typed}
+use Rattle.logodwen.specs.Entry.{Answered, startEntry, requestEntry, replyEntry, pollEntry, eraseEntry}
+
+-- Anything that answers the five entries. The statement is of any such five, so that it can be seen to shut out wrong ones.
+pub record Entries : Type 0 where
+  pub start : (kind ports subdetector program version tests clock : ℕ) (flash state : List ℕ) → Answered
+  pub request : (clock link bc errors : ℕ) (packet state : List ℕ) (runs : Lent) → Answered
+  pub reply : (clock slave bc errors status address : ℕ) (packet state reply : List ℕ) → Answered
+  pub poll : (clock : ℕ) (state reply : List ℕ) → Answered
+  pub erase : (budget : ℕ) (state flash : List ℕ) → Answered
+
+-- Ours, of the C border.
+abbrev pub entries : Entries
+entries = record { start = startEntry; request = requestEntry; reply = replyEntry; poll = pollEntry; erase = eraseEntry }
+
+-- A run holds more than so many words of k bytes: an unfinished last word is none.
+abbrev pub Above : ℕ → ℕ → List ℕ → Type 0
+Above k words run = k * (words + 1) ≤ length run
+
+-- 1: bench size, 32,768 words, with an odd byte behind them or without.
+abbrev pub BenchSize : List ℕ → Type 0
+BenchSize flash = (length flash ≡ 65536) ⊎ (length flash ≡ 65537)
+
+-- 5: the bytes are those of a state: they are the bytes of some node whose state is one of 01's, with numbers of the sizes of their types.
+pub record OfState (bytes : List ℕ) : Type 0 where
+  pub node : Node
+  pub state : IsState node
+  pub typed : Typed node
+  pub encoded : encodeOf node ≡ bytes
+
+-- 6 and 7: a request is pending, to one slave or to a group, by byte 15; a slave is now being asked, by byte 29.
+abbrev pub Pends : List ℕ → Type 0
+Pends state = (numberAt 1 15 state ≡ 1) ⊎ (numberAt 1 15 state ≡ 2)
+
+abbrev pub Asks : List ℕ → ℕ → Type 0
+Asks state slave = Pends state × (numberAt 1 29 state ≡ slave)
+
+-- The rows that more than one entry has: 1, with the size used at start as bytes 20-23 keep it where the state bytes are 172; 2 and 5.
+abbrev pub flashCause : List ℕ → List ℕ → Cause
+flashCause state flash = cause 1 ((BenchSize flash → ⊥) ⊎ ((length state ≡ 172) × (length flash / 2 ≡ sizeIn state → ⊥)))
+
+abbrev pub replyCause : List ℕ → Cause
+replyCause reply = cause 2 (length reply < 2 * 12288)
+
+abbrev pub stateCause : List ℕ → Cause
+stateCause state = cause 5 (OfState state → ⊥)
+
+-- The table, each row where the entry has that input. At start what stands in the state bytes isn't looked at, but there must be 172.
+abbrev pub startCauses : ℕ → ℕ → ℕ → List ℕ → List ℕ → List Cause
+startCauses kind ports subdetector flash state =
+    cause 1 (BenchSize flash → ⊥)
+    ∷ cause 4 ((((1 ≤ ports) × (ports ≤ 4) → ⊥) ⊎ ((kind ≡ 1) ⊎ (kind ≡ 2) → ⊥)) ⊎ (7 < subdetector))
+    ∷ cause 5 (length state ≡ 172 → ⊥)
+    ∷ []
+
+-- Row 4 takes the port count from byte 1, where the state bytes are 172.
+abbrev pub requestCauses : ℕ → List ℕ → List ℕ → Lent → List Cause
+requestCauses link packet state runs =
+    flashCause state (runs .flash)
+    ∷ replyCause (runs .reply)
+    ∷ cause 3 ((Above 4 8192 (runs .memories .pm) ⊎ Above 2 8192 (runs .memories .dm)) ⊎ Above 2 4096 (runs .memories .io))
+    ∷ cause 4 ((length state ≡ 172) × (link < portsIn state → ⊥))
+    ∷ stateCause state
+    ∷ cause 6 (Pends state × (2 ≤ length packet))
+    ∷ []
+
+abbrev pub replyCauses : ℕ → List ℕ → List ℕ → List ℕ → List Cause
+replyCauses slave packet state reply =
+    replyCause reply ∷ cause 3 (Above 2 32768 packet) ∷ cause 4 (23 < slave) ∷ stateCause state ∷ cause 7 (Asks state slave → ⊥) ∷ []
+
+abbrev pub pollCauses : List ℕ → List ℕ → List Cause
+pollCauses state reply = replyCause reply ∷ stateCause state ∷ cause 7 (Pends state → ⊥) ∷ []
+
+abbrev pub eraseCauses : List ℕ → List ℕ → List Cause
+eraseCauses state flash = flashCause state flash ∷ stateCause state ∷ []
+
+-- A number is that of the first cause that holds.
+abbrev pub Exactly : List Cause → ℕ → Type 0
+Exactly causes number = (i : ℕ) → (number ≡ i) ↔ FirstOf causes i
+
+-- Refused, an entry answers that number and nothing else, and leaves the state bytes and every run as they were.
+pub record Stays (a : Answered) (state : List ℕ) (runs : Lent) : Type 0 where
+  pub alone : a .number < 256
+  pub bytes : a .state ≡ state
+  pub lent : a .runs ≡ runs
+
+abbrev pub Unchanged : Answered → List ℕ → Lent → Type 0
+Unchanged a state runs = (a .number % 256 ≡ 0 → ⊥) → Stays a state runs
+
+pub record RefusedExactly (E : Entries) : Type 0 where
+  -- start answers the refusal alone
+  pub start : (kind ports subdetector program version tests clock : ℕ) (flash state : List ℕ)
+      → let a : Answered = E .start kind ports subdetector program version tests clock flash state in
+      Exactly (startCauses kind ports subdetector flash state) (a .number) × Unchanged a state (lentReply [])
+  pub request : (clock link bc errors : ℕ) (packet state : List ℕ) (runs : Lent)
+      → let a : Answered = E .request clock link bc errors packet state runs in
+      Exactly (requestCauses link packet state runs) (a .number % 256) × Unchanged a state runs
+  pub reply : (clock slave bc errors status address : ℕ) (packet state reply : List ℕ)
+      → let a : Answered = E .reply clock slave bc errors status address packet state reply in
+      Exactly (replyCauses slave packet state reply) (a .number % 256) × Unchanged a state (lentReply reply)
+  pub poll : (clock : ℕ) (state reply : List ℕ)
+      → let a : Answered = E .poll clock state reply in
+      Exactly (pollCauses state reply) (a .number % 256) × Unchanged a state (lentReply reply)
+  pub erase : (budget : ℕ) (state flash : List ℕ)
+      → let a : Answered = E .erase budget state flash in
+      Exactly (eraseCauses state flash) (a .number % 256) × Unchanged a state (lentFlash flash)
+
+-- Bytes pass the border's test exactly if they are those of a state, and then that state is the one that they are taken for.
+pub record StateBytesExactly : Type 0 where
+  pub passes : (bytes : List ℕ) → (areState bytes ≡ true) ↔ OfState bytes
+  pub one : (bytes : List ℕ) (s : OfState bytes) → nodeIn bytes ≡ s .node
