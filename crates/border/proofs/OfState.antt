@@ -1,11 +1,11 @@
 -- Bytes pass refusal 5 exactly if they are those of a state: bytes that are encoded are below 256, and the numbers that stand in such bytes
 -- have the sizes of their types. Assumes nothing.
-use Prim.Native.Nat.{ℕ, zero, suc, _/_, _^_, _<_}
+use Prim.Native.Nat.{ℕ, _^_, _<_}
 use native.Mathlib.Omega.{arith}
 use mathlib.Core.Path.{_≡_, sym, ap, _∙_, subst}
 use mathlib.Core.Bool.{true}
 use mathlib.Core.List.{List, [], _∷_, _++_}
-use lib.ListN.{take, drop}
+use lib.ListN.{drop}
 use lib.Dec.{eqb}
 use Rattle.base.specs.Words.{Below}
 use Rattle.base.proofs.Part.{below-drop, below-append}
@@ -14,33 +14,23 @@ use Rattle.node.specs.declared.Node.{Node}
 use Rattle.node.specs.declared.Pending.{Pending}
 use Rattle.demands.proofs.Refusals.{state-tells}
 use Rattle.demands.proofs.Tests.{Tells}
-use Rattle.logodwen.specs.Bytes.{valueOf, digitsOf, numberAt, wordsIn, bytesOf}
+use Rattle.logodwen.specs.Bytes.{digitsOf, numberAt, bytesOf}
 use Rattle.logodwen.specs.Places.{packed}
 use Rattle.logodwen.specs.StateBytes.{waitOf, pendingOf, sizes, numbersOf, encodeOf, waitIn, nodeIn, areState}
 use Rattle.logodwen.specs.Kept.{Typed}
 use Rattle.logodwen.proofs.Runs.{length-words}
 use Rattle.logodwen.proofs.ThereAndBack.{decoded-encoded, encoded-decoded}
 use Rattle.border.specs.Exactly.{OfState, StateBytesExactly}
+use Rattle.border.proofs.Runs.{value-below, words-below, below-digits, below-bytes}
 use Rattle.border.proofs.Fine.{state-sound}
 
 -- what is stored is below 256
-
-below-digits : (k x : ℕ) → Below 256 (digitsOf k x)
-unfolding digitsOf
-below-digits zero x i = omega arith
-below-digits (suc k) x zero = omega arith
-below-digits (suc k) x (suc i) = below-digits k (x / 256) i
 
 below-packed : (ks xs : List ℕ) → Below 256 (packed ks xs)
 unfolding packed
 below-packed [] xs i = omega arith
 below-packed (k ∷ ks) [] i = omega arith
 below-packed (k ∷ ks) (x ∷ xs) i = below-append (digitsOf k x) (packed ks xs) (below-digits k x) (below-packed ks xs) i
-
-below-bytes : (k : ℕ) (ws : List ℕ) → Below 256 (bytesOf k ws)
-unfolding bytesOf
-below-bytes k [] i = omega arith
-below-bytes k (w ∷ ws) i = below-append (digitsOf k w) (bytesOf k ws) (below-digits k w) (below-bytes k ws) i
 
 pub below-encoded : (n : Node) → Below 256 (encodeOf n)
 unfolding encodeOf
@@ -50,24 +40,8 @@ below-encoded n =
 
 -- what is read has the size of its bytes
 
-power-some : (k : ℕ) → 0 < 256 ^ k
-power-some zero = omega arith
-power-some (suc k) = let p = power-some k in omega arith
-
-value-below : (k : ℕ) (bs : List ℕ) → Below 256 bs → valueOf (take k bs) < 256 ^ k
-unfolding valueOf
-value-below zero bs h = omega arith
-value-below (suc k) [] h = power-some (suc k)
-value-below (suc k) (b ∷ bs) h = omega (arith, h 0, value-below k bs (λ i. h (suc i)))
-
 number-below : (k at : ℕ) (bs : List ℕ) → Below 256 bs → numberAt k at bs < 256 ^ k
 number-below k at bs h = value-below k (drop at bs) (below-drop at bs h)
-
-words-below : (k n : ℕ) (bs : List ℕ) → Below 256 bs → Below (256 ^ k) (wordsIn k n bs)
-unfolding wordsIn
-words-below k zero bs h i = power-some k
-words-below k (suc n) bs h zero = value-below k bs h
-words-below k (suc n) bs h (suc i) = words-below k n (drop k bs) (below-drop k bs h) i
 
 asked-below : (bytes : List ℕ) → Below 256 bytes → waitOf (pendingOf (waitIn bytes)) .at < 4294967296
 asked-below bytes h =

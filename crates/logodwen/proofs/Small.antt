@@ -49,7 +49,7 @@ given-small g h =
       size = one-of (g .«flash_words») 32768 262144 262144 (omega arith) (omega arith) (and-right (k && p && s) z h);
     }
 
-size-most : (u s : ℕ) → sizeOf u s ≤ u * 2
+pub size-most : (u s : ℕ) → sizeOf u s ≤ u * 2
 unfolding bySector
 size-most u s =
     pick-case (λ (x : ℕ). x ≤ u * 2) (isSector s) (λ p. pick-case (λ (x : ℕ). x ≤ u * 2) (eqb s 3) (λ q. omega arith) (λ q. omega arith)) (λ p. omega arith)

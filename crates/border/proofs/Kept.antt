@@ -1,0 +1,67 @@
+-- The state bytes that a host has are those of a state, and the directory in them is fresh: by the node's, which they stand for.
+-- Assumes nothing.
+use Prim.Native.Nat.{ℕ}
+use native.Mathlib.Omega.{arith}
+use mathlib.Core.Path.{_≡_, refl, sym, ap, _∙_}
+use mathlib.Core.Bool.{false}
+use mathlib.Core.List.{List, [], _∷_, _++_, append-assoc}
+use lib.ListN.{length, drop, length-append}
+use lib.Seq.{drop-at}
+use Rattle.flash.specs.Directory.{directoryOf}
+use Rattle.flash.proofs.Entries.{length-directory}
+use Rattle.node.specs.declared.Node.{Node}
+use Rattle.demands.proofs.NoStaleRecord.{no-stale-record as word-record, summary-is-true as word-summary}
+use Rattle.logodwen.specs.Bytes.{valueOf, wordsIn, wordsOf, bytesOf}
+use Rattle.logodwen.specs.Places.{packed}
+use Rattle.logodwen.specs.StateBytes.{sizes, numbersOf, encodeOf, nodeIn}
+use Rattle.logodwen.specs.Number.{answerNumber}
+use Rattle.logodwen.specs.Kept.{Typed}
+use Rattle.logodwen.specs.Entry.{memoryWords, replyWords}
+use Rattle.logodwen.proofs.Runs.{length-bytes}
+use Rattle.logodwen.proofs.Encoding.{length-numbers}
+use Rattle.logodwen.proofs.ThereAndBack.{encoded-decoded}
+use Rattle.border.specs.Exactly.{entries}
+use Rattle.border.specs.Kept.{erasingIn, AlwaysState, NoStaleRecord, SummaryIsTrue}
+use Rattle.border.proofs.Stands.{stands-typed, hosted-stands}
+use Rattle.border.proofs.Delivered.{number-is, delivered, reply-bytes}
+
+-- the bytes that say what is erasing
+pub erasing-is : (state : List ℕ) → nodeIn state .erasing ≡ erasingIn state
+unfolding nodeIn
+erasing-is state = refl
+
+-- the directory stands behind the numbers and the masks
+directory-bytes : (n : Node) → Typed n → drop 108 (encodeOf n) ≡ bytesOf 2 (n .directory)
+unfolding encodeOf
+directory-bytes n t =
+    let numbers = packed sizes (numbersOf n) in
+    let masks = bytesOf 4 (n .masks) in
+    let long : length (numbers ++ masks) ≡ 108 =
+    length-append numbers masks ∙ omega (arith, length-numbers n, length-bytes 4 (n .masks), t .masks) in
+    ap (drop 108) (sym (append-assoc numbers masks (bytesOf 2 (n .directory))))
+    ∙ drop-at (numbers ++ masks) (bytesOf 2 (n .directory)) 108 long
+
+pub always-state : AlwaysState entries
+always-state state flash h = hosted-stands h .bytes
+
+pub no-stale-record : NoStaleRecord entries
+no-stale-record state flash h =
+    let s = hosted-stands h in
+    ap (drop 108) (sym (encoded-decoded state (s .bytes)))
+    ∙ directory-bytes (nodeIn state) (stands-typed state flash s)
+    ∙ ap (bytesOf 2) (word-record (nodeIn state) (wordsOf 2 flash) (s .reached) ∙ ap (directoryOf (wordsOf 2 flash)) (erasing-is state))
+
+pub summary-is-true : SummaryIsTrue entries
+unfolding wordsOf wordsIn valueOf
+summary-is-true state flash h clock link bc m reply whole done =
+    let s = hosted-stands h in
+    let packet : List ℕ = 0x2E ∷ 0x07 ∷ [] in
+    let words : List ℕ = wordsOf 2 flash in
+    let d = delivered clock link bc packet m reply state flash done whole (omega arith) (omega arith) in
+    let r =
+    word-summary (nodeIn state) words (s .reached) clock link bc false (wordsOf 2 packet) (memoryWords m) (replyWords reply) d refl refl in
+    let fresh = r .1 ∙ ap (directoryOf words) (erasing-is state) in (
+      number-is clock link bc packet m reply state flash done ∙ ap answerNumber (r .0),
+      reply-bytes clock link bc packet m reply state flash done 32 (directoryOf words (erasingIn state))
+          (length-directory words (erasingIn state)) fresh,
+    )

@@ -1,0 +1,142 @@
+-- The bytes that a host has stand for a state that is reached, with the flash that is reached with it. Assumes nothing.
+use Prim.Native.Nat.{ℕ}
+use mathlib.Core.Path.{_≡_, refl, sym, ap, _∙_, subst}
+use mathlib.Core.Bool.{true, false, false≢true}
+use mathlib.Core.List.{List}
+use Rattle.base.specs.Words.{Below}
+use Rattle.base.proofs.Pick.{no}
+use Rattle.node.specs.Calls.{startOf}
+use Rattle.node.specs.declared.Node.{Node}
+use Rattle.node.proofs.Ranges.{ranges-told}
+use Rattle.demands.specs.Machine.{logodwen, flashOf}
+use Rattle.demands.specs.Reached.{Lends16, stateAfter as nodeAfter, Reached}
+use Rattle.demands.proofs.Sound.{reached-sound}
+use Rattle.logodwen.specs.Bytes.{wordsOf}
+use Rattle.logodwen.specs.StateBytes.{encodeOf, nodeIn, areState}
+use Rattle.logodwen.specs.Kept.{Typed}
+use Rattle.logodwen.proofs.Runs.{length-words-of}
+use Rattle.logodwen.proofs.ThereAndBack.{decoded-encoded}
+use Rattle.border.specs.Exactly.{entries}
+use Rattle.border.specs.Host.{Entry, InC, numberAfter, stateAfter, flashAfter, onWords, isDone, Hosted}
+use Rattle.border.proofs.Runs.{words-of-below, stored-words, stored-below}
+use Rattle.border.proofs.Flash.{flash-below, flash-size}
+use Rattle.border.proofs.Typed.{Small, Clocked, start-small, call-small, small-typed}
+use Rattle.border.proofs.Steps.{Made, Step, entry-step, start-taken, refusal-undone, undone-left}
+
+pub record Stands (state flash : List ℕ) : Type 0 where
+  pub reached : Reached logodwen (nodeIn state) (wordsOf 2 flash)
+  pub small : Small (nodeIn state)
+  pub bytes : areState state ≡ true
+  pub below : Below 256 flash
+
+-- so every part of the state has its size
+pub stands-typed : (state flash : List ℕ) → Stands state flash → Typed (nodeIn state)
+stands-typed state flash s =
+    small-typed (nodeIn state) (wordsOf 2 flash) (s .small) (reached-sound (s .reached)) (words-of-below flash (s .below))
+
+-- the bytes of a state that is reached
+
+module _ (n : Node) (words state : List ℕ) (r : Reached logodwen n words) (s : Small n) (b : Below 65536 words)
+    (e : state ≡ encodeOf n) where
+  encoded : (areState (encodeOf n) ≡ true) × (nodeIn (encodeOf n) ≡ n)
+  encoded = decoded-encoded n (ranges-told n (reached-sound r .valid .ranges)) (small-typed n words s (reached-sound r) b)
+
+  encoded-node : nodeIn state ≡ n
+  encoded-node = ap nodeIn e ∙ encoded .1
+
+  encoded-state : areState state ≡ true
+  encoded-state = ap areState e ∙ encoded .0
+
+reached-stands : (n : Node) (words state flash : List ℕ) → Reached logodwen n words → Small n → Below 65536 words
+    → state ≡ encodeOf n → wordsOf 2 flash ≡ words → Below 256 flash → Stands state flash
+reached-stands n words state flash r s b e w f =
+    let node : n ≡ nodeIn state = sym (encoded-node n words state r s b e) in
+    record {
+      reached = subst (λ (m : Node). Reached logodwen m (wordsOf 2 flash)) node (subst (λ (x : List ℕ). Reached logodwen n x) (sym w) r);
+      small = subst Small node s;
+      bytes = encoded-state n words state r s b e;
+      below = f;
+    }
+
+-- what the C types say of the node's call
+pub lends : (e : Entry) → InC e → Lends16 (onWords e)
+lends (Entry.Start kind ports subdetector program version tests clock) c = tt
+lends (Entry.Request clock link bc errors packet m reply) c = words-of-below packet (c .4)
+lends (Entry.Reply clock slave bc errors status address packet reply) c = tt
+lends (Entry.Poll clock reply) c = tt
+lends (Entry.Erase budget) c = tt
+
+clocked : (e : Entry) → InC e → Clocked (onWords e)
+clocked (Entry.Start kind ports subdetector program version tests clock) c = (c .3, c .4, c .5, c .6)
+clocked (Entry.Request clock link bc errors packet m reply) c = c .0
+clocked (Entry.Reply clock slave bc errors status address packet reply) c = c .0
+clocked (Entry.Poll clock reply) c = c .0
+clocked (Entry.Erase budget) c = tt
+
+-- a call that is made: its state and its flash are those that the bytes then stand for
+pub record Moved (e : Entry) (state flash : List ℕ) : Type 0 where
+  pub node : nodeIn (stateAfter entries e state flash) ≡ nodeAfter logodwen (onWords e) (nodeIn state) (wordsOf 2 flash)
+  pub words : wordsOf 2 (flashAfter entries e state flash) ≡ flashOf logodwen (onWords e) (nodeIn state) (wordsOf 2 flash)
+  pub stands : Stands (stateAfter entries e state flash) (flashAfter entries e state flash)
+
+pub made-moves : (e : Entry) (state flash : List ℕ) → InC e → Stands state flash → Made e state flash → Moved e state flash
+made-moves e state flash c s m =
+    let words : List ℕ = wordsOf 2 flash in
+    let next : Node = nodeAfter logodwen (onWords e) (nodeIn state) words in
+    let left : List ℕ = flashOf logodwen (onWords e) (nodeIn state) words in
+    let below = flash-below (onWords e) (nodeIn state) words (lends e c) (words-of-below flash (s .below)) in
+    let after = m .words (s .below) in
+    let size = flash-size (onWords e) (nodeIn state) words ∙ length-words-of 2 flash in
+    let read = ap (wordsOf 2) after ∙ stored-words left flash below size in
+    let bytes = subst (λ (x : List ℕ). Below 256 x) (sym after) (stored-below left flash (s .below)) in
+    let reached = Reached.Then (s .reached) (onWords e) (lends e c) in
+    let small = call-small (onWords e) (nodeIn state) words (clocked e c) (s .small) in
+    record {
+      node = encoded-node next left (stateAfter entries e state flash) reached small below (m .node);
+      words = read;
+      stands =
+          reached-stands next left (stateAfter entries e state flash) (flashAfter entries e state flash) reached small below (m .node) read
+          bytes;
+    }
+
+-- every entry hands them on
+pub next-stands : (e : Entry) (state flash : List ℕ) → InC e → Stands state flash
+    → Stands (stateAfter entries e state flash) (flashAfter entries e state flash)
+next-stands e state flash c s = by (entry-step e state flash)
+  where
+    by : Step e state flash → Stands (stateAfter entries e state flash) (flashAfter entries e state flash)
+    by (Step.Leaves l) =
+        subst (λ (x : List ℕ). Stands x (flashAfter entries e state flash)) (sym (l .node))
+        (subst (λ (x : List ℕ). Stands state x) (sym (l .words)) s)
+    by (Step.Makes m) = made-moves e state flash c s m .stands
+
+-- a start gives them
+first-stands : (kind ports subdetector program version tests clock : ℕ) (state flash : List ℕ)
+    → InC (Entry.Start kind ports subdetector program version tests clock) → Below 256 flash
+    → numberAfter entries (Entry.Start kind ports subdetector program version tests clock) state flash ≡ 0
+    → Stands (stateAfter entries (Entry.Start kind ports subdetector program version tests clock) state flash) flash
+first-stands kind ports subdetector program version tests clock state flash c b h =
+    by (entry-step begun state flash)
+  where
+    begun : Entry
+    begun = Entry.Start kind ports subdetector program version tests clock
+
+    words : List ℕ
+    words = wordsOf 2 flash
+
+    by : Step begun state flash → Stands (stateAfter entries begun state flash) flash
+    by (Step.Leaves l) = absurd (false≢true (sym (refusal-undone (l .refusal)) ∙ ap isDone (sym (l .number) ∙ h)))
+    by (Step.Makes m) =
+        let taken = start-taken kind ports subdetector program version tests clock state flash (m .fine) in
+        reached-stands (startOf kind ports subdetector program version tests clock words .node) words
+        (stateAfter entries begun state flash) flash
+        (Reached.First kind ports subdetector program version tests clock words taken)
+        (start-small kind ports subdetector program version tests clock words (clocked begun c)) (words-of-below flash b)
+        (m .node ∙ ap encodeOf (sym (no _ taken refl))) refl b
+
+pub hosted-stands : {state flash : List ℕ} → Hosted entries state flash → Stands state flash
+hosted-stands (Hosted.First kind ports subdetector program version tests clock state flash c b h) =
+    first-stands kind ports subdetector program version tests clock state flash c b h
+hosted-stands (Hosted.Then {state = state} {flash = flash} r e c) = next-stands e state flash c (hosted-stands r)
+hosted-stands (Hosted.Refused {state = state} {flash = flash} r e other h) =
+    let s = hosted-stands r in subst (λ (x : List ℕ). Stands x flash) (sym (undone-left e state other h)) s

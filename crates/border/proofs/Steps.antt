@@ -1,0 +1,201 @@
+-- What an entry comes to: refused, it leaves state and flash bytes; or it is the node's call on the words. Assumes nothing.
+use Prim.Native.Nat.{ℕ, _/_, _%_}
+use mathlib.Core.Path.{_≡_, refl, sym, ap, _∙_}
+use mathlib.Core.Bool.{true, false, false≢true}
+use mathlib.Core.List.{List, []}
+use lib.ListN.{length}
+use borrow.Author.Tests.{eqb-false}
+use Rattle.base.specs.Words.{Below}
+use Rattle.base.proofs.Pick.{no}
+use Rattle.node.specs.State.{refusalNumber}
+use Rattle.node.specs.Effect.{Lent, lent, Outcome, outcome}
+use Rattle.node.specs.Calls.{lentReply, lentFlash, given, startBy, startOf, requestOf, replyOf, pollOf, eraseOf}
+use Rattle.node.specs.declared.Answer.{Answer}
+use Rattle.node.specs.declared.Refusal.{Refusal}
+use Rattle.node.specs.declared.Verdict.{Verdict}
+use Rattle.demands.specs.Machine.{logodwen, flashOf, isRefused}
+use Rattle.demands.specs.Reached.{stateAfter as nodeAfter}
+use Rattle.logodwen.specs.Bytes.{wordsOf, storeWords}
+use Rattle.logodwen.specs.StateBytes.{encodeOf, nodeIn}
+use Rattle.logodwen.specs.Number.{answerNumber}
+use Rattle.logodwen.specs.Causes.{requestCheck, replyCheck, pollCheck, eraseCheck, startCheck}
+use Rattle.logodwen.specs.Entry.{Answered, answered, inBytes, told, entered, replyWords, runWords, isSet, startEntry, requestEntry, replyEntry, pollEntry, eraseEntry}
+use Rattle.logodwen.proofs.ThereAndBack.{bytes-kept}
+use Rattle.border.specs.Exactly.{entries}
+use Rattle.border.specs.Host.{Entry, answerOf, numberAfter, stateAfter, flashLeft, flashAfter, onWords, isDone}
+use Rattle.border.specs.Answers.{answerIn}
+use Rattle.border.proofs.Fine.{start-fine}
+use Rattle.border.proofs.Exactly.{refused-exactly}
+
+-- an entry as its definition has it: the verdict, the runs that it is lent, and what the node's call comes to
+
+abbrev pub checkOf : Entry → List ℕ → List ℕ → Verdict
+checkOf (Entry.Start kind ports subdetector program version tests clock) state flash =
+    startCheck kind ports subdetector state (length flash / 2)
+checkOf (Entry.Request clock link bc errors packet m reply) state flash =
+    requestCheck link (length packet / 2) state (length flash / 2) (length (m .pm) / 4) (length (m .dm) / 2) (length (m .io) / 2)
+    (length reply / 2)
+checkOf (Entry.Reply clock slave bc errors status address packet reply) state flash =
+    replyCheck slave (length packet / 2) state (length reply / 2)
+checkOf (Entry.Poll clock reply) state flash = pollCheck state (length reply / 2)
+checkOf (Entry.Erase budget) state flash = eraseCheck state (length flash / 2)
+
+abbrev pub runsOf : Entry → List ℕ → Lent
+runsOf (Entry.Start kind ports subdetector program version tests clock) flash = lentReply []
+runsOf (Entry.Request clock link bc errors packet m reply) flash = lent flash m reply
+runsOf (Entry.Reply clock slave bc errors status address packet reply) flash = lentReply reply
+runsOf (Entry.Poll clock reply) flash = lentReply reply
+runsOf (Entry.Erase budget) flash = lentFlash flash
+
+abbrev pub outcomeOf : Entry → List ℕ → List ℕ → Outcome
+outcomeOf (Entry.Start kind ports subdetector program version tests clock) state flash =
+    outcome (startOf kind ports subdetector program version tests clock (wordsOf 2 flash)) (lentReply [])
+outcomeOf (Entry.Request clock link bc errors packet m reply) state flash =
+    requestOf (nodeIn state) clock link bc (isSet errors) (wordsOf 2 packet) (runWords (lent flash m reply))
+outcomeOf (Entry.Reply clock slave bc errors status address packet reply) state flash =
+    replyOf (nodeIn state) clock slave bc (isSet errors) status address (wordsOf 2 packet) (replyWords reply)
+outcomeOf (Entry.Poll clock reply) state flash = pollOf (nodeIn state) clock (replyWords reply)
+outcomeOf (Entry.Erase budget) state flash = eraseOf (nodeIn state) budget (wordsOf 2 flash)
+
+entry-is : (e : Entry) (state flash : List ℕ)
+    → answerOf entries e state flash ≡ entered (checkOf e state flash) state (runsOf e flash) (outcomeOf e state flash)
+unfolding startEntry requestEntry replyEntry pollEntry eraseEntry
+entry-is (Entry.Start kind ports subdetector program version tests clock) state flash = refl
+entry-is (Entry.Request clock link bc errors packet m reply) state flash = refl
+entry-is (Entry.Reply clock slave bc errors status address packet reply) state flash = refl
+entry-is (Entry.Poll clock reply) state flash = refl
+entry-is (Entry.Erase budget) state flash = refl
+
+-- its parts are those of the node's call: the answer ..
+answer-is : (e : Entry) (state flash : List ℕ) → outcomeOf e state flash .turn .answer ≡ answerIn e state flash
+answer-is (Entry.Start kind ports subdetector program version tests clock) state flash = refl
+answer-is (Entry.Request clock link bc errors packet m reply) state flash = refl
+answer-is (Entry.Reply clock slave bc errors status address packet reply) state flash = refl
+answer-is (Entry.Poll clock reply) state flash = refl
+answer-is (Entry.Erase budget) state flash = refl
+
+-- .. the next state, where a start that is fine is done ..
+pub start-begins : (kind ports subdetector program version tests clock : ℕ) (state flash : List ℕ)
+    → startCheck kind ports subdetector state (length flash / 2) ≡ Verdict.Fine
+    → startOf kind ports subdetector program version tests clock (wordsOf 2 flash) .answer ≡ Answer.Started
+unfolding startOf
+start-begins kind ports subdetector program version tests clock state flash h =
+    let g = given kind ports subdetector program version tests clock (length (wordsOf 2 flash)) in
+    ap (λ (v : Verdict). startBy v g (wordsOf 2 flash) .answer) (start-fine kind ports subdetector state flash h)
+
+pub start-taken : (kind ports subdetector program version tests clock : ℕ) (state flash : List ℕ)
+    → startCheck kind ports subdetector state (length flash / 2) ≡ Verdict.Fine
+    → isRefused (startOf kind ports subdetector program version tests clock (wordsOf 2 flash) .answer) ≡ false
+start-taken kind ports subdetector program version tests clock state flash h =
+    ap isRefused (start-begins kind ports subdetector program version tests clock state flash h)
+
+node-is : (e : Entry) (state flash : List ℕ) → checkOf e state flash ≡ Verdict.Fine
+    → outcomeOf e state flash .turn .node ≡ nodeAfter logodwen (onWords e) (nodeIn state) (wordsOf 2 flash)
+node-is (Entry.Start kind ports subdetector program version tests clock) state flash h =
+    no _ (start-taken kind ports subdetector program version tests clock state flash h) refl
+node-is (Entry.Request clock link bc errors packet m reply) state flash h = refl
+node-is (Entry.Reply clock slave bc errors status address packet reply) state flash h = refl
+node-is (Entry.Poll clock reply) state flash h = refl
+node-is (Entry.Erase budget) state flash h = refl
+
+-- .. and the flash
+flash-is : (e : Entry) (state flash : List ℕ) → Below 256 flash
+    → flashLeft e (told (inBytes (outcomeOf e state flash) (runsOf e flash))) flash
+    ≡ storeWords 2 (flashOf logodwen (onWords e) (nodeIn state) (wordsOf 2 flash)) flash
+flash-is (Entry.Start kind ports subdetector program version tests clock) state flash b = sym (bytes-kept 2 flash b)
+flash-is (Entry.Request clock link bc errors packet m reply) state flash b = refl
+flash-is (Entry.Reply clock slave bc errors status address packet reply) state flash b = sym (bytes-kept 2 flash b)
+flash-is (Entry.Poll clock reply) state flash b = sym (bytes-kept 2 flash b)
+flash-is (Entry.Erase budget) state flash b = refl
+
+flash-left : (e : Entry) (number : ℕ) (state flash : List ℕ) → flashLeft e (answered number state (runsOf e flash)) flash ≡ flash
+flash-left (Entry.Start kind ports subdetector program version tests clock) number state flash = refl
+flash-left (Entry.Request clock link bc errors packet m reply) number state flash = refl
+flash-left (Entry.Reply clock slave bc errors status address packet reply) number state flash = refl
+flash-left (Entry.Poll clock reply) number state flash = refl
+flash-left (Entry.Erase budget) number state flash = refl
+
+-- the node's call made
+pub record Made (e : Entry) (state flash : List ℕ) : Type 0 where
+  pub fine : checkOf e state flash ≡ Verdict.Fine
+  pub does : answerOf entries e state flash ≡ told (inBytes (outcomeOf e state flash) (runsOf e flash))
+  pub number : numberAfter entries e state flash ≡ answerNumber (answerIn e state flash)
+  pub node : stateAfter entries e state flash ≡ encodeOf (nodeAfter logodwen (onWords e) (nodeIn state) (wordsOf 2 flash))
+  pub words : Below 256 flash
+      → flashAfter entries e state flash ≡ storeWords 2 (flashOf logodwen (onWords e) (nodeIn state) (wordsOf 2 flash)) flash
+
+-- all as it was
+pub record Left (e : Entry) (state flash : List ℕ) : Type 0 where
+  pub refusal : Refusal
+  pub number : numberAfter entries e state flash ≡ refusalNumber refusal
+  pub node : stateAfter entries e state flash ≡ state
+  pub words : flashAfter entries e state flash ≡ flash
+
+pub data Step (e : Entry) (state flash : List ℕ) : Type 0 where
+  Leaves : Left e state flash → Step e state flash
+  Makes : Made e state flash → Step e state flash
+
+pub entry-step : (e : Entry) (state flash : List ℕ) → Step e state flash
+entry-step e state flash = by (checkOf e state flash) refl
+  where
+    by : (v : Verdict) → checkOf e state flash ≡ v → Step e state flash
+    by Verdict.Fine h =
+        let is = entry-is e state flash ∙ ap (λ (v : Verdict). entered v state (runsOf e flash) (outcomeOf e state flash)) h in
+        Step.Makes (record {
+          fine = h;
+          does = is;
+          number = ap (λ (a : Answered). a .number) is ∙ ap answerNumber (answer-is e state flash);
+          node = ap (λ (a : Answered). a .state) is ∙ ap encodeOf (node-is e state flash h);
+          words = λ b. ap (λ (a : Answered). flashLeft e a flash) is ∙ flash-is e state flash b;
+        })
+    by (Verdict.No r) h =
+        let is = entry-is e state flash ∙ ap (λ (v : Verdict). entered v state (runsOf e flash) (outcomeOf e state flash)) h in
+        Step.Leaves (record {
+          refusal = r;
+          number = ap (λ (a : Answered). a .number) is;
+          node = ap (λ (a : Answered). a .state) is;
+          words = ap (λ (a : Answered). flashLeft e a flash) is ∙ flash-left e (refusalNumber r) state flash;
+        })
+
+-- the number of a refusal is not that of a call that is done, and the other way round
+
+pub refusal-undone : (r : Refusal) → isDone (refusalNumber r) ≡ false
+refusal-undone Refusal.FlashSize = refl
+refusal-undone Refusal.ReplySize = refl
+refusal-undone Refusal.MemorySize = refl
+refusal-undone Refusal.Number = refl
+refusal-undone Refusal.State = refl
+refusal-undone Refusal.Busy = refl
+refusal-undone Refusal.Unasked = refl
+
+pub done-taken : (a : Answer) → isDone (answerNumber a) ≡ true → isRefused a ≡ false
+done-taken (Answer.Refused r) h = absurd (false≢true (sym (refusal-undone r) ∙ h))
+done-taken Answer.Started h = refl
+done-taken (Answer.Reply r) h = refl
+done-taken (Answer.Ask a) h = refl
+done-taken Answer.Waiting h = refl
+done-taken (Answer.Erased count) h = refl
+
+-- an entry that is done makes the node's call
+pub done-made : (e : Entry) (state flash : List ℕ) → isDone (numberAfter entries e state flash) ≡ true → Made e state flash
+done-made e state flash h = by (entry-step e state flash)
+  where
+    by : Step e state flash → Made e state flash
+    by (Step.Leaves l) = absurd (false≢true (sym (refusal-undone (l .refusal)) ∙ ap isDone (sym (l .number)) ∙ h))
+    by (Step.Makes m) = m
+
+-- an entry that isn't done is refused, and leaves the state bytes
+
+undone : (number : ℕ) → isDone number ≡ false → number % 256 ≡ 0 → ⊥
+undone number h = eqb-false (number % 256) 0 h
+
+pub undone-left : (e : Entry) (state flash : List ℕ) → isDone (numberAfter entries e state flash) ≡ false
+    → stateAfter entries e state flash ≡ state
+undone-left (Entry.Start kind ports subdetector program version tests clock) state flash h =
+    refused-exactly .start kind ports subdetector program version tests clock flash state .1 (undone _ h) .bytes
+undone-left (Entry.Request clock link bc errors packet m reply) state flash h =
+    refused-exactly .request clock link bc errors packet state (lent flash m reply) .1 (undone _ h) .bytes
+undone-left (Entry.Reply clock slave bc errors status address packet reply) state flash h =
+    refused-exactly .reply clock slave bc errors status address packet state reply .1 (undone _ h) .bytes
+undone-left (Entry.Poll clock reply) state flash h = refused-exactly .poll clock state reply .1 (undone _ h) .bytes
+undone-left (Entry.Erase budget) state flash h = refused-exactly .erase budget state flash .1 (undone _ h) .bytes

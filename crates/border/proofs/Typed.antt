@@ -1,0 +1,178 @@
+-- Every call keeps the sizes that a state's numbers and lists have by their types. Of the directory that is so because it is fresh.
+-- Assumes nothing.
+use Prim.Native.Nat.{ℕ, _<_}
+use native.Mathlib.Omega.{arith}
+use mathlib.Core.Path.{_≡_, refl, sym, ap, _∙_, subst}
+use mathlib.Core.Bool.{Bool, true, false}
+use mathlib.Core.List.{List, []}
+use lib.ListN.{length, length-set}
+use Rattle.base.specs.Words.{Below}
+use Rattle.base.proofs.Pick.{pick-case}
+use Rattle.flash.proofs.Entries.{length-directory}
+use Rattle.group.specs.Kind.{answer}
+use Rattle.group.specs.Slaves.{above, nextOf}
+use Rattle.group.specs.Fragment.{Assembly, assembly, taken}
+use Rattle.group.specs.Time.{isLate}
+use Rattle.group.specs.declared.Heard.{Heard}
+use Rattle.group.specs.declared.Next.{Next}
+use Rattle.report.specs.Status.{counted}
+use Rattle.node.specs.Refusals.{replyVerdict, pollVerdict, eraseVerdict, startVerdict}
+use Rattle.node.specs.Effect.{Effect, Lent, lent, nodeAfter, Setup, masksAfter}
+use Rattle.node.specs.Slaves.{heard, silent, goesOn, hears, askedAt, replyEffect, pollEffect}
+use Rattle.node.specs.Calls.{judged, lentReply, lentFlash, routed, given, startBy, startOf, requestOf, replyOf, pollOf, eraseEffect, eraseOf}
+use Rattle.node.specs.declared.Node.{Node}
+use Rattle.node.specs.declared.Pending.{Pending}
+use Rattle.node.specs.declared.Verdict.{Verdict}
+use Rattle.node.proofs.Routes.{route-case}
+use Rattle.demands.specs.Machine.{Call, logodwen, isRefused}
+use Rattle.demands.specs.Reached.{stateAfter}
+use Rattle.demands.proofs.Taken.{verdictOn, requestEffect}
+use Rattle.demands.proofs.Sound.{Sound}
+use Rattle.logodwen.specs.StateBytes.{waitOf}
+use Rattle.logodwen.specs.Kept.{Typed}
+use Rattle.border.proofs.Flash.{directory-below}
+
+-- the state, but for its directory
+pub record Small (n : Node) : Type 0 where
+  pub masks : length (n .masks) ≡ 16
+  pub program : n .given .«program_version» < 65536
+  pub version : n .given .«subdetector_version» < 65536
+  pub tests : n .given .«start_tests» < 65536
+  pub clock : n .given .«start_clock» < 4294967296
+  pub amswire : n .counts .amswire < 65536
+  pub flash : n .counts .flash < 65536
+  pub asked : waitOf (n .pending) .at < 4294967296
+
+-- what the C types say of a call's clock and words
+abbrev pub Clocked : Call → Type 0
+Clocked (Call.Start kind ports subdetector program version tests clock) =
+    (program < 65536) × (version < 65536) × (tests < 65536) × (clock < 4294967296)
+Clocked (Call.Request clock link bc errors packet m reply) = clock < 4294967296
+Clocked (Call.Reply clock slave bc errors status address words reply) = clock < 4294967296
+Clocked (Call.Poll clock reply) = clock < 4294967296
+Clocked (Call.Erase budget) = Unit {0}
+
+counted-small : (t : Bool) (count : ℕ) → count < 65536 → counted t count < 65536
+counted-small true count h = omega arith
+counted-small false count h = h
+
+masks-size : (u : Setup) (masks : List ℕ) → length masks ≡ 16 → length (masksAfter u masks) ≡ 16
+masks-size Setup.Kept masks h = h
+masks-size (Setup.Mode mode) masks h = h
+masks-size (Setup.Mask i mask) masks h = length-set masks i mask ∙ h
+
+effect-small : (n : Node) (flash : List ℕ) (e : Effect) → Small n → waitOf (e .pending) .at < 4294967296 → Small (nodeAfter n flash e)
+effect-small n flash e s h =
+    record {
+      masks = masks-size (e .setup) (n .masks) (s .masks);
+      program = s .program;
+      version = s .version;
+      tests = s .tests;
+      clock = s .clock;
+      amswire = counted-small (e .amswire) (n .counts .amswire) (s .amswire);
+      flash = counted-small (e .fault) (n .counts .flash) (s .flash);
+      asked = h;
+    }
+
+-- when a slave was asked: at the clock of this call, or as before
+abbrev At : Pending → Type 0
+At p = waitOf p .at < 4294967296
+
+request-asked : (n : Node) (clock link bc : ℕ) (errors : Bool) (packet : List ℕ) (l : Lent) → clock < 4294967296 → At (n .pending)
+    → At (requestEffect n clock link bc errors packet l .pending)
+request-asked n clock link bc errors packet l c h =
+    route-case (λ r. At (routed r n clock link packet l .pending)) n link bc errors packet h h (λ _. omega arith) (λ id _. h) (λ s _. c)
+    (λ set from s _ _. c)
+
+hears-asked : (p : Pending) (n : Node) (clock : ℕ) (h : Heard) (words reply : List ℕ) → clock < 4294967296
+    → At (hears p n clock h words reply .pending)
+hears-asked Pending.Nothing n clock h words reply c = omega arith
+hears-asked (Pending.Slave a) n clock h words reply c = omega arith
+hears-asked (Pending.Group a g) n clock h words reply c = by (nextOf (above (g .set) (a .slave)))
+  where
+    after : Assembly
+    after = taken (assembly reply (g .built)) (length (above (g .set) (a .slave))) (a .slave) (answer h words)
+
+    by : (next : Next) → At (goesOn n a g clock after next .pending)
+    by Next.Nobody = omega arith
+    by (Next.Slave s) = c
+
+reply-asked : (n : Node) (clock : ℕ) (errors : Bool) (status address bc : ℕ) (words reply : List ℕ) → clock < 4294967296
+    → At (replyEffect n clock errors status address bc words reply .pending)
+unfolding replyEffect
+reply-asked n clock errors status address bc words reply c =
+    hears-asked (n .pending) n clock (heard (isLate clock (askedAt (n .pending))) errors status address bc) words reply c
+
+poll-asked : (n : Node) (clock : ℕ) (reply : List ℕ) → clock < 4294967296 → At (n .pending) → At (pollEffect n clock reply .pending)
+unfolding pollEffect
+poll-asked n clock reply c h =
+    pick-case (λ (e : Effect). At (e .pending)) (isLate clock (askedAt (n .pending)))
+    (λ _. hears-asked (n .pending) n clock silent [] reply c) (λ _. h)
+
+judged-small : (v : Verdict) (n : Node) (l : Lent) (e : Effect) → Small n → At (e .pending) → Small (judged v n l e .turn .node)
+judged-small Verdict.Fine n l e s h = effect-small n (l .flash) e s h
+judged-small (Verdict.No r) n l e s h = s
+
+pub start-small : (kind ports subdetector program version tests clock : ℕ) (flash : List ℕ)
+    → Clocked (Call.Start kind ports subdetector program version tests clock)
+    → Small (startOf kind ports subdetector program version tests clock flash .node)
+unfolding startOf
+start-small kind ports subdetector program version tests clock flash (p, v, t, c) = by (startVerdict kind ports subdetector (length flash))
+  where
+    by : (w : Verdict) → Small (startBy w (given kind ports subdetector program version tests clock (length flash)) flash .node)
+    by Verdict.Fine =
+        record {
+          masks = refl;
+          program = p;
+          version = v;
+          tests = omega arith;
+          clock = c;
+          amswire = omega arith;
+          flash = omega arith;
+          asked = omega arith;
+        }
+    by (Verdict.No r) =
+        record {
+          masks = refl;
+          program = omega arith;
+          version = omega arith;
+          tests = omega arith;
+          clock = omega arith;
+          amswire = omega arith;
+          flash = omega arith;
+          asked = omega arith;
+        }
+
+pub call-small : (c : Call) (n : Node) (flash : List ℕ) → Clocked c → Small n → Small (stateAfter logodwen c n flash)
+unfolding requestOf replyOf pollOf eraseOf
+call-small (Call.Start kind ports subdetector program version tests clock) n flash c s =
+    pick-case Small (isRefused (startOf kind ports subdetector program version tests clock flash .answer)) (λ _. s)
+    (λ _. start-small kind ports subdetector program version tests clock flash c)
+call-small (Call.Request clock link bc errors packet m reply) n flash c s =
+    let l : Lent = lent flash m reply in
+    judged-small (verdictOn n link packet l) n l (requestEffect n clock link bc errors packet l) s
+    (request-asked n clock link bc errors packet l c (s .asked))
+call-small (Call.Reply clock slave bc errors status address words reply) n flash c s =
+    judged-small (replyVerdict n slave (length reply)) n (lentReply reply) (replyEffect n clock errors status address bc words reply) s
+    (reply-asked n clock errors status address bc words reply c)
+call-small (Call.Poll clock reply) n flash c s =
+    judged-small (pollVerdict n (length reply)) n (lentReply reply) (pollEffect n clock reply) s (poll-asked n clock reply c (s .asked))
+call-small (Call.Erase budget) n flash c s =
+    judged-small (eraseVerdict n (length flash)) n (lentFlash flash) (eraseEffect n budget flash) s (s .asked)
+
+-- with a directory that is fresh, all of it
+pub small-typed : (n : Node) (flash : List ℕ) → Small n → Sound n flash → Below 65536 flash → Typed n
+small-typed n flash s sound h =
+    let fresh = sound .fresh .summary in
+    record {
+      masks = s .masks;
+      directory = ap length fresh ∙ length-directory flash (n .erasing);
+      entries = subst (λ (d : List ℕ). Below 65536 d) (sym fresh) (directory-below flash (n .erasing) h);
+      program = s .program;
+      version = s .version;
+      tests = s .tests;
+      clock = s .clock;
+      amswire = s .amswire;
+      flash = s .flash;
+      asked = s .asked;
+    }

@@ -1,0 +1,52 @@
+-- The number of an entry that is done has the node's answer in its bits, whole: no part of an answer is too large for its place. 01 'Call
+-- refusals' and the C border's table of the number. Assumes nothing.
+use Prim.Native.Nat.{ℕ, _/_, _%_, _≤_, _<_}
+use mathlib.Core.Path.{_≡_}
+use mathlib.Core.Logic.{_⊎_}
+use mathlib.Core.Bool.{true}
+use mathlib.Core.List.{List}
+use Rattle.node.specs.declared.Answer.{Answer}
+use Rattle.demands.specs.Machine.{logodwen, turnOf}
+use Rattle.logodwen.specs.Bytes.{wordsOf}
+use Rattle.logodwen.specs.StateBytes.{nodeIn}
+use Rattle.border.specs.Exactly.{Entries}
+use Rattle.border.specs.Host.{Entry, numberAfter, onWords, isDone}
+
+-- What stands in the bits of a number of 64: kind in 15-8, who in 23-16, from in 31-24, words in 63-32, and 0 in 7-0.
+pub record InBits (number k w f n : ℕ) : Type 0 where
+  pub done : number % 256 ≡ 0
+  pub kind : number / 256 % 256 ≡ k
+  pub who : number / 65536 % 256 ≡ w
+  pub from : number / 16777216 % 256 ≡ f
+  pub words : number / 4294967296 ≡ n
+  pub most : n < 4294967296
+
+-- The answer that a number says: a reply's BC and length; the slave to ask, and the word from which the request is sent on; waiting; the
+-- words that an erase step set. A start says 0, and a refusal is not done.
+abbrev pub Says : ℕ → Answer → Type 0
+Says number (Answer.Refused r) = ⊥
+Says number Answer.Started = InBits number 0 0 0 0
+Says number (Answer.Reply r) = InBits number 1 (r .bc) 0 (r .words)
+Says number (Answer.Ask a) = InBits number 2 (a .slave) (a .from) 0
+Says number Answer.Waiting = InBits number 3 0 0 0
+Says number (Answer.Erased count) = InBits number 0 0 0 count
+
+-- How large they can be: BC is two bits, a reply has at most 12,288 words, a slave is at most 23, one or two words are stripped, and an
+-- erase step sets at most a sector of 4,096 words.
+abbrev pub Bounds : Answer → Type 0
+Bounds (Answer.Refused r) = ⊥
+Bounds Answer.Started = Unit {0}
+Bounds (Answer.Reply r) = (r .bc < 4) × (r .words ≤ 12288)
+Bounds (Answer.Ask a) = (a .slave ≤ 23) × ((a .from ≡ 1) ⊎ (a .from ≡ 2))
+Bounds Answer.Waiting = Unit {0}
+Bounds (Answer.Erased count) = count ≤ 4096
+
+-- The node's answer to the call that an entry is.
+abbrev pub answerIn : Entry → List ℕ → List ℕ → Answer
+answerIn e state flash = turnOf logodwen (onWords e) (nodeIn state) (wordsOf 2 flash) .answer
+
+-- Any entry that is done, lent any bytes at all.
+abbrev pub NothingCut : Entries → Type 0
+NothingCut E =
+    (e : Entry) (state flash : List ℕ) → isDone (numberAfter E e state flash) ≡ true
+    → Says (numberAfter E e state flash) (answerIn e state flash) × Bounds (answerIn e state flash)

@@ -1,0 +1,104 @@
+-- A host in C, as it keeps a node: 172 state bytes and the flash's bytes, lent to entry after entry. What an entry is given, what the
+-- C types say of it, the bytes that it leaves, and all bytes that a host can come to have. As the demands, these are of any five
+-- entries, so that wrong ones can be seen to be shut out. 01 'Covered' and 'Call refusals'. Assumes nothing.
+use Prim.Native.Nat.{ℕ, _%_, _<_}
+use mathlib.Core.Path.{_≡_}
+use mathlib.Core.Bool.{Bool, false}
+use mathlib.Core.List.{List}
+use lib.Dec.{eqb}
+use Rattle.base.specs.Words.{Below}
+use Rattle.memory.specs.Segment.{Memories}
+use Rattle.node.specs.Effect.{lent}
+use Rattle.demands.specs.Machine.{Call}
+use Rattle.logodwen.specs.Bytes.{wordsOf}
+use Rattle.logodwen.specs.Entry.{Answered, memoryWords, replyWords, isSet}
+use Rattle.border.specs.Exactly.{Entries}
+
+-- An entry, with all that it is given and lent but the state bytes and the flash bytes. Packets, memories and reply buffers are bytes.
+pub data Entry : Type 0 where
+  Start : (kind ports subdetector program version tests clock : ℕ) → Entry
+  Request : (clock link bc errors : ℕ) (packet : List ℕ) (m : Memories) (reply : List ℕ) → Entry
+  Reply : (clock slave bc errors status address : ℕ) (packet reply : List ℕ) → Entry
+  Poll : (clock : ℕ) (reply : List ℕ) → Entry
+  Erase : (budget : ℕ) → Entry
+
+-- The C types: uint8_t, in runs; uint16_t; uint32_t; uint64_t.
+abbrev pub U8s : List ℕ → Type 0
+U8s bytes = Below 256 bytes
+
+abbrev pub U16 : ℕ → Type 0
+U16 x = x < 65536
+
+abbrev pub U32 : ℕ → Type 0
+U32 x = x < 4294967296
+
+abbrev pub U64 : ℕ → Type 0
+U64 x = x < 18446744073709551616
+
+-- What they say of an entry.
+abbrev pub InC : Entry → Type 0
+InC (Entry.Start kind ports subdetector program version tests clock) =
+    U32 kind × U32 ports × U32 subdetector × U16 program × U16 version × U16 tests × U32 clock
+InC (Entry.Request clock link bc errors packet m reply) =
+    U32 clock × U32 link × U32 bc × U32 errors × U8s packet × U8s (m .pm) × U8s (m .dm) × U8s (m .io) × U8s reply
+InC (Entry.Reply clock slave bc errors status address packet reply) =
+    U32 clock × U32 slave × U32 bc × U32 errors × U16 status × U16 address × U8s packet × U8s reply
+InC (Entry.Poll clock reply) = U32 clock × U8s reply
+InC (Entry.Erase budget) = U64 budget
+
+-- What an entry answers and leaves, lent these state bytes and these flash bytes.
+abbrev pub answerOf : Entries → Entry → List ℕ → List ℕ → Answered
+answerOf E (Entry.Start kind ports subdetector program version tests clock) state flash =
+    E .start kind ports subdetector program version tests clock flash state
+answerOf E (Entry.Request clock link bc errors packet m reply) state flash =
+    E .request clock link bc errors packet state (lent flash m reply)
+answerOf E (Entry.Reply clock slave bc errors status address packet reply) state flash =
+    E .reply clock slave bc errors status address packet state reply
+answerOf E (Entry.Poll clock reply) state flash = E .poll clock state reply
+answerOf E (Entry.Erase budget) state flash = E .erase budget state flash
+
+-- The number that it answers, and the state bytes after it.
+abbrev pub numberAfter : Entries → Entry → List ℕ → List ℕ → ℕ
+numberAfter E e state flash = answerOf E e state flash .number
+
+abbrev pub stateAfter : Entries → Entry → List ℕ → List ℕ → List ℕ
+stateAfter E e state flash = answerOf E e state flash .state
+
+-- The flash bytes after it: start reads them, reply and poll are not lent them.
+abbrev pub flashLeft : Entry → Answered → List ℕ → List ℕ
+flashLeft (Entry.Start kind ports subdetector program version tests clock) a flash = flash
+flashLeft (Entry.Request clock link bc errors packet m reply) a flash = a .runs .flash
+flashLeft (Entry.Reply clock slave bc errors status address packet reply) a flash = flash
+flashLeft (Entry.Poll clock reply) a flash = flash
+flashLeft (Entry.Erase budget) a flash = a .runs .flash
+
+abbrev pub flashAfter : Entries → Entry → List ℕ → List ℕ → List ℕ
+flashAfter E e state flash = flashLeft e (answerOf E e state flash) flash
+
+-- The node's call that an entry is: on the words of the bytes that it is lent.
+abbrev pub onWords : Entry → Call
+onWords (Entry.Start kind ports subdetector program version tests clock) = Call.Start kind ports subdetector program version tests clock
+onWords (Entry.Request clock link bc errors packet m reply) =
+    Call.Request clock link bc (isSet errors) (wordsOf 2 packet) (memoryWords m) (replyWords reply)
+onWords (Entry.Reply clock slave bc errors status address packet reply) =
+    Call.Reply clock slave bc (isSet errors) status address (wordsOf 2 packet) (replyWords reply)
+onWords (Entry.Poll clock reply) = Call.Poll clock (replyWords reply)
+onWords (Entry.Erase budget) = Call.Erase budget
+
+-- Done: the low byte of the number is 0.
+abbrev pub isDone : ℕ → Bool
+isDone number = eqb (number % 256) 0
+
+-- The state bytes and flash bytes that a host can come to have. Clock, packet, memories and reply buffer are fresh at every entry.
+pub data Hosted (E : Entries) : List ℕ → List ℕ → Type 0 where
+  -- a start answered 0, on any flash bytes, whatever the state bytes were
+  First : (kind ports subdetector program version tests clock : ℕ) (state flash : List ℕ)
+      → InC (Entry.Start kind ports subdetector program version tests clock) → U8s flash
+      → numberAfter E (Entry.Start kind ports subdetector program version tests clock) state flash ≡ 0
+      → Hosted E (stateAfter E (Entry.Start kind ports subdetector program version tests clock) state flash) flash
+  -- then any entry, lent those, done or refused
+  Then : {state flash : List ℕ} → Hosted E state flash → (e : Entry) → InC e
+      → Hosted E (stateAfter E e state flash) (flashAfter E e state flash)
+  -- or an entry that is refused, whatever flash it was lent
+  Refused : {state flash : List ℕ} → Hosted E state flash → (e : Entry) (other : List ℕ) → isDone (numberAfter E e state other) ≡ false
+      → Hosted E (stateAfter E e state other) flash
