@@ -1,4 +1,4 @@
-// The node's calls on the words of lent bytes. Each run is converted once in, and once out.
+// The node's calls on the words of lent bytes. Each run that a call can touch is converted once in, and once out.
 ghost use mathlib.Core.Path.{_≡_};
 ghost use mathlib.Core.List.{[]};
 ghost use Prim.Native.Nat.{_/_, _≤_};
