@@ -1,15 +1,20 @@
 # Logodwen: the reference node. `make run` does the main job, `make test` is the whole test. Each does its own set-up.
 SHELL := /bin/sh
-FILES ?= examples/files
+EXAMPLES := examples/images
 
 .PHONY: run test lib verify install perf vectors tools clean
 
-# Which of some files are valid, each line the words of one in hex (FILES=..), by the proved program.
+# Audits the images that IMAGES= names, or those of examples/, of which some are damaged. Where there is no archive of these sources it is
+# proved and built first.
 run: tools
-	@test -r "$(FILES)" || { echo "make: no file $(FILES): give one by FILES=, a line of words in hex for each file"; exit 1; }
-	@echo "make: proving and building the program first, which takes a minute or two where it isn't there" >&2
-	@rt check image_vectors >build/run.log 2>&1 || { cat build/run.log; exit 1; }
-	@host/run target/bin/image_vectors <"$(FILES)"
+	@host/verify >build/verify.log 2>&1 || { cat build/verify.log; \
+		echo "make: proving and building the archive first, which takes some minutes, from a fresh clone ten or more"; host/lib; } >&2
+ifdef IMAGES
+	@host/audit $(IMAGES)
+else
+	@host/audit $(EXAMPLES) || test $$? -eq 1
+	@echo "make: those of $(EXAMPLES) that do not agree are damaged, or too large, on purpose"
+endif
 
 # Everything that can be proved or run and compared. The last line is that of `rt ci`, and stands there only if all passed.
 test: tools

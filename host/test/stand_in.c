@@ -1,5 +1,5 @@
 /* The model in the place of the archive, under the archive's names: for the tests of the C side where no archive can be linked (under
-   a sanitizer on Arm), and, with FAULT above 0, for the test that the differential test notices a fault. */
+   a sanitizer on Arm), and, with FAULT above 0, for the tests that the differential test and the audit notice a fault. */
 #include "../../include/logodwen.h"
 #include "../model/model.h"
 
@@ -8,7 +8,32 @@
 #ifndef FAULT
 #define FAULT 0
 #endif
-enum { NO_FAULT, STALE_DIRECTORY, REFUSED_YET_CHANGED, ODD_BYTE_CLEARED, CLOCK_COMPARED, TALLY_FORGOTTEN, FAULTS };
+enum { NO_FAULT, STALE_DIRECTORY, REFUSED_YET_CHANGED, ODD_BYTE_CLEARED, CLOCK_COMPARED, TALLY_FORGOTTEN };
+enum { READ_WRONG = 6, READ_SHORT, READ_UNSEALED, NOTHING_STORED, ALL_ACCEPTED, ALL_REFUSED }; /* of File Read and File Write */
+
+static bool is_own(const uint8_t *packet, size_t packet_len, unsigned id) {
+    return packet_len >= 2 && packet[0] == 0x2E && packet[1] == id;
+}
+
+/* The reply to a File Read with words, with a fault. One word of the file is wrong, a different one each time, under a right FCS. */
+static uint64_t read_with_fault(uint64_t answered, uint8_t *reply) {
+    static size_t reads;
+    size_t words = logodwen_words(answered);
+    if (FAULT == READ_WRONG) {
+        reply[2 * (reads++ % (words - 2))] ^= 1;
+        logodwen_put(reply, words - 1, logodwen_fcs(reply, words - 1));
+    }
+    if (FAULT == READ_UNSEALED)
+        reply[2 * words - 1] ^= 1;
+    return FAULT == READ_SHORT ? answered - ((uint64_t)1 << 32) : answered;
+}
+
+/* The reply to a File Write, with a fault. */
+static uint64_t write_with_fault(uint64_t answered) {
+    if (FAULT != ALL_ACCEPTED && FAULT != ALL_REFUSED)
+        return answered;
+    return LOGODWEN_REPLY << 8 | (FAULT == ALL_ACCEPTED ? LOGODWEN_BC_END : LOGODWEN_BC_ABORT) << 16;
+}
 
 uint32_t logodwen1_start(uint32_t kind, uint32_t ports, uint32_t subdetector, uint16_t program_version,
                          uint16_t subdetector_version, uint16_t start_tests, uint32_t clock, const uint8_t *flash, size_t flash_len,
@@ -21,11 +46,19 @@ uint64_t logodwen1_request(uint32_t now, uint32_t link, uint32_t bc, uint32_t re
                            size_t packet_len, uint8_t *state, size_t state_len, uint8_t *flash, size_t flash_len, uint8_t *pm,
                            size_t pm_len, uint8_t *dm, size_t dm_len, uint8_t *io, size_t io_len, uint8_t *reply,
                            size_t reply_len) {
+    static uint8_t spare_state[LOGODWEN_STATE_BYTES], spare_flash[LOGODWEN_FLASH_BYTES];
+    bool is_write = is_own(packet, packet_len, 0x45), is_read = is_own(packet, packet_len, 0x05);
+    if (FAULT == NOTHING_STORED && is_write && state_len == sizeof spare_state && flash_len == sizeof spare_flash) {
+        state = memcpy(spare_state, state, state_len);
+        flash = memcpy(spare_flash, flash, flash_len);
+    }
     uint64_t answered = model_request(now, link, bc, receive_error, packet, packet_len, state, state_len, flash, flash_len, pm,
                                       pm_len, dm, dm_len, io, io_len, reply, reply_len);
     if (FAULT == ODD_BYTE_CLEARED && logodwen_answer(answered) == LOGODWEN_REPLY && dm_len % 2 == 1)
         dm[dm_len - 1] = 0;
-    return answered;
+    if (is_read && logodwen_words(answered) != 0)
+        return read_with_fault(answered, reply);
+    return is_write && logodwen_answer(answered) == LOGODWEN_REPLY ? write_with_fault(answered) : answered;
 }
 
 uint64_t logodwen1_reply(uint32_t now, uint32_t slave, uint32_t bc, uint32_t receive_error, uint16_t rx_status, uint16_t rx_address,

@@ -43,18 +43,18 @@ use Rattle.border.proofs.OfState.{state-bytes-tell}
 -- tests on words decide causes on bytes
 
 bench-tells : (flash : List ℕ) → Tells (eqb (length flash / 2) 32768) (BenchSize flash)
-bench-tells flash = same-tells (one (length flash)) (other (length flash)) (eqb-tells (length flash / 2) 32768)
+bench-tells flash = same-tells long words (eqb-tells (length flash / 2) 32768)
   where
-    one : (n : ℕ) → n / 2 ≡ 32768 → (n ≡ 65536) ⊎ (n ≡ 65537)
-    one n h = by (eqb n 65536) (eqb-tells n 65536)
+    long : length flash / 2 ≡ 32768 → BenchSize flash
+    long h = by (eqb (length flash) 65536) (eqb-tells (length flash) 65536)
       where
-        by : (t : Bool) → Tells t (n ≡ 65536) → (n ≡ 65536) ⊎ (n ≡ 65537)
+        by : (t : Bool) → Tells t (length flash ≡ 65536) → BenchSize flash
         by true p = inl (p .told refl)
-        by false p = inr (let odd : n ≡ 65536 → ⊥ = λ e. false≢true (p .tells e) in omega (arith, odd))
+        by false p = inr (let odd : length flash ≡ 65536 → ⊥ = λ e. false≢true (p .tells e) in omega (arith, odd))
 
-    other : (n : ℕ) → (n ≡ 65536) ⊎ (n ≡ 65537) → n / 2 ≡ 32768
-    other n (inl e) = omega arith
-    other n (inr e) = omega arith
+    words : BenchSize flash → length flash / 2 ≡ 32768
+    words (inl e) = omega arith
+    words (inr e) = omega arith
 
 -- what is looked at only where the state bytes are 172
 where-tells : {t u : Bool} {A B : Type 0} → Tells t A → Tells u B → Tells (not (pick t u true)) (A × (B → ⊥))

@@ -16,14 +16,14 @@ use Rattle.node.specs.Valid.{sizeOk, kindOk, portsOk, stateOk}
 use Rattle.node.specs.Refusals.{Cause, cause, firstOf, flashCause, replyCause, memoryCause, linkCause, slaveCause, stateCause, busyCause, pollCause, unaskedCause, requestVerdict, replyVerdict, pollVerdict, eraseVerdict, startVerdict}
 use Rattle.node.specs.declared.Refusal.{Refusal}
 use Rattle.node.specs.declared.Verdict.{Verdict}
-use Rattle.node.proofs.Verdicts.{NoneHolds, fine-tells}
+use Rattle.node.proofs.Verdicts.{NoneHolds, fine-tells, or-neither}
 use Rattle.demands.proofs.Taken.{verdictOn}
 use Rattle.logodwen.specs.Bytes.{wordsOf}
 use Rattle.logodwen.specs.StateBytes.{sizeIn, portsIn, encodeOf, nodeIn, alike, areState}
 use Rattle.logodwen.specs.Causes.{keptOk, linkOk, benchCause, memoriesCause, lengthCause, portCause, bytesCause, requestCheck, replyCheck, pollCheck, eraseCheck, startCheck}
 use Rattle.logodwen.specs.Entry.{replyWords, runWords}
 use Rattle.logodwen.proofs.Runs.{length-words-of}
-use Rattle.logodwen.proofs.Entering.{neither, state-long}
+use Rattle.logodwen.proofs.Entering.{state-long}
 
 -- where no cause holds, none refuses
 none-refuses : (causes : List Cause) → NoneHolds causes → firstOf causes ≡ Verdict.Fine
@@ -50,7 +50,7 @@ flash-no : (state : List ℕ) (flash : ℕ) → bytesCause state .holds ≡ fals
     → flashCause (nodeIn state) flash .holds ≡ false
 unfolding nodeIn
 flash-no state flash s h =
-    let both = neither (not (eqb flash 32768)) (not (keptOk state flash)) h in
+    let both = or-neither (not (eqb flash 32768)) (not (keptOk state flash)) h in
     let bench : flash ≡ 32768 = eqb-true flash 32768 (not-false (eqb flash 32768) (both .0)) in
     let kept : eqb flash (sizeIn state) ≡ true =
     where-long state (eqb flash (sizeIn state)) (not-false (areState state) s) (not-false (keptOk state flash) (both .1)) in
@@ -58,8 +58,8 @@ flash-no state flash s h =
 
 memory-no : (pm dm io : ℕ) → memoriesCause pm dm io .holds ≡ false → memoryCause pm dm io .holds ≡ false
 memory-no pm dm io h =
-    let a = neither (ltb 8192 pm || ltb 8192 dm) (ltb 4096 io) h in
-    let b = neither (ltb 8192 pm) (ltb 8192 dm) (a .0) in
+    let a = or-neither (ltb 8192 pm || ltb 8192 dm) (ltb 4096 io) h in
+    let b = or-neither (ltb 8192 pm) (ltb 8192 dm) (a .0) in
     let p : ltb 32768 pm ≡ false = le-ltb 32768 pm (omega (arith, ltb-false 8192 pm (b .0))) in
     let d : ltb 32768 dm ≡ false = le-ltb 32768 dm (omega (arith, ltb-false 8192 dm (b .1))) in
     (λ i. p i || d i || ltb 4096 io) ∙ a .1

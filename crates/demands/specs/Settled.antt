@@ -137,6 +137,7 @@ pub record NodeSettled : Type 0 where
   pub reply : Settles Node.Node.reply.Kinds.ps Node.Node.reply.Kinds.r Node.Node.reply.Reads.Learnt
   pub poll : Settles Node.Node.poll.Kinds.ps Node.Node.poll.Kinds.r Node.Node.poll.Reads.Learnt
   pub erase : Settles Node.Node.erase.Kinds.ps Node.Node.erase.Kinds.r Node.Node.erase.Reads.Learnt
+  pub refusals-refusal-number : Settles Node.refusals.refusal_number.Kinds.ps Node.refusals.refusal_number.Kinds.r Node.refusals.refusal_number.Reads.Learnt
   pub refusals-is-pending : Settles Node.refusals.is_pending.Kinds.ps Node.refusals.is_pending.Kinds.r Node.refusals.is_pending.Reads.Learnt
   pub refusals-is-asked : Settles Node.refusals.is_asked.Kinds.ps Node.refusals.is_asked.Kinds.r Node.refusals.is_asked.Reads.Learnt
   pub refusals-request-verdict : Settles Node.refusals.request_verdict.Kinds.ps Node.refusals.request_verdict.Kinds.r Node.refusals.request_verdict.Reads.Learnt

@@ -1,10 +1,10 @@
 -- What a writer leaves that stores the numbers of a state, then its masks, then its directory: the state's bytes. Assumes nothing.
 use Prim.Native.Nat.{ℕ, _+_, _*_, _≤_}
 use native.Mathlib.Omega.{arith}
-use native.Mathlib.Nat.{add-zero, zero-add}
-use mathlib.Core.List.{List, [], _++_, append-assoc}
+use native.Mathlib.Nat.{add-zero}
+use mathlib.Core.List.{List, _++_, append-assoc}
 use mathlib.Core.Path.{_≡_, refl, sym, ap, _∙_}
-use lib.ListN.{length, take, drop, length-append}
+use lib.ListN.{length, length-append}
 use borrow.Rule.Slice.PartMut.{putMid}
 use Rattle.base.specs.Words.{part, laid}
 use Rattle.base.proofs.Laid.{length-laid, laid-laid, laid-part, laid-whole}

@@ -1,12 +1,12 @@
 -- An entry that is refused, and one that is taken; and what it tells that no cause of a refusal holds. Assumes nothing.
-use Prim.Native.Nat.{ℕ, _/_, _≤_, _<_}
+use Prim.Native.Nat.{ℕ, _≤_}
 use native.Mathlib.Omega.{arith}
 use mathlib.Core.Path.{_≡_, refl, sym, ap, _∙_}
-use mathlib.Core.Bool.{Bool, true, false, _&&_, _||_, not, false≢true}
-use mathlib.Core.List.{List, []}
+use mathlib.Core.Bool.{Bool, true, false, _&&_, _||_, not}
+use mathlib.Core.List.{List}
 use lib.ListN.{length}
 use lib.Dec.{ltb, leb, eqb}
-use borrow.Author.Tests.{eq-eqb, eqb-true, leb-true, ltb-false, not-false}
+use borrow.Author.Tests.{eqb-true, leb-true, ltb-false, not-false}
 use Rattle.base.specs.Pick.{pick}
 use Rattle.base.proofs.Pick.{no, and-left, and-right}
 use Rattle.node.specs.State.{refusalNumber}
@@ -18,11 +18,12 @@ use Rattle.node.specs.declared.Answer.{Answer}
 use Rattle.node.specs.declared.Refusal.{Refusal}
 use Rattle.node.specs.declared.Turn.{Turn}
 use Rattle.node.specs.declared.Verdict.{Verdict}
+use Rattle.node.proofs.Verdicts.{or-neither}
 use Rattle.logodwen.specs.StateBytes.{encodeOf, nodeIn, alike, areState}
 use Rattle.logodwen.specs.Number.{answerNumber}
 use Rattle.logodwen.specs.Causes.{keptOk, linkOk, requestCheck, replyCheck, pollCheck, eraseCheck}
 use Rattle.logodwen.proofs.Small.{one-of}
-use Rattle.logodwen.specs.Entry.{Answered, answered, inBytes, told, entered}
+use Rattle.logodwen.specs.Entry.{answered, inBytes, told, entered}
 
 pub entered-fine : (v : Verdict) (state : List ℕ) (runs : Lent) (o : Outcome) {t : Turn} {l : Lent} {number : ℕ} {after : List ℕ} → v ≡ Verdict.Fine
     → outcome t l ≡ inBytes o runs → number ≡ answerNumber (t .answer) → after ≡ encodeOf (t .node) → answered number after l ≡ entered v state runs o
@@ -46,12 +47,8 @@ fine-then : (t : Bool) (r : Refusal) (v : Verdict) → pick t (Verdict.No r) v �
 fine-then true r v e = let z : _≡_ {A = ℕ} 0 1 = cc in absurd (omega arith)
 fine-then false r v e = (refl, e)
 
-pub neither : (t u : Bool) → (t || u) ≡ false → (t ≡ false) × (u ≡ false)
-neither true u e = absurd (false≢true (sym e))
-neither false u e = (refl, e)
-
 bench-size : (state : List ℕ) (flash : ℕ) → (not (eqb flash 32768) || not (keptOk state flash)) ≡ false → flash ≡ 32768
-bench-size state flash h = eqb-true flash 32768 (not-false (eqb flash 32768) (neither (not (eqb flash 32768)) (not (keptOk state flash)) h .0))
+bench-size state flash h = eqb-true flash 32768 (not-false (eqb flash 32768) (or-neither (not (eqb flash 32768)) (not (keptOk state flash)) h .0))
 
 pub record RequestFine (state : List ℕ) (flash pm dm io reply : ℕ) : Type 0 where
   pub bench : flash ≡ 32768
@@ -70,8 +67,8 @@ request-fine link packet state flash pm dm io reply h =
     let c = fine-then (ltb 8192 pm || ltb 8192 dm || ltb 4096 io) _ _ (b .1) in
     let d = fine-then (not (linkOk state link)) _ _ (c .1) in
     let e = fine-then (not (areState state)) _ _ (d .1) in
-    let m = neither (ltb 8192 pm || ltb 8192 dm) (ltb 4096 io) (c .0) in
-    let k = neither (ltb 8192 pm) (ltb 8192 dm) (m .0) in
+    let m = or-neither (ltb 8192 pm || ltb 8192 dm) (ltb 4096 io) (c .0) in
+    let k = or-neither (ltb 8192 pm) (ltb 8192 dm) (m .0) in
     record {
       bench = bench-size state flash (a .0);
       buffer = ltb-false reply 12288 (b .0);
@@ -117,8 +114,8 @@ erase-fine state flash h =
 
 pub start-small : (kind ports subdetector : ℕ) → (not (portsOk ports) || not (kindOk kind) || ltb 7 subdetector) ≡ false → (kind ≤ 2) × (ports ≤ 4) × (subdetector ≤ 7)
 start-small kind ports subdetector h =
-    let a = neither (not (portsOk ports) || not (kindOk kind)) (ltb 7 subdetector) h in
-    let b = neither (not (portsOk ports)) (not (kindOk kind)) (a .0) in
+    let a = or-neither (not (portsOk ports) || not (kindOk kind)) (ltb 7 subdetector) h in
+    let b = or-neither (not (portsOk ports)) (not (kindOk kind)) (a .0) in
     let p : portsOk ports ≡ true = not-false (portsOk ports) (b .0) in
     let k : kindOk kind ≡ true = not-false (kindOk kind) (b .1) in
     (one-of kind 1 2 2 (omega arith) (omega arith) k, leb-true ports 4 (and-right (leb 1 ports) (leb ports 4) p), ltb-false 7 subdetector (a .1))

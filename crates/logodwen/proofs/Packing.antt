@@ -1,6 +1,6 @@
 -- Numbers packed into bytes, once for every list of sizes: stored one behind the other they are the packed bytes, packed and read
 -- again they are the numbers. Assumes nothing.
-use Prim.Native.Nat.{ℕ, zero, suc, _+_, _*_, _^_, _≤_, _<_}
+use Prim.Native.Nat.{ℕ, _+_, _≤_}
 use native.Mathlib.Omega.{arith}
 use mathlib.Core.List.{List, [], _∷_, _++_, append-assoc}
 use mathlib.Core.Path.{_≡_, refl, sym, ap, _∙_}
@@ -8,7 +8,7 @@ use lib.ListN.{length, drop, length-append}
 use lib.Seq.{take-at, drop-at}
 use Rattle.base.specs.Words.{laid}
 use Rattle.base.proofs.Laid.{length-laid, laid-none, laid-laid}
-use Rattle.logodwen.specs.Bytes.{numberAt, digitsOf}
+use Rattle.logodwen.specs.Bytes.{digitsOf}
 use Rattle.logodwen.specs.Places.{packed, numbersIn, total, putAll, Fit}
 use Rattle.logodwen.proofs.Runs.{length-digits, value-digits}
 

@@ -1,14 +1,14 @@
 -- The laws of words in runs of bytes, once for every word size k: words stored and read again are the words, bytes read and stored
 -- again are the bytes; and one turn of a loop that loads or stores. Assumes nothing.
-use Prim.Native.Nat.{ℕ, min, zero, suc, _+_, _*_, _/_, _%_, _^_, _≤_, _<_}
+use Prim.Native.Nat.{ℕ, zero, suc, _+_, _*_, _/_, _%_, _^_, _≤_, _<_}
 use native.Mathlib.Omega.{arith}
-use native.Mathlib.Nat.{suc-mul, mul-le-mul-right, mul-div-cancel, zero-add, suc-add, min-zero, zero-min, suc-min-suc}
+use native.Mathlib.Nat.{suc-mul, mul-le-mul-right, mul-div-cancel, zero-add, suc-add}
 use native.Mathlib.Numerals.{add-one}
 use mathlib.Core.List.{List, [], _∷_, _++_, append-assoc, append-nil}
 use mathlib.Core.Path.{_≡_, refl, sym, ap, _∙_}
-use lib.ListN.{length, getD, take, drop, set, length-set, length-append, length-drop, take-append-drop, drop-of-length-le}
+use lib.ListN.{length, getD, take, drop, set, length-set, length-append, length-drop, take-append-drop}
 use lib.Seq.{take-at, drop-at, take-add, drop-drop, drop-cons, take-suc, length-take-le, take-length, take-take, take-nil}
-use Rattle.base.specs.Words.{part, laid, Below}
+use Rattle.base.specs.Words.{laid, Below}
 use Rattle.base.proofs.Part.{below-take, below-drop}
 use Rattle.base.proofs.Laid.{length-laid, take-laid, laid-none, laid-cons, laid-two, laid-snoc, laid-laid, laid-whole}
 use Rattle.logodwen.specs.Bytes.{valueOf, digitsOf, numberAt, wordsIn, wordsOf, bytesOf, storeWords, Loaded}

@@ -10,13 +10,14 @@ use Rattle.base.proofs.Pick.{pick-case, and-left, and-right}
 use Rattle.flash.specs.Geometry.{isSector, bySector, sizeOf}
 use Rattle.flash.specs.declared.Erasing.{Erasing}
 use Rattle.group.specs.Slaves.{hasSlave, above}
+use Rattle.group.specs.Tally.{tallyNumber}
 use Rattle.group.specs.declared.Tally.{Tally}
 use Rattle.group.specs.declared.ZeroLength.{ZeroLength}
 use Rattle.node.specs.Valid.{sizeOk, kindOk, portsOk, givenOk, erasingOk, askOk, gatheringOk, pendingOk}
 use Rattle.node.specs.declared.Ask.{Ask}
 use Rattle.node.specs.declared.Given.{Given}
 use Rattle.node.specs.declared.Pending.{Pending}
-use Rattle.logodwen.specs.StateBytes.{tallyNumber, progressOf, waitOf}
+use Rattle.logodwen.specs.StateBytes.{progressOf, waitOf}
 
 -- one of two numbers is at most what both are
 pub one-of : (x a b m : ℕ) → a ≤ m → b ≤ m → (eqb x a || eqb x b) ≡ true → x ≤ m

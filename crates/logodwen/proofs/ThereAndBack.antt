@@ -1,30 +1,30 @@
 -- A state's bytes and back, words and back: the laws of specs/Kept. Assumes nothing.
-use Prim.Native.Nat.{ℕ, suc, _+_, _*_, _/_, _^_, _≤_, _<_}
+use Prim.Native.Nat.{ℕ, _+_, _*_, _/_, _^_, _<_}
 use native.Mathlib.Omega.{arith}
 use native.Mathlib.Nat.{mul-div-cancel, div-mul-le-self}
 use mathlib.Core.Path.{_≡_, refl, sym, ap, _∙_}
-use mathlib.Core.Bool.{Bool, true, false, _&&_}
-use mathlib.Core.List.{List, [], _∷_, _++_, append-assoc, append-nil}
+use mathlib.Core.Bool.{true, _&&_}
+use mathlib.Core.List.{List, [], _++_, append-assoc, append-nil}
 use lib.ListN.{length, getD, drop, length-append}
 use lib.Seq.{drop-at}
 use lib.Dec.{eqb}
 use borrow.Author.Tests.{eq-eqb, ne-eqb, leb-true}
 use Rattle.base.specs.Words.{Below}
 use Rattle.base.proofs.Pick.{no, and-left, and-right}
-use Rattle.flash.specs.Geometry.{isSector, sizeOf}
+use Rattle.flash.specs.Geometry.{isSector}
 use Rattle.flash.specs.Status.{progress}
 use Rattle.flash.specs.declared.Erasing.{Erasing}
+use Rattle.group.specs.Tally.{tallyNumber}
 use Rattle.group.specs.declared.Tally.{Tally}
 use Rattle.group.specs.declared.ZeroLength.{ZeroLength}
 use Rattle.node.specs.State.{node, counts}
 use Rattle.node.specs.Valid.{stateOk, erasingOk}
-use Rattle.node.specs.declared.Gathering.{Gathering}
 use Rattle.node.specs.declared.Node.{Node}
 use Rattle.node.specs.declared.Pending.{Pending}
 use Rattle.node.proofs.Ranges.{and-both, ranges-tell, mask-below}
-use Rattle.logodwen.specs.Bytes.{numberAt, wordsIn, wordsOf, bytesOf}
+use Rattle.logodwen.specs.Bytes.{wordsIn, wordsOf, bytesOf}
 use Rattle.logodwen.specs.Places.{packed, numbersIn, Fit}
-use Rattle.logodwen.specs.StateBytes.{tallyNumber, tallyOf, progressOf, erasingOf, wait, waitOf, pendingOf, sizes, numbersOf, encodeOf, nodeIn, alike, areState}
+use Rattle.logodwen.specs.StateBytes.{tallyOf, progressOf, erasingOf, wait, waitOf, pendingOf, sizes, numbersOf, encodeOf, nodeIn, alike, areState}
 use Rattle.logodwen.specs.Kept.{Typed, DecodedEncoded, EncodedDecoded, WordsBack, BytesBack}
 use Rattle.logodwen.proofs.Runs.{length-bytes, words-bytes, store-words}
 use Rattle.logodwen.proofs.Alike.{alike-tells, alike-same}

@@ -1,7 +1,7 @@
 -- What a host may rely on that keeps a node as bytes: the bytes of a state stand for that state, and bytes that pass refusal 5 are the
 -- bytes of the state they stand for. So it is with words: stored and read again they are the words, read and stored back they change
 -- nothing. 01 'Covered'. Assumes nothing.
-use Prim.Native.Nat.{ℕ, _*_, _^_, _≤_, _<_}
+use Prim.Native.Nat.{ℕ, _^_, _<_}
 use mathlib.Core.Path.{_≡_}
 use mathlib.Core.Bool.{true}
 use mathlib.Core.List.{List}
@@ -9,7 +9,7 @@ use lib.ListN.{length}
 use Rattle.base.specs.Words.{Below}
 use Rattle.node.specs.Valid.{stateOk}
 use Rattle.node.specs.declared.Node.{Node}
-use Rattle.logodwen.specs.Bytes.{wordsIn, wordsOf, bytesOf, storeWords}
+use Rattle.logodwen.specs.Bytes.{wordsOf, bytesOf, storeWords}
 use Rattle.logodwen.specs.StateBytes.{waitOf, encodeOf, nodeIn, areState}
 
 -- The sizes that the state's numbers and lists have by their types.

@@ -5,3 +5,4 @@ pub mod Number
 pub mod Causes
 pub mod Entry
 pub mod Kept
+pub mod Apart

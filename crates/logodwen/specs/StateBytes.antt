@@ -9,8 +9,8 @@ use Rattle.base.specs.Pick.{pick}
 use Rattle.flash.specs.Status.{progress}
 use Rattle.flash.specs.declared.Erasing.{Erasing}
 use Rattle.flash.specs.declared.Progress.{Progress}
-use Rattle.group.specs.Kind.{zeroCode}
 use Rattle.group.specs.Fragment.{built}
+use Rattle.group.specs.Tally.{tallyNumber}
 use Rattle.group.specs.declared.Tally.{Tally}
 use Rattle.group.specs.declared.ZeroLength.{ZeroLength}
 use Rattle.node.specs.State.{node, counts}
@@ -24,13 +24,7 @@ use Rattle.logodwen.specs.Bytes.{numberAt, wordsIn, bytesOf}
 use Rattle.logodwen.specs.Places.{packed}
 use Rattle.logodwen.specs.declared.Wait.{Wait}
 
--- A tally's number: 0 none yet, 1 all NEXT, 2 all ABORT, 3 all ERROR, 4 all END, 5 all code 0 with DAT, 6 mixed.
-abbrev pub tallyNumber : Tally → ℕ
-tallyNumber Tally.Nothing = 0
-tallyNumber (Tally.Zero z) = zeroCode z
-tallyNumber Tally.Whole = 5
-tallyNumber Tally.Mixed = 6
-
+-- The tally of a number: 0 none yet, 1 all NEXT, 2 all ABORT, 3 all ERROR, 4 all END, 5 all code 0 with DAT, 6 mixed.
 abbrev pub tallyOf : ℕ → Tally
 tallyOf x =
     pick (eqb x 0) Tally.Nothing

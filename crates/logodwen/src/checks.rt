@@ -1,29 +1,12 @@
 // When an entry is refused: by numbers, lengths and the state bytes alone.
 ghost use mathlib.Core.Path.{_≡_};
-ghost use Rattle.node.specs.State.{refusalNumber};
 ghost use Rattle.logodwen.specs.Causes.{keptOk, linkOk, requestCheck, replyCheck, pollCheck, eraseCheck};
 use crate::codec::is_state;
 use crate::codec::node_in;
 use crate::words::byte;
 use crate::words::word32;
-use node::Node;
 use node::Refusal;
 use node::Verdict;
-
-// The paper's number of a refusal.
-pub fn refusal_number(refusal: Refusal) -> u32
-    ensures { λ r. ⌜ r ≡ refusalNumber refusal ⌝ }
-{
-    match refusal {
-        Refusal::FlashSize => 1,
-        Refusal::ReplySize => 2,
-        Refusal::MemorySize => 3,
-        Refusal::Number => 4,
-        Refusal::State => 5,
-        Refusal::Busy => 6,
-        Refusal::Unasked => 7,
-    }
-}
 
 fn kept_ok(state: &[u8], flash: usize) -> bool
     ensures { λ r. ⌜ r ≡ keptOk (now (state .entry)) flash ⌝ }

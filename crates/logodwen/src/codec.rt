@@ -4,7 +4,7 @@ ghost use lib.ListN.{length, drop};
 ghost use Rattle.logodwen.specs.Bytes.{wordsIn};
 ghost use Rattle.logodwen.specs.Places.{putAll, packed};
 ghost use Rattle.base.specs.Words.{laid};
-ghost use Rattle.logodwen.specs.StateBytes.{tallyNumber, tallyOf, progressOf, erasingOf, waitOf, pendingOf, firstSizes, firstNumbers, middleSizes, middleNumbers, lastSizes, lastNumbers, sizes, numbersOf, encodeOf, givenIn, progressIn, waitIn, nodeIn, alike, areState};
+ghost use Rattle.logodwen.specs.StateBytes.{tallyOf, progressOf, erasingOf, waitOf, pendingOf, firstSizes, firstNumbers, middleSizes, middleNumbers, lastSizes, lastNumbers, sizes, numbersOf, encodeOf, givenIn, progressIn, waitIn, nodeIn, alike, areState};
 use crate::Wait;
 use crate::words::byte;
 use crate::words::load16;
@@ -21,28 +21,13 @@ use flash::Progress;
 use group::Built;
 use group::Tally;
 use group::ZeroLength;
+use group::judge::tally_number;
 use node::Ask;
 use node::Counts;
 use node::Gathering;
 use node::Given;
 use node::Node;
 use node::Pending;
-
-fn tally_number(tally: Tally) -> u16
-    ensures { λ r. ⌜ r ≡ tallyNumber tally ⌝ }
-{
-    match tally {
-        Tally::Nothing => 0,
-        Tally::Zero(zero) => match zero {
-            ZeroLength::Next => 1,
-            ZeroLength::Abort => 2,
-            ZeroLength::Error => 3,
-            ZeroLength::End => 4,
-        },
-        Tally::Whole => 5,
-        Tally::Mixed => 6,
-    }
-}
 
 fn tally_of(x: u16) -> Tally
     ensures { λ r. ⌜ r ≡ tallyOf x ⌝ }

@@ -15,12 +15,12 @@ use crate::calls::on_request;
 use crate::calls::on_start;
 use crate::checks::erase_check;
 use crate::checks::poll_check;
-use crate::checks::refusal_number;
 use crate::checks::reply_check;
 use crate::checks::request_check;
 use crate::codec::encode;
 use crate::codec::node_in;
 use node::Verdict;
+use node::refusals::refusal_number;
 
 mod calls;
 mod checks;

@@ -1,0 +1,140 @@
+/* The program behind host/audit: each image is written into a node's flash by File Write, read back by File Read, and compared word by
+   word with the file that was signed. main.c has the order of things; the other files have one subject each. Words are two bytes, the
+   low byte first, and count from 0, the file's header. */
+#ifndef AUDIT_H
+#define AUDIT_H
+
+#include "logodwen.h"
+
+#include <stdbool.h>
+#include <stdio.h>
+
+enum { TEXT = 5000 }; /* bytes of a detail or a message, at most: a path can have 4,096 */
+
+/* What a bench flash holds, for people. */
+#define FLASH_HOLDS "a bench flash holds eight files, one of at most 2,048 and seven of at most 4,096 words"
+
+/* Options (options.c). */
+
+enum reading { BY_CONTENT, AS_HEX, AS_RAW };
+
+/* Something to erase: a file by its name, or a sector by its number. */
+struct erasure {
+    bool is_sector;
+    unsigned which;
+};
+
+struct options {
+    bool together, keep, summary, quiet;
+    enum reading reading;
+    const char *flash;   /* the flash file, or NULL */
+    const char *archive; /* what is said of the archive at the top */
+    struct erasure *erasures;
+    size_t erasure_count;
+    char **paths; /* images and folders, as they were given */
+    size_t path_count;
+};
+
+/* Takes the command line apart, or says in `why` what is wrong with it. */
+bool options_read(int count, char **arguments, struct options *options, char *why);
+
+/* Which images (paths.c). */
+
+struct paths {
+    char **at;
+    size_t count;
+};
+
+/* Adds an image, or every file in a folder by order of name. False where a folder has none or can't be read. */
+bool paths_add(struct paths *paths, const char *path, char *why);
+
+/* Reading an image (image.c). */
+
+enum { IMAGE_BYTES = 1048576 }; /* a longer file is not read on */
+
+struct image {
+    uint8_t bytes[IMAGE_BYTES + 1];
+    size_t words;
+    bool is_too_long;
+};
+
+/* The words of a file, raw or in hex; or why it can't be read. */
+bool image_read(const char *path, enum reading reading, struct image *image, char *why);
+
+/* The rules for a file (rules.c). */
+
+/* The length of the valid file that begins some words; 0 where there is none, with the rule that is broken, and at which word. */
+size_t rules_file_length(const uint8_t *words, size_t count, char *why);
+
+/* Whether the words are a valid file and no word more. */
+bool rules_is_file(const uint8_t *words, size_t count, char *why);
+
+/* Whether a word can begin a file: type 00 or 01, 1 to 14 segments. */
+bool rules_may_begin(unsigned header);
+
+static inline unsigned name_of(unsigned header) { return header >> 4 & 0xFFu; }
+
+/* The node and its flash (node.c). */
+
+enum { SECTOR_FIRST = 3, SECTOR_LAST = 10, SECTORS = 8 };
+
+struct node {
+    uint8_t state[LOGODWEN_STATE_BYTES], flash[LOGODWEN_FLASH_BYTES], reply[LOGODWEN_REPLY_BYTES];
+};
+
+/* What the directory says of a sector. */
+struct entry {
+    unsigned first, status;
+};
+
+void node_blank(struct node *node);
+uint32_t node_start(struct node *node);
+uint64_t node_write(struct node *node, const uint8_t *words, size_t count);
+uint64_t node_read(struct node *node, unsigned name);
+uint64_t node_erase(struct node *node, struct erasure erasure);
+uint32_t node_erase_on(struct node *node); /* goes on to the end; how many words were set */
+bool node_directory(struct node *node, struct entry *directory);
+void node_answer_text(uint64_t answered, char *text);
+
+bool entry_is_empty(struct entry entry);
+bool entry_is_bad(struct entry entry);
+bool entry_is_erasing(struct entry entry);
+size_t sector_words(unsigned sector);
+const uint8_t *sector_begin(const struct node *node, unsigned sector);
+unsigned directory_named(const struct entry *directory, unsigned name); /* the lowest sector with that name, or 0 */
+unsigned directory_place(const struct entry *directory, size_t words);  /* the lowest empty sector with room, or 0 */
+
+/* The verdict on an image (verdict.c). */
+
+enum verdict { AGREES, DIFFERS, INVALID, TOO_LARGE, NAME_USED, NO_ROOM, UNREADABLE, DISPUTED, VERDICTS };
+
+struct finding {
+    enum verdict verdict;
+    bool has_words; /* whether the words could be read */
+    size_t words;
+    unsigned header, fcs; /* of the words; the header is 0 where there are none */
+    unsigned sector;      /* 0 where the directory has no such file */
+    char detail[TEXT];
+};
+
+void verdict_on_image(struct node *node, const struct image *image, struct finding *finding);
+
+/* The flash file (flash_file.c). */
+
+bool flash_file_read(const char *path, bool may_be_new, struct node *node, bool *is_new, char *why);
+bool flash_file_write(const char *path, const struct node *node, char *why);
+
+/* What is printed (report.c). */
+
+/* A text in a room of TEXT bytes; answers false, so that what fails can say why in one line. */
+bool say(char *room, const char *form, ...);
+
+void report_head(const struct options *options);
+void report_columns(void);
+void report_finding(const char *path, const struct finding *finding);
+bool report_directory(struct node *node, char *why);
+void report_totals(const size_t *totals);
+void report_progress(size_t done, size_t of);
+void report_progress_end(void);
+
+#endif

@@ -1,0 +1,158 @@
+/* The audit: the options, the flash, what is to be erased, the images one after the other, the directory, the flash kept. */
+#include "audit.h"
+
+enum { ALL_AGREE = 0, SOME_DIFFER = 1, NOT_READ = 2, NOT_TRUSTED = 3 }; /* the exit status: the highest that holds */
+
+/* An audit as it goes on. */
+struct audit {
+    struct options options;
+    struct paths paths;
+    struct node node;
+    size_t totals[VERDICTS];
+    int status;
+    char why[TEXT];
+};
+
+static void ends_with(struct audit *audit, int status) {
+    if (audit->status < status)
+        audit->status = status;
+}
+
+/* Says on standard error what is wrong, and ends with a status. */
+static void complain(struct audit *audit, int status) {
+    report_progress_end();
+    fflush(stdout);
+    fprintf(stderr, "audit: %s\n", audit->why);
+    ends_with(audit, status);
+}
+
+static bool is_started(struct audit *audit) {
+    uint32_t refusal = node_start(&audit->node);
+    if (refusal == LOGODWEN_DONE)
+        return true;
+    say(audit->why, "the node did not start, refusal %s", logodwen_refusal_text(refusal));
+    complain(audit, NOT_TRUSTED);
+    return false;
+}
+
+static bool is_flash_there(struct audit *audit) {
+    const char *path = audit->options.flash;
+    bool is_new = false;
+    if (path == NULL) {
+        node_blank(&audit->node);
+    } else if (!flash_file_read(path, audit->options.keep, &audit->node, &is_new, audit->why)) {
+        complain(audit, NOT_READ);
+        return false;
+    }
+    if (is_new && !audit->options.quiet)
+        printf("# flash: %s isn't there yet, and begins blank\n", path);
+    return is_started(audit);
+}
+
+/* The sector that is to be erased, 0 where no file has the name. */
+static unsigned sector_to_erase(struct node *node, struct erasure erasure) {
+    struct entry directory[SECTORS];
+    if (erasure.is_sector)
+        return erasure.which;
+    return node_directory(node, directory) ? directory_named(directory, erasure.which) : 0;
+}
+
+static bool is_empty_now(struct node *node, unsigned sector) {
+    struct entry directory[SECTORS];
+    return sector != 0 && node_directory(node, directory) && entry_is_empty(directory[sector - SECTOR_FIRST]);
+}
+
+static void erase(struct audit *audit, struct erasure erasure) {
+    unsigned sector = sector_to_erase(&audit->node, erasure);
+    uint64_t answered = node_erase(&audit->node, erasure);
+    if (sector == 0 && logodwen_answer(answered) == LOGODWEN_REPLY && logodwen_bc(answered) == LOGODWEN_BC_ABORT) {
+        say(audit->why, "--erase %02X: no file has this name; --summary shows the names", erasure.which);
+        complain(audit, SOME_DIFFER);
+        return;
+    }
+    unsigned set = node_erase_on(&audit->node);
+    if (is_empty_now(&audit->node, sector) && set == sector_words(sector)) {
+        printf("# erased: sector %u, %u words\n", sector, set);
+        return;
+    }
+    say(audit->why, "DISPUTED: sector %u should be erased and empty, but is not; words set: %u", sector, set);
+    complain(audit, NOT_TRUSTED);
+}
+
+static void count(struct audit *audit, const char *path, const struct finding *finding) {
+    report_progress_end();
+    report_finding(path, finding);
+    audit->totals[finding->verdict]++;
+    ends_with(audit, finding->verdict == AGREES ? ALL_AGREE : finding->verdict == UNREADABLE ? NOT_READ : SOME_DIFFER);
+    if (finding->verdict == DISPUTED) {
+        say(audit->why, "%s: DISPUTED: the node and this program disagree, so one has a fault; please report it with the image", path);
+        complain(audit, NOT_TRUSTED);
+    }
+}
+
+static void audit_image(struct audit *audit, const char *path) {
+    static struct image image;
+    struct finding finding = {.verdict = UNREADABLE};
+    if (!audit->options.together) {
+        node_blank(&audit->node);
+        if (!is_started(audit))
+            return;
+    }
+    if (image_read(path, audit->options.reading, &image, finding.detail))
+        verdict_on_image(&audit->node, &image, &finding);
+    count(audit, path, &finding);
+}
+
+static void keep(struct audit *audit) {
+    if (audit->status == NOT_TRUSTED || audit->totals[DIFFERS] != 0) {
+        say(audit->why, "%s is not written back, since the node did not do as it should", audit->options.flash);
+        complain(audit, SOME_DIFFER);
+    } else if (!flash_file_write(audit->options.flash, &audit->node, audit->why)) {
+        complain(audit, NOT_READ);
+    }
+}
+
+static void audit_images(struct audit *audit) {
+    for (size_t i = 0; i < audit->options.path_count; i++)
+        if (!paths_add(&audit->paths, audit->options.paths[i], audit->why))
+            complain(audit, NOT_READ);
+    if (!audit->options.quiet)
+        report_columns();
+    for (size_t i = 0; i < audit->paths.count; i++) {
+        report_progress(i, audit->paths.count);
+        audit_image(audit, audit->paths.at[i]);
+    }
+    report_totals(audit->totals);
+}
+
+static void run(struct audit *audit) {
+    const struct options *options = &audit->options;
+    if (!options->quiet)
+        report_head(options);
+    if (!is_flash_there(audit))
+        return;
+    for (size_t i = 0; i < options->erasure_count; i++)
+        erase(audit, options->erasures[i]);
+    if (options->path_count > 0)
+        audit_images(audit);
+    if (options->summary && !report_directory(&audit->node, audit->why))
+        complain(audit, NOT_TRUSTED);
+    if (options->keep)
+        keep(audit);
+}
+
+int main(int count, char **arguments) {
+    static struct audit audit;
+    if (!options_read(count - 1, arguments + 1, &audit.options, audit.why)) {
+        complain(&audit, NOT_READ);
+        fprintf(stderr, "usage: host/audit [OPTION..] IMAGE..    as in: host/audit examples/images\n"
+                        "host/audit --help tells the options, the verdicts and the exit status\n");
+        return NOT_READ;
+    }
+    run(&audit);
+    if (fflush(stdout) != 0 || ferror(stdout)) {
+        say(audit.why, "the report can't be written");
+        complain(&audit, NOT_READ);
+    }
+    return audit.status;
+}

@@ -1,0 +1,122 @@
+/* The verdict on an image. The node's answers decide. Beside them stands a forecast, worked out here from 01, that knows why an image is
+   refused; where the two disagree the verdict is DISPUTED, since then the node or this program has a fault. */
+#include "audit.h"
+
+/* What File Write answers by the rules, and the verdict that goes with it. */
+struct forecast {
+    enum verdict verdict;
+    unsigned bc;     /* of the reply */
+    unsigned sector; /* where the file goes, if it does */
+    char why[TEXT];
+};
+
+static struct forecast refused(enum verdict verdict, unsigned bc) { return (struct forecast){.verdict = verdict, .bc = bc}; }
+
+/* The answer to a valid file: its name must be unused, and an empty sector have room. A file that no sector has room for is told apart
+   from one that other files leave no room for. */
+static struct forecast foretell_valid(const struct entry *directory, const struct image *image) {
+    unsigned name = name_of(logodwen_get(image->bytes, 0)), holder = directory_named(directory, name);
+    unsigned place = directory_place(directory, image->words);
+    struct forecast forecast = {.verdict = AGREES, .bc = LOGODWEN_BC_END, .sector = place};
+    if (image->words > LOGODWEN_FILE_WORDS) {
+        forecast = refused(TOO_LARGE, LOGODWEN_BC_ABORT);
+        say(forecast.why, "%zu words; " FLASH_HOLDS, image->words);
+    } else if (holder != 0) {
+        forecast = refused(NAME_USED, LOGODWEN_BC_ABORT);
+        say(forecast.why, "sector %u has this name; erase it first (--erase %02X), or audit this image alone", holder, name);
+    } else if (place == 0) {
+        forecast = refused(NO_ROOM, LOGODWEN_BC_ABORT);
+        say(forecast.why, "no empty sector has room for %zu words; erase a file first (--erase NAME), or audit this image alone",
+            image->words);
+    }
+    return forecast;
+}
+
+/* The answer to any image: a request that is too long is an ERROR, and a file must be valid and exact. */
+static struct forecast foretell(const struct entry *directory, const struct image *image) {
+    struct forecast forecast = refused(TOO_LARGE, LOGODWEN_BC_ERROR);
+    if (image->words + 1 > LOGODWEN_REQUEST_WORDS) {
+        say(forecast.why, "%zu words; a request has at most 8,192, so File Write takes at most 8,191; " FLASH_HOLDS, image->words);
+        return forecast;
+    }
+    forecast = refused(INVALID, LOGODWEN_BC_ABORT);
+    return rules_is_file(image->bytes, image->words, forecast.why) ? foretell_valid(directory, image) : forecast;
+}
+
+/* Whether as many words were read as were signed; if not, the first place that only one of the two has. */
+static bool are_as_long(const struct image *image, const uint8_t *read, size_t count, char *detail) {
+    size_t all = image->words;
+    if (count < all)
+        return say(detail, "word %zu: signed %04X, read nothing; words read: %zu", count, logodwen_get(image->bytes, count), count);
+    return count == all || say(detail, "word %zu: signed nothing, read %04X; words read: %zu", all, logodwen_get(read, all), count);
+}
+
+/* The reply to File Read against the image: the file's words, then reply status and the reply's FCS. */
+static bool is_same(const struct image *image, const uint8_t *reply, size_t count, char *detail) {
+    for (size_t i = 0; i < image->words && i < count; i++)
+        if (logodwen_get(image->bytes, i) != logodwen_get(reply, i))
+            return say(detail, "word %zu: signed %04X, read %04X", i, logodwen_get(image->bytes, i), logodwen_get(reply, i));
+    if (!are_as_long(image, reply, count, detail))
+        return false;
+    unsigned said = logodwen_get(reply, count + 1), is = logodwen_fcs(reply, count + 1);
+    return said == is || say(detail, "the words agree, but the reply has the FCS %04X and should have %04X", said, is);
+}
+
+static bool is_read_back(struct node *node, const struct image *image, char *detail) {
+    unsigned header = logodwen_get(image->bytes, 0);
+    uint64_t answered = node_read(node, name_of(header));
+    if (logodwen_answer(answered) == LOGODWEN_REPLY && logodwen_words(answered) >= 2)
+        return is_same(image, node->reply, logodwen_words(answered) - 2, detail);
+    char text[TEXT];
+    node_answer_text(answered, text);
+    return say(detail, "word 0: signed %04X, read nothing; File Read was answered %s", header, text);
+}
+
+/* After a File Write that was answered END: where the directory has the file, and whether it is read back as it was signed. */
+static enum verdict read_back(struct node *node, const struct image *image, unsigned place, struct finding *finding) {
+    struct entry directory[SECTORS];
+    if (node_directory(node, directory))
+        finding->sector = directory_named(directory, name_of(finding->header));
+    if (!is_read_back(node, image, finding->detail))
+        return DIFFERS;
+    if (finding->sector == place)
+        return AGREES;
+    say(finding->detail, "the words agree, but by the rules the file is in sector %u, and the directory has it in %u (0: in none)", place,
+        finding->sector);
+    return DISPUTED;
+}
+
+static enum verdict write_and_read_back(struct node *node, const struct image *image, struct finding *finding) {
+    static const char *const bare[4] = {"NEXT", "ERROR", "ABORT", "END"}; /* replies of no words, by BC */
+    struct entry directory[SECTORS];
+    if (!node_directory(node, directory)) {
+        say(finding->detail, "Flash Summary was not answered with a directory");
+        return DISPUTED;
+    }
+    struct forecast forecast = foretell(directory, image);
+    char answer[TEXT];
+    uint64_t answered = node_write(node, image->bytes, image->words);
+    node_answer_text(answered, answer);
+    if (logodwen_answer(answered) != LOGODWEN_REPLY || logodwen_words(answered) != 0 || logodwen_bc(answered) != forecast.bc) {
+        say(finding->detail, "File Write was answered %s; by the rules it is %s; %s", answer, bare[forecast.bc],
+            forecast.verdict == AGREES ? "the image is valid and has room" : forecast.why);
+        return DISPUTED;
+    }
+    if (forecast.verdict == AGREES)
+        return read_back(node, image, forecast.sector, finding);
+    say(finding->detail, "%s", forecast.why);
+    return forecast.verdict;
+}
+
+void verdict_on_image(struct node *node, const struct image *image, struct finding *finding) {
+    *finding = (struct finding){.verdict = TOO_LARGE};
+    if (image->is_too_long) {
+        say(finding->detail, "more than 1,048,576 bytes, not read on; " FLASH_HOLDS);
+        return;
+    }
+    finding->has_words = true;
+    finding->words = image->words;
+    finding->header = image->words > 0 ? logodwen_get(image->bytes, 0) : 0;
+    finding->fcs = logodwen_fcs(image->bytes, image->words);
+    finding->verdict = write_and_read_back(node, image, finding);
+}

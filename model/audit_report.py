@@ -1,0 +1,207 @@
+"""What host/audit must print of an image, worked out by the model: how its bytes are read, which rule of 01 'Files and memories' it
+breaks, and what the node answers to it. The words of the report are those that host/audit --help tells."""
+
+import re
+
+from files import BYTES, MEMORIES, PAGES, PM, file_length, may_start, name_of, permitted, unpacked
+from flash import BAD, EMPTY, GOOD, SECTORS, address_of, afresh, kept, named, words_in
+from group import ABORT, AREA, END, ERROR
+from node import CDP, Lent, erase, request, start
+from runs import check_sequence
+
+HOLDS = "a bench flash holds eight files, one of at most 2,048 and seven of at most 4,096 words"
+LENGTHS = {"PM": "an even length, 2 or more", "DM": "a length of 2 or more", "IO": "an odd length, 3 or more"}
+LONGEST = 1 << 20  # bytes that are read
+AGREES = "AGREES"
+
+
+class Unreadable(Exception):
+    """Bytes that are no words."""
+
+
+# Reading.
+
+
+def is_text(data):
+    return re.fullmatch(rb"[\x20-\x7E\t\n\v\f\r]+", data) is not None
+
+
+def raw_words(data):
+    if len(data) % 2:
+        raise Unreadable("%d bytes; a raw word has two, so one is missing or left over" % len(data))
+    return [low | high << 8 for low, high in zip(data[::2], data[1::2])]
+
+
+def hex_words(data):
+    words = []
+    for number, line in enumerate(data.decode("ascii").split("\n"), 1):
+        for word in line.split("#")[0].split():
+            if not re.fullmatch("[0-9A-Fa-f]{4}", word):
+                shown = word if len(word) <= 12 else word[:12] + ".."
+                raise Unreadable("line %d: '%s' is no word of four hex digits; for raw words give --raw" % (number, shown))
+            words.append(int(word, 16))
+    return words
+
+
+def words_of(data):
+    """The words of an image."""
+    if not is_text(data):
+        return raw_words(data)
+    words = hex_words(data)
+    if len(data) % 2 == 0 and broken_rule(raw_words(data)) is None:
+        raise Unreadable("a valid file as raw words, and hex text too; say which by --raw or --hex")
+    return words
+
+
+# The rules.
+
+
+def segment_rule(words, at, which):
+    """The rule that the segment at a place breaks, or None; and the place past it."""
+    missing = at + 2 - len(words)
+    if missing > 0:
+        return "word %d: the image ends in %s; header words missing: %d" % (len(words), which, missing), None
+    memory, length, page = MEMORIES[words[at] >> 14], words[at] & 0x3FFF, words[at + 1] >> 14
+    if not permitted(memory, length):
+        return "word %d: %s is %s of length %d; %s has %s" % (at, which, memory, length, memory, LENGTHS[memory]), None
+    if memory in (PM, "DM") and page not in PAGES:
+        return "word %d: %s is %s with page 01; a page is 00, 10 or 11" % (at + 1, which, memory), None
+    past = at + 2 + length * BYTES[memory] // 2
+    if past > len(words):
+        return "word %d: the image ends in %s; body words missing: %d" % (len(words), which, past - len(words)), None
+    body = words[at + 2:past]
+    last = unpacked(memory, body, length)[-1]
+    if last >> 16:
+        return "word %d: %s has the byte %02X before its FCS; PM has a zero byte there" % (past - 2, which, last >> 16), None
+    if last != check_sequence(body[:-1]):
+        return "word %d: %s has the FCS %04X; its body's is %04X" % (past - 1, which, last, check_sequence(body[:-1])), None
+    return None, past
+
+
+def broken_rule(words):
+    """The first rule that keeps words from being a valid file and no word more, or None."""
+    rule = first_broken(words)
+    assert (rule is None) == (file_length(words) == len(words)), words[:20]
+    return rule
+
+
+def first_broken(words):
+    if not words:
+        return "word 0: there are no words; a file begins with a header word"
+    kind, count = words[0] >> 14, words[0] & 15
+    if kind > 1:
+        return "word 0: header %04X has type %s; a file has type 00 (program) or 01 (data)" % (words[0], format(kind, "02b"))
+    if not may_start(words[0]):
+        return "word 0: header %04X has %d segments; a file has 1 to 14" % (words[0], count)
+    at = 1
+    for number in range(1, count + 1):
+        rule, at = segment_rule(words, at, "segment %d of %d" % (number, count))
+        if rule:
+            return rule
+    if at < len(words):
+        return "word %d: the file ended with segment %d of %d; words left over: %d" % (at, count, count, len(words) - at)
+    return None
+
+
+# The node.
+
+
+class Bench:
+    """A node on a flash, as host/audit has it."""
+
+    def __init__(self, flash=None):
+        self.lent = Lent(flash or [0xFFFF] * 32768, {"PM": [], "DM": [], "IO": []}, [0] * AREA)
+        self.node, answer = start(CDP, 1, 0, 0, 0, 0, 0, self.lent.flash)
+        assert answer == ("started",)
+
+    def command(self, number, *parameters):
+        self.node, answer = request(self.node, self.lent, 0, 0, 3, 0, [number << 8 | 0x2E, *parameters])
+        assert answer[0] == "reply"
+        return answer[1:]
+
+    def refusal(self, words):
+        """Why a valid file was refused."""
+        holder = named(list(self.node.directory), name_of(words[0]))
+        if len(words) > 4096:
+            return "TOO-LARGE", "%d words; %s" % (len(words), HOLDS)
+        if holder is not None:
+            erasing = "erase it first (--erase %02X), or audit this image alone" % name_of(words[0])
+            return "NAME-USED", "sector %d has this name; %s" % (holder, erasing)
+        erasing = "erase a file first (--erase NAME), or audit this image alone"
+        return "NO-ROOM", "no empty sector has room for %d words; %s" % (len(words), erasing)
+
+    def verdict(self, words):
+        """Sector, verdict and detail."""
+        bc, _ = self.command(0x45, *words)
+        if bc == ERROR:
+            limit = "a request has at most 8,192, so File Write takes at most 8,191"
+            return None, "TOO-LARGE", "%d words; %s; %s" % (len(words), limit, HOLDS)
+        if bc == ABORT:
+            rule = broken_rule(words)
+            return (None, "INVALID", rule) if rule else (None, *self.refusal(words))
+        sector = named(list(self.node.directory), name_of(words[0]))
+        assert self.command(0x05, words[0]) == (END, len(words) + 2) and self.lent.reply[:len(words)] == words
+        return sector, AGREES, None
+
+    def line(self, path, data):
+        """The line of an image, with its verdict; data is None where there is no such file."""
+        try:
+            if data is None:
+                raise Unreadable("No such file or directory")
+            if len(data) > LONGEST:
+                return [path, "-", "-", "-", "-", "TOO-LARGE", "more than 1,048,576 bytes, not read on; " + HOLDS]
+            words = words_of(data)
+        except Unreadable as cause:
+            return [path, "-", "-", "-", "-", "UNREADABLE", str(cause)]
+        sector, verdict, detail = self.verdict(words)
+        name = "%02X" % name_of(words[0]) if words else "-"
+        fields = [path, name, str(sector or "-"), str(len(words)), "%04X" % check_sequence(words), verdict]
+        return fields + ([detail] if detail else [])
+
+    def erased(self, sector):
+        """The line of an erasure."""
+        assert self.command(0x47, address_of(sector)) == (END, 0)
+        self.node, (_, count) = erase(self.node, self.lent.flash, 32768)
+        return "# erased: sector %d, %d words\n" % (sector, count)
+
+    def table(self):
+        """The directory."""
+        lines = ["# sector\tname\ttype\tattribute\twords\tstatus\n"]
+        for sector in SECTORS:
+            first = kept(list(self.node.directory), sector)[0]
+            status, length = afresh(self.lent.flash, sector)
+            assert status in (EMPTY, GOOD, BAD) and words_in(self.lent.flash, sector)[0] == first
+            told = ["-", "-", "-"]
+            if may_start(first):
+                told = ["%02X" % name_of(first), ("program", "data")[first >> 14], "default" if first >> 12 & 3 == 2 else "plain"]
+            lines.append("\t".join([str(sector), *told, str(length or "-"), status]) + "\n")
+        return "".join(lines)
+
+
+# Whole reports.
+
+ORDER = ("DIFFERS", "INVALID", "TOO-LARGE", "NAME-USED", "NO-ROOM", "UNREADABLE", "DISPUTED")
+
+
+def total(verdicts):
+    """The last line."""
+    agree = verdicts.count(AGREES)
+    told = "# %d image%s: %d agree%s" % (len(verdicts), "" if len(verdicts) == 1 else "s", agree, "s" if agree == 1 else "")
+    others = ["%d %s" % (verdicts.count(verdict), verdict) for verdict in ORDER if verdict in verdicts]
+    return "; ".join([told] + ([", ".join(others)] if others else []))
+
+
+def lines_and_total(lines):
+    return "".join("\t".join(line) + "\n" for line in lines) + total([line[5] for line in lines]) + "\n"
+
+
+def report(images, bench=None):
+    """On images, each a path and its bytes: on a blank flash each, or all in one."""
+    return lines_and_total([(bench or Bench()).line(path, data) for path, data in images])
+
+
+def each_word_wrong(path, data):
+    """On an image that is audited as often as it has words, each time with the lowest bit of the next one wrong in what is read."""
+    fields, words = Bench().line(path, data), words_of(data)
+    details = ["word %d: signed %04X, read %04X" % (at, word, word ^ 1) for at, word in enumerate(words)]
+    return lines_and_total([fields[:5] + ["DIFFERS", detail] for detail in details])

@@ -1,0 +1,116 @@
+#!/usr/bin/env python3
+"""Scripts for the bench that are too long to keep, made by rule from a fixed seed.
+
+    bench_scripts.py FOLDER    writes FOLDER/NAME.txt, and what the model says of it to FOLDER/NAME.stdout"""
+
+import pathlib
+import random
+import sys
+
+from bench import LONGEST, Bench, printed
+from build import file_of, segment
+from files import DM, PM, sealed
+
+
+def fields(*said):
+    return b"\t".join(item if isinstance(item, bytes) else b"%d" % item for item in said)
+
+
+def words(run):
+    return [b"%04X" % word for word in run]
+
+
+def long_lines():
+    """Long replies and requests, lines as long as they may be and longer, and both ends of line."""
+    data = [word * 40503 % 65536 for word in range(40000)]
+    yield fields(0, 3, b"002A", b"0D2E")  # all slaves: the first has no room left for the others
+    yield fields(b"reply", 0, 3, 0, b"1111", b"2222", *words(sealed(data[:12200])))
+    for slave in range(1, 24):
+        yield fields(b"reply", slave, 3, 0, b"1111", b"2222", *words(sealed(data[:slave])))
+    for length in (12286, 12287, 12288, 12289, 39000):
+        yield fields(0, 3, b"0405", b"0001")
+        yield fields(b"reply", 5, 3, 0, b"0000", b"0000", *words(data[:length])) + b"\r"
+    for length in (7999, 8000, 8001, 8191, 8192):
+        yield fields(0, 3, b"0D2E", *words(data[:length]))
+    for extra in (-1, 0, 1, 2, LONGEST, 2 * LONGEST + 1):
+        yield b"#" * (LONGEST + extra)
+        yield fields(0, 3, b"0C2E")
+    yield fields(0, 3, *words(data[:20000])) + b"\t" * 90000
+    yield fields(0, 3, b"0C2E") + b"\r"
+    for name, run in ((0x10, data[:4000]), (0x11, data[:2000]), (0x12, data[:4094]), (0x13, data[:4089]), (0x14, data[:4090])):
+        yield fields(0, 3, b"452E", *words(file_of([segment(DM, 0x2000, run)], name=name)))
+        yield fields(0, 3, b"052E", b"%04X" % (name << 4 | 1))
+    yield fields(0, 3, b"452E", *words(file_of([segment(PM, 0, data[:99])], name=0x15)))
+    yield fields(0, 3, b"072E")
+
+
+def odd_lines(pick):
+    """Lines of the right shape, most of them what the node waits for, and lines with a byte changed, put in or left out."""
+    bench = Bench()
+    kinds = (
+        lambda: fields(pick.choice((0, 1, 2, 3, 4)), pick.choice((3, 3, 3, 3, 2, 0, 1)), *words(packet(pick))),
+        lambda: fields(b"reply", asked(bench, pick), pick.randrange(4), pick.choice((0, 0, 0, 1)), b"00FF", b"abcd", *words(answer(pick))),
+        lambda: b"poll",
+        lambda: fields(b"erase", pick.choice((0, 1, 100, 1000, 4096, 2**64 - 1, 2**64))),
+        lambda: fields(b"clock", b"%x" % pick.choice((0, 59, 60, 2**32 - 1, pick.randrange(2**32)))),
+        lambda: b"error",
+        lambda: fields(b"#", 1),
+    )
+    for _ in range(4000):
+        weights = (2, 20, 2, 1, 1, 1, 1) if bench.node.pending else (20, 1, 1, 4, 1, 1, 1)
+        line = pick.choices(kinds, weights)[0]()
+        line = spoiled(pick, line) if pick.randrange(5) == 0 else line
+        bench.line(0, line)
+        yield line
+
+
+def asked(bench, pick):
+    """Mostly the slave now being asked."""
+    return bench.node.pending.slave if bench.node.pending and pick.randrange(8) else pick.randrange(25)
+
+
+def spoiled(pick, line):
+    place = pick.randrange(len(line) + 1)
+    put = bytes([pick.choice((9, 32, 45, 48, 51, 58, 64, 71, 96, 103, 13, 0, 255, pick.randrange(1, 256)))]).replace(b"\n", b"\t")
+    return line[:place] + pick.choice((put, put + line[place:], b"")) + line[place + 1:]
+
+
+def packet(pick):
+    name = pick.randrange(4)
+    run = [pick.randrange(65536) for _ in range(pick.choice((1, 2, 30)))]
+    return pick.choice((
+        [0x452E, *file_of([segment(DM, 0x2000, run)], name=name)],
+        [0x052E, name << 4 | 1],
+        [0x462E, name << 4 | 1],
+        [0x472E, name << 4 | 1],
+        [0x482E, name << 4 | 1, pick.randrange(3)],
+        [0x072E],
+        [0x0C2E],
+        [0x112E, 0x4005, 0x2000],
+        [pick.choice((0x040, 0x023, 0x02A)) | pick.randrange(8) << 8, pick.choice((0, 0x80)), 0x0C2E, *run],
+        [pick.randrange(24) | 0x0400, *run],
+        run,
+        [],
+    ))
+
+
+def answer(pick):
+    run = [pick.randrange(65536) for _ in range(pick.randrange(5))]
+    return sealed(run) if run and pick.randrange(4) else run
+
+
+def main(arguments):
+    if len(arguments) != 1:
+        print(__doc__, file=sys.stderr)
+        return 2
+    folder = pathlib.Path(arguments[0])
+    folder.mkdir(parents=True, exist_ok=True)
+    scripts = {"long": b"\n".join(long_lines()), "odd": b"\n".join(odd_lines(random.Random(1))) + b"\n"}
+    for name, script in scripts.items():
+        (folder / (name + ".txt")).write_bytes(script)
+        (folder / (name + ".stdout")).write_text(printed(script))
+    return 0
+
+
+if __name__ == "__main__":
+    sys.exit(main(sys.argv[1:]))
