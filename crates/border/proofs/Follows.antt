@@ -28,7 +28,7 @@ use Rattle.border.proofs.Kept.{erasing-is}
 pub no-erasing : (state : List ℕ) → sectorIn state ≡ 0 → nodeIn state .erasing ≡ Erasing.Nothing
 no-erasing state h = erasing-is state ∙ sym (yes _ (eq-eqb (sectorIn state) 0 h) refl)
 
-pub erasing-sector : (state : List ℕ) (s : ℕ) → erasingSite (nodeIn state .erasing) ≡ Found.At s → sectorIn state ≡ s
+erasing-sector : (state : List ℕ) (s : ℕ) → erasingSite (nodeIn state .erasing) ≡ Found.At s → sectorIn state ≡ s
 erasing-sector state s h = by (eqb (sectorIn state) 0) (ap erasingSite (sym (erasing-is state)) ∙ h)
   where
     by : (t : Bool) → erasingSite (pick t Erasing.Nothing (Erasing.Sector (progressIn state))) ≡ Found.At s → sectorIn state ≡ s

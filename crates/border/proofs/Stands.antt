@@ -100,7 +100,7 @@ made-moves e state flash c s m =
     }
 
 -- every entry hands them on
-pub next-stands : (e : Entry) (state flash : List ℕ) → InC e → Stands state flash
+next-stands : (e : Entry) (state flash : List ℕ) → InC e → Stands state flash
     → Stands (stateAfter entries e state flash) (flashAfter entries e state flash)
 next-stands e state flash c s = by (entry-step e state flash)
   where
