@@ -1,0 +1,3 @@
+pub mod Splitting
+pub mod Digits
+pub mod Examples
