@@ -1,34 +1,32 @@
+-- `lines::kinds::check` meets its contract: by how far the walk came. Assumes nothing.
+use mathlib.Core.Path.{_≡_, sym, ap, subst, _∙_}
+use Prim.Native.Nat.{_≤_}
+use lib.ListN.{length, drop}
+use Rattle.lines.specs.Fields.{fieldsBehind}
+use Rattle.lines.specs.Kinds.{leftOf, Inside}
+use Rattle.lines.specs.Said.{restFits}
+use Rattle.lines.specs.declared.Step.{Step}
 use borrow.Author.Needs.{needs}
 use Rattle.lines.proofs.kinds.check.Statement.{statement}
 use Rattle.lines.proofs.kinds.check.Tie as tie
-use Rattle.lines.proofs.kinds.check.Reads as reads
-use Rattle.lines.proofs.kinds.check.Lts as lts
-use Rattle.lines.proofs.kinds.walk.Reads as walk-reads
-use Rattle.lines.proofs.kinds.walk_rest.Reads as walk-rest-reads
 
--- src/kinds.rt:207:9
 walk-requires : tie.Need-walk-requires
 walk-requires c κs = search needs
 
--- src/kinds.rt:209:19
 enum-known-step : tie.Need-enum-known-step
 enum-known-step c = search needs
 
--- src/kinds.rt:210:18
 enum-known-step-2 : tie.Need-enum-known-step-2
 enum-known-step-2 c = search needs
 
--- src/kinds.rt:210:25
 walk-rest-requires : tie.Need-walk-rest-requires
-walk-rest-requires c κs = ?
+walk-rest-requires c κs = subst (Inside (length (c .before .before .before .before .before .args .line .now))) (c .before .step2 .given .1) (c .before .before .before .walk .ensures .1)
 
--- src/kinds.rt:203:1
 returns : tie.Need-returns
-returns c = ?
+returns c = ap (restFits (c .before .before .before .before .before .args .kind) (c .before .before .before .before .before .args .room)) (sym (ap (leftOf (c .before .before .before .before .before .args .line .now)) (c .before .step .given .1)) ∙ c .before .before .before .walk .ensures .0)
 
--- src/kinds.rt:203:1
 returns-2 : tie.Need-returns-2
-returns-2 c = ?
+returns-2 c = c .walk-rest .ensures ∙ ap (restFits (c .before .before .before .before .before .before .args .kind) (c .before .before .before .before .before .before .args .room)) (sym (ap (leftOf (c .before .before .before .before .before .before .args .line .now)) (c .before .before .step2 .given .1)) ∙ c .before .before .before .before .walk .ensures .0)
 
 pub check-spec : {M : Type 1} → statement M
 check-spec =

@@ -10,13 +10,13 @@ use borrow.Author.Needs.{needs}
 use Rattle.lines.proofs.kinds.reply_shape.Statement.{statement}
 use Rattle.lines.proofs.kinds.reply_shape.Tie as tie
 
-behind : (i : ℕ) → (i ≡ 0 → ⊥) × (i ≡ 1 → ⊥) × (i ≡ 2 → ⊥) → Shape.Word ≡ getD (shapesOf Kind.Reply) i Shape.Word
-behind 0 h = absurd (h .0 refl)
-behind 1 h = absurd (h .1 refl)
-behind 2 h = absurd (h .2 refl)
-behind 3 h = refl
-behind 4 h = refl
-behind (suc (suc (suc (suc (suc i))))) h = refl
+behind : (i : ℕ) → (i ≡ 0 → ⊥) → (i ≡ 1 → ⊥) → (i ≡ 2 → ⊥) → Shape.Word ≡ getD (shapesOf Kind.Reply) i Shape.Word
+behind zero a b d = absurd (a refl)
+behind (suc zero) a b d = absurd (b refl)
+behind (suc (suc zero)) a b d = absurd (d refl)
+behind (suc (suc (suc zero))) a b d = refl
+behind (suc (suc (suc (suc zero)))) a b d = refl
+behind (suc (suc (suc (suc (suc i))))) a b d = refl
 
 returns : tie.Need-returns
 returns c = search needs
@@ -28,7 +28,7 @@ returns-3 : tie.Need-returns-3
 returns-3 c = search needs
 
 returns-4 : tie.Need-returns-4
-returns-4 c = behind (c .before .args .i) (c .match .rest)
+returns-4 c = behind (c .before .args .i) (c .match .rest .0 .0 .1) (c .match .rest .0 .1) (c .match .rest .1)
 
 pub reply-shape-spec : {M : Type 1} → statement M
 reply-shape-spec = tie.close (tie.spec returns returns-2 returns-3 returns-4)

@@ -1,90 +1,82 @@
+-- `lines::kinds::walk` meets its contract. The loop's invariant: the shapes that are left, walked from this place, give what all of them give. The measure is how many
+-- are left. Assumes nothing.
+use mathlib.Core.Path.{_≡_, refl, sym, ap, _∙_}
+use native.Mathlib.Omega.{arith}
+use Prim.Native.Nat.{ℕ, _+_, _-_, _≤_}
+use borrow.Author.Tests.{not-true, not-false}
+use lib.ListN.{length, drop}
+use Rattle.base.proofs.Pick.{yes, no}
+use Rattle.lines.specs.Fields.{fieldsBehind}
+use Rattle.base.specs.Words.{part}
+use Rattle.lines.specs.Numbers.{fits}
+use Rattle.lines.specs.declared.Shape.{Shape}
+use Rattle.lines.specs.Kinds.{Walked, shapesOf, whatOf, wrong, walked}
+use Rattle.lines.specs.declared.What.{What}
+use Rattle.lines.proofs.Splitting.{none-behind}
+use Rattle.lines.proofs.Walking.{walked-missing, walked-turn, walked-end}
+use borrow.Author.Needs.{needs}
 use Rattle.lines.proofs.kinds.walk.Statement.{statement}
 use Rattle.lines.proofs.kinds.walk.Tie as tie
-use Rattle.lines.proofs.kinds.walk.Reads as reads
-use Rattle.lines.proofs.kinds.walk.Lts as lts
-use Rattle.lines.proofs.fields.field_end.Reads as field-end-reads
-use Rattle.lines.proofs.kinds.must_have.Reads as must-have-reads
-use Rattle.lines.proofs.kinds.shape_at.Reads as shape-at-reads
-use Rattle.lines.proofs.kinds.what_of.Reads as what-of-reads
-use Rattle.lines.proofs.numbers.has_shape.Reads as has-shape-reads
 
 abbrev Inv-loop : tie.InvT-loop
-Inv-loop line from kind n at₀ i₀ at i = ?
+Inv-loop line from kind n at₀ i₀ at i = (at ≤ length line) × (n ≡ length (shapesOf kind)) × (n ≤ 5) × (walked 2 (shapesOf kind) (fieldsBehind (drop from line)) ≡ walked (2 + i) (drop i (shapesOf kind)) (fieldsBehind (drop at line)))
 
 abbrev μ-loop : tie.MeasureT-loop
-μ-loop line from kind n at₀ i₀ at i = ?
+μ-loop line from kind n at₀ i₀ at i = n - i
 
--- src/kinds.rt:133:9
 must-have-requires : tie.Need-must-have-requires Inv-loop μ-loop
-must-have-requires c κs = ?
+must-have-requires c κs = search needs
 
--- src/kinds.rt:136:5
 loop-holds : tie.Need-loop-holds Inv-loop μ-loop
-loop-holds c = ?
+loop-holds c = (c .before .before .pre, c .must-have .ensures .0, c .must-have .ensures .1, refl)
 
--- src/kinds.rt:139:24
 add-t11 : tie.Need-add-t11 Inv-loop μ-loop
-add-t11 c = ?
+add-t11 c = search needs
 
--- src/kinds.rt:138:13
 returns : tie.Need-returns Inv-loop μ-loop
-returns c = ?
+returns c = (sym (c .before .before .loop .inv .3 ∙ walked-missing (shapesOf (c .before .before .before .before .before .args .kind)) (c .before .before .loop .i) (omega arith) (none-behind (c .before .before .before .before .before .args .line .now) (c .before .before .loop .at) (omega arith))), tt)
 
--- src/kinds.rt:143:13
 field-end-requires : tie.Need-field-end-requires Inv-loop μ-loop
-field-end-requires c κs = ?
+field-end-requires c κs = search needs
 
--- src/kinds.rt:144:13
 shape-at-requires : tie.Need-shape-at-requires Inv-loop μ-loop
-shape-at-requires c κs = ?
+shape-at-requires c κs = search needs
 
--- src/kinds.rt:145:36
 add-has-shape : tie.Need-add-has-shape Inv-loop μ-loop
-add-has-shape c = ?
+add-has-shape c = search needs
 
--- src/kinds.rt:145:30
 sub-has-shape : tie.Need-sub-has-shape Inv-loop μ-loop
-sub-has-shape c = ?
+sub-has-shape c = search needs
 
--- src/kinds.rt:145:30
 part-has-shape-start : tie.Need-part-has-shape-start Inv-loop μ-loop
-part-has-shape-start c = ?
+part-has-shape-start c = search needs
 
--- src/kinds.rt:145:30
 part-has-shape-end : tie.Need-part-has-shape-end Inv-loop μ-loop
-part-has-shape-end c = ?
+part-has-shape-end c = search needs
 
--- src/kinds.rt:145:13
 has-shape-requires : tie.Need-has-shape-requires Inv-loop μ-loop
-has-shape-requires c κs = ?
+has-shape-requires c κs = search needs
 
--- src/kinds.rt:147:24
 add-t19 : tie.Need-add-t19 Inv-loop μ-loop
-add-t19 c = ?
+add-t19 c = search needs
 
--- src/kinds.rt:148:23
 what-of-requires : tie.Need-what-of-requires Inv-loop μ-loop
-what-of-requires c κs = ?
+what-of-requires c κs = search needs
 
--- src/kinds.rt:146:13
 returns-2 : tie.Need-returns-2 Inv-loop μ-loop
-returns-2 c = ?
+returns-2 c = (ap (λ (w : What). Walked.Bad (wrong (2 + c .before .before .before .before .before .before .before .before .loop .i) w)) (c .what-of .ensures ∙ ap whatOf (c .before .before .before .before .shape-at .ensures)) ∙ sym (c .before .before .before .before .before .before .before .before .loop .inv .3 ∙ walked-turn (shapesOf (c .before .before .before .before .before .before .before .before .before .before .before .args .kind)) (c .before .before .before .before .before .before .before .before .loop .i) (omega arith) (c .before .before .before .before .before .field-end .ensures .splits) ∙ sym (no _ (sym (c .before .before .has-shape .ensures ∙ ap (λ (s : Shape). fits s (part (c .before .before .before .before .before .before .before .before .before .before .before .args .line .now) (c .before .before .before .before .before .before .before .before .loop .at + 1) (c .before .before .before .before .before .field-end .result - (c .before .before .before .before .before .before .before .before .loop .at + 1)))) (c .before .before .before .before .shape-at .ensures)) ∙ not-true _ (c .before .if2 .taken)) refl)), tt)
 
--- src/kinds.rt:152:9
 add-i : tie.Need-add-i Inv-loop μ-loop
-add-i c = ?
+add-i c = search needs
 
--- src/kinds.rt:136:5
 loop-less : tie.Need-loop-less Inv-loop μ-loop
-loop-less c = ?
+loop-less c = search needs
 
--- src/kinds.rt:136:5
 loop-again : tie.Need-loop-again Inv-loop μ-loop
-loop-again c = ?
+loop-again c = (c .before .before .before .before .field-end .ensures .inside, c .before .before .before .before .before .before .before .loop .inv .1, c .before .before .before .before .before .before .before .loop .inv .2, c .before .before .before .before .before .before .before .loop .inv .3 ∙ walked-turn (shapesOf (c .before .before .before .before .before .before .before .before .before .before .args .kind)) (c .before .before .before .before .before .before .before .loop .i) (omega arith) (c .before .before .before .before .field-end .ensures .splits) ∙ sym (yes _ (sym (c .before .has-shape .ensures ∙ ap (λ (s : Shape). fits s (part (c .before .before .before .before .before .before .before .before .before .before .args .line .now) (c .before .before .before .before .before .before .before .loop .at + 1) (c .before .before .before .before .field-end .result - (c .before .before .before .before .before .before .before .loop .at + 1)))) (c .before .before .before .shape-at .ensures)) ∙ not-false _ (c .if2 .left)) refl))
 
--- src/kinds.rt:129:1
 returns-3 : tie.Need-returns-3 Inv-loop μ-loop
-returns-3 c = ?
+returns-3 c = (sym (c .before .loop .inv .3 ∙ walked-end (shapesOf (c .before .before .before .before .args .kind)) (c .before .loop .i) (fieldsBehind (drop (c .before .loop .at) (c .before .before .before .before .args .line .now))) (omega arith)), c .before .loop .inv .0)
 
 pub walk-spec : {M : Type 1} → statement M
 walk-spec =

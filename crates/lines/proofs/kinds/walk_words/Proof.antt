@@ -1,75 +1,77 @@
+-- `lines::kinds::walk_words` meets its contract. The loop's invariant: the words from this place on, with the room that is left, give what all of them give; each had
+-- five bytes with its tab, so that the number of a field fits. The measure is what is left of the line. Assumes nothing.
+use mathlib.Core.List.{List}
+use native.Mathlib.Nat.{add-zero, sub-zero}
+use mathlib.Core.Path.{_≡_, refl, sym, ap, _∙_}
+use native.Mathlib.Omega.{arith}
+use Prim.Native.Nat.{ℕ, _+_, _-_, _*_, _≤_}
+use borrow.Author.Tests.{not-true, not-false}
+use lib.ListN.{length, drop}
+use Rattle.base.proofs.Pick.{yes, no}
+use Rattle.base.specs.Words.{part}
+use Rattle.base.proofs.Part.{length-part}
+use Rattle.lines.specs.Fields.{fieldsBehind}
+use Rattle.lines.specs.Kinds.{wordsFit}
+use Rattle.lines.proofs.Splitting.{none-behind}
+use Rattle.lines.proofs.Digits.{word-length}
+use Rattle.lines.proofs.Walking.{some-behind, words-full, words-turn, words-end}
+use borrow.Author.Needs.{needs}
 use Rattle.lines.proofs.kinds.walk_words.Statement.{statement}
 use Rattle.lines.proofs.kinds.walk_words.Tie as tie
-use Rattle.lines.proofs.kinds.walk_words.Reads as reads
-use Rattle.lines.proofs.kinds.walk_words.Lts as lts
-use Rattle.lines.proofs.fields.field_end.Reads as field-end-reads
-use Rattle.lines.proofs.numbers.has_shape.Reads as has-shape-reads
 
 abbrev Inv-loop : tie.InvT-loop
-Inv-loop line from k room at₀ i₀ at i = ?
+Inv-loop line from k room at₀ i₀ at i = (at ≤ length line) × (i ≤ room) × (5 * i ≤ at) × (wordsFit k room (fieldsBehind (drop from line)) ≡ wordsFit (k + i) (room - i) (fieldsBehind (drop at line)))
 
 abbrev μ-loop : tie.MeasureT-loop
-μ-loop line from k room at₀ i₀ at i = ?
+μ-loop line from k room at₀ i₀ at i = length line - at
 
--- src/kinds.rt:164:5
+start : (k room : ℕ) (fs : List (List ℕ)) → wordsFit k room fs ≡ wordsFit (k + 0) (room - 0) fs
+start k room fs = rw (add-zero k, sub-zero room)
+
 loop-holds : tie.Need-loop-holds Inv-loop μ-loop
-loop-holds c = ?
+loop-holds c = (c .before .pre .0, omega arith, omega arith, start _ _ _)
 
--- src/kinds.rt:167:24
 add-t10 : tie.Need-add-t10 Inv-loop μ-loop
-add-t10 c = ?
+add-t10 c = search needs
 
--- src/kinds.rt:166:13
 returns : tie.Need-returns Inv-loop μ-loop
-returns c = ?
+returns c = sym (c .before .before .loop .inv .3 ∙ words-full (c .before .before .before .before .args .k) (c .before .before .before .before .args .room) (c .before .before .loop .i) (some-behind (c .before .before .before .before .args .line .now) (c .before .before .loop .at) (c .before .loop-test .taken)) (c .if1 .taken))
 
--- src/kinds.rt:171:13
 field-end-requires : tie.Need-field-end-requires Inv-loop μ-loop
-field-end-requires c κs = ?
+field-end-requires c κs = search needs
 
--- src/kinds.rt:172:42
 add-has-shape : tie.Need-add-has-shape Inv-loop μ-loop
-add-has-shape c = ?
+add-has-shape c = search needs
 
--- src/kinds.rt:172:36
 sub-has-shape : tie.Need-sub-has-shape Inv-loop μ-loop
-sub-has-shape c = ?
+sub-has-shape c = search needs
 
--- src/kinds.rt:172:36
 part-has-shape-start : tie.Need-part-has-shape-start Inv-loop μ-loop
-part-has-shape-start c = ?
+part-has-shape-start c = search needs
 
--- src/kinds.rt:172:36
 part-has-shape-end : tie.Need-part-has-shape-end Inv-loop μ-loop
-part-has-shape-end c = ?
+part-has-shape-end c = search needs
 
--- src/kinds.rt:172:13
 has-shape-requires : tie.Need-has-shape-requires Inv-loop μ-loop
-has-shape-requires c κs = ?
+has-shape-requires c κs = search needs
 
--- src/kinds.rt:174:24
 add-t19 : tie.Need-add-t19 Inv-loop μ-loop
-add-t19 c = ?
+add-t19 c = search needs
 
--- src/kinds.rt:173:13
 returns-2 : tie.Need-returns-2 Inv-loop μ-loop
-returns-2 c = ?
+returns-2 c = sym (c .before .before .before .before .before .before .loop .inv .3 ∙ words-turn (c .before .before .before .before .before .before .before .before .args .k) (c .before .before .before .before .before .before .before .before .args .room) (c .before .before .before .before .before .before .loop .i) (c .before .before .before .field-end .ensures .splits) (omega arith) ∙ sym (no _ (sym (c .before .has-shape .ensures) ∙ not-true _ (c .if2 .taken)) refl))
 
--- src/kinds.rt:179:9
 add-i : tie.Need-add-i Inv-loop μ-loop
-add-i c = ?
+add-i c = search needs
 
--- src/kinds.rt:164:5
 loop-less : tie.Need-loop-less Inv-loop μ-loop
-loop-less c = ?
+loop-less c = search needs
 
--- src/kinds.rt:164:5
 loop-again : tie.Need-loop-again Inv-loop μ-loop
-loop-again c = ?
+loop-again c = let line = c .before .before .before .before .before .before .before .before .args .line .now in let at = c .before .before .before .before .before .before .loop .at in let end = c .before .before .before .field-end .result in let ok = sym (c .before .has-shape .ensures) ∙ not-false _ (c .if2 .left) in let f = c .before .before .before .field-end .ensures in let four = sym (length-part line (at + 1) (end - (at + 1)) (omega arith)) ∙ word-length (part line (at + 1) (end - (at + 1))) ok in (f .inside, omega arith, omega arith, c .before .before .before .before .before .before .loop .inv .3 ∙ words-turn (c .before .before .before .before .before .before .before .before .args .k) (c .before .before .before .before .before .before .before .before .args .room) (c .before .before .before .before .before .before .loop .i) (f .splits) (omega arith) ∙ sym (yes _ ok refl))
 
--- src/kinds.rt:158:1
 returns-3 : tie.Need-returns-3 Inv-loop μ-loop
-returns-3 c = ?
+returns-3 c = sym (c .before .loop .inv .3 ∙ words-end (c .before .before .before .args .k + c .before .loop .i) (c .before .before .before .args .room - c .before .loop .i) (none-behind (c .before .before .before .args .line .now) (c .before .loop .at) (c .loop-test .left)))
 
 pub walk-words-spec : {M : Type 1} → statement M
 walk-words-spec =
