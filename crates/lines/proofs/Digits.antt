@@ -98,6 +98,16 @@ worth-limit shape s =
   Within : Value → Type 0
   Within v = worth v ≤ limitOf shape
 
+-- no field is worth nothing
+pub worth-none : (shape : Shape) → worthOf shape [] ≡ 0
+unfolding valueOf
+worth-none Shape.Number32 = refl
+worth-none Shape.Number64 = refl
+worth-none Shape.Bc = refl
+worth-none Shape.Flag = refl
+worth-none Shape.Ticks = refl
+worth-none Shape.Word = refl
+
 -- a word has four digits
 pub word-length : (s : List ℕ) → fits Shape.Word s ≡ true → length s ≡ 4
 unfolding valueOf

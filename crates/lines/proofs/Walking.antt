@@ -14,8 +14,9 @@ use Rattle.base.proofs.Pick.{pick-case}
 use Rattle.lines.specs.Fields.{firstLength, fieldsBehind, fieldsFrom}
 use Rattle.lines.specs.Numbers.{fits, worthOf}
 use Rattle.lines.specs.Kinds.{Walked, shapesOf, takesWords, whatOf, wrong, walked, wordsFit, endFits}
-use Rattle.lines.specs.Said.{restFits, verdictOf}
+use Rattle.lines.specs.Said.{restFits, verdictOf, wordsOf, Says}
 use Rattle.lines.specs.declared.Kind.{Kind}
+use Rattle.lines.specs.declared.Said.{Said}
 use Rattle.lines.specs.declared.Shape.{Shape}
 use Rattle.lines.specs.declared.Verdict.{Verdict}
 use Rattle.lines.specs.declared.What.{What}
@@ -117,3 +118,7 @@ module _ (words : List ℕ) (i : ℕ) {fs : List (List ℕ)} where
 
   pub store-end : fs ≡ [] → laid words i (map (worthOf Shape.Word) fs) ≡ words
   store-end e = ap (λ (l : List (List ℕ)). laid words i (map (worthOf Shape.Word) l)) e ∙ sym (laid-none words i)
+
+-- what is said may be put in other words
+pub says-by : {d e : Said} (fs : List (List ℕ)) (ws : List ℕ) {r : Said} {after : List ℕ} → d ≡ e → Says e fs ws r after → Says d fs ws r after
+says-by fs ws p h = (h .0 ∙ sym p, h .1 ∙ sym (ap (λ (x : Said). laid ws 0 (wordsOf x fs)) p))

@@ -1,5 +1,6 @@
 -- What a line says, and what it leaves in the buffer for words. docs/BENCH.md 'Lines' and 'Answers', 01 'Examples'. Assumes nothing.
 use Prim.Native.Nat.{ℕ, _+_}
+use mathlib.Core.Path.{_≡_}
 use mathlib.Core.Bool.{Bool}
 use mathlib.Core.List.{List, [], _∷_, map}
 use lib.Dec.{eqb}
@@ -85,6 +86,10 @@ wordsOf (Said.Clock n) fs = []
 wordsOf Said.Fault fs = []
 wordsOf Said.Help fs = []
 wordsOf (Said.Wrong w) fs = []
+
+-- A line that says d answers d, and leaves its words at the start of the buffer.
+abbrev pub Says : Said → List (List ℕ) → List ℕ → Said → List ℕ → Type 0
+Says d fs ws r after = (r ≡ d) × (after ≡ laid ws 0 (wordsOf d fs))
 
 -- The buffer after a line: its words from the start on, and everything else as it was.
 unfoldable pub stored : List ℕ → List ℕ → List ℕ

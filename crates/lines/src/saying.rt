@@ -6,7 +6,7 @@ ghost use lib.ListN.{length, getD, drop};
 ghost use Rattle.base.specs.Words.{laid};
 ghost use Rattle.lines.specs.Fields.{fieldsBehind, fieldsFrom, fields};
 ghost use Rattle.lines.specs.Numbers.{limitOf, worthOf};
-ghost use Rattle.lines.specs.Said.{verdictOf, requestOf, replyOf, taken, saidBy, bodySaid, wordsOf};
+ghost use Rattle.lines.specs.Said.{verdictOf, requestOf, replyOf, taken, saidBy, bodySaid, Says};
 ghost use Rattle.lines.specs.declared.Named.{Named};
 ghost use Rattle.lines.specs.declared.Shape.{Shape};
 ghost use Rattle.lines.specs.declared.Verdict.{Verdict};
@@ -142,7 +142,7 @@ fn reply(line: &[u8], first: usize, words: &mut [u16]) -> Reply
 // What a line says whose fields fit.
 fn take(line: &[u8], first: usize, kind: Kind, words: &mut [u16]) -> Said
     requires { ⌜ (first ≤ length (now line)) × (verdictOf kind (length (now words)) (fieldsFrom (now line) first) ≡ Verdict.Fits) ⌝ }
-    ensures { λ r. ⌜ (r ≡ taken kind (fieldsFrom (now (line .entry)) first)) × (now (words .exit) ≡ laid (now (words .entry)) 0 (wordsOf (taken kind (fieldsFrom (now (line .entry)) first)) (fieldsFrom (now (line .entry)) first))) ⌝ }
+    ensures { λ r. ⌜ Says (taken kind (fieldsFrom (now (line .entry)) first)) (fieldsFrom (now (line .entry)) first) (now (words .entry)) r (now (words .exit)) ⌝ }
 {
     match kind {
         Kind::Request => Said::Request(request(line, first, words)),
@@ -158,7 +158,7 @@ fn take(line: &[u8], first: usize, kind: Kind, words: &mut [u16]) -> Said
 // What a line of a kind says.
 fn judge(line: &[u8], first: usize, kind: Kind, words: &mut [u16]) -> Said
     requires { ⌜ first ≤ length (now line) ⌝ }
-    ensures { λ r. ⌜ (r ≡ saidBy (Named.A kind) (length (now (words .entry))) (fieldsFrom (now (line .entry)) first)) × (now (words .exit) ≡ laid (now (words .entry)) 0 (wordsOf (saidBy (Named.A kind) (length (now (words .entry))) (fieldsFrom (now (line .entry)) first)) (fieldsFrom (now (line .entry)) first))) ⌝ }
+    ensures { λ r. ⌜ Says (saidBy (Named.A kind) (length (now (words .entry))) (fieldsFrom (now (line .entry)) first)) (fieldsFrom (now (line .entry)) first) (now (words .entry)) r (now (words .exit)) ⌝ }
 {
     let verdict = check(line, first, kind, words.len());
     match verdict {
@@ -169,7 +169,7 @@ fn judge(line: &[u8], first: usize, kind: Kind, words: &mut [u16]) -> Said
 
 // What a line says, without the \r at its end.
 pub(crate) fn read(line: &[u8], words: &mut [u16]) -> Said
-    ensures { λ r. ⌜ (r ≡ bodySaid (now (line .entry)) (length (now (words .entry)))) × (now (words .exit) ≡ laid (now (words .entry)) 0 (wordsOf (bodySaid (now (line .entry)) (length (now (words .entry)))) (fields (now (line .entry))))) ⌝ }
+    ensures { λ r. ⌜ Says (bodySaid (now (line .entry)) (length (now (words .entry)))) (fields (now (line .entry))) (now (words .entry)) r (now (words .exit)) ⌝ }
 {
     if is_quiet(line) {
         return Said::Nothing;

@@ -1,38 +1,37 @@
+-- `lines::parse` meets its contract: what is read is the line without its end. Assumes nothing.
+use Prim.Native.Nat.{ℕ, _-_}
+use mathlib.Core.Path.{_≡_, ap, _∙_}
+use native.Mathlib.Nat.{sub-zero}
+use mathlib.Core.List.{List}
+use lib.ListN.{length, take}
+use Rattle.base.specs.Words.{laid}
+use Rattle.lines.specs.Fields.{bodyOf, fields}
+use Rattle.lines.specs.Said.{bodySaid, said, wordsOf, stored}
 use borrow.Author.Needs.{needs}
 use Rattle.lines.proofs.parse.Statement.{statement}
 use Rattle.lines.proofs.parse.Tie as tie
-use Rattle.lines.proofs.parse.Reads as reads
-use Rattle.lines.proofs.parse.Lts as lts
-use Rattle.lines.proofs.fields.body_length.Reads as body-length-reads
-use Rattle.lines.proofs.saying.read.Reads as read-reads
 
--- src/lib.rt:114:9
 body-length-requires : tie.Need-body-length-requires
 body-length-requires c κs = search needs
 
--- src/lib.rt:115:10
 sub-read : tie.Need-sub-read
 sub-read c = search needs
 
--- src/lib.rt:115:10
 part-read-start : tie.Need-part-read-start
 part-read-start c = search needs
 
--- src/lib.rt:115:10
 part-read-end : tie.Need-part-read-end
 part-read-end c = search needs
 
--- src/lib.rt:115:5
 read-requires : tie.Need-read-requires
 read-requires c κs = search needs
 
--- src/lib.rt:111:1
 same-length : tie.Need-same-length
 same-length c = search needs
 
--- src/lib.rt:111:1
 returns : tie.Need-returns
-returns c = ?
+unfolding said stored
+returns c = let a = c .before .before .before .before .before .before .before .before .args in let line = a .line .now in let ws = a .words .now in let e : take (c .before .before .before .before .before .body-length .result - 0) line ≡ bodyOf line = ap (λ (n : ℕ). take n line) (sub-zero (c .before .before .before .before .before .body-length .result) ∙ c .before .before .before .before .before .body-length .ensures .0) in (c .before .before .read .ensures .0 ∙ ap (λ (s : List ℕ). bodySaid s (length ws)) e, c .before .before .read .ensures .1 ∙ ap (λ (s : List ℕ). laid ws 0 (wordsOf (bodySaid s (length ws)) (fields s))) e)
 
 pub parse-spec : {M : Type 1} → statement M
 parse-spec =

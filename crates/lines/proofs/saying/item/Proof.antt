@@ -1,22 +1,24 @@
+-- `lines::saying::item` meets its contract: the first field behind the ones skipped. Assumes nothing.
+use mathlib.Core.Path.{_≡_, refl, sym, ap, _∙_}
+use Prim.Native.Nat.{ℕ}
+use mathlib.Core.List.{List, []}
+use native.Mathlib.Nat.{add-zero}
+use lib.ListN.{getD, drop}
+use lib.Seq.{getD-drop}
+use Rattle.lines.specs.Fields.{fieldsBehind}
+use Rattle.lines.specs.Numbers.{worthOf}
 use borrow.Author.Needs.{needs}
 use Rattle.lines.proofs.saying.item.Statement.{statement}
 use Rattle.lines.proofs.saying.item.Tie as tie
-use Rattle.lines.proofs.saying.item.Reads as reads
-use Rattle.lines.proofs.saying.item.Lts as lts
-use Rattle.lines.proofs.fields.skip.Reads as skip-reads
-use Rattle.lines.proofs.saying.worth_behind.Reads as worth-behind-reads
 
--- src/saying.rt:47:9
 skip-requires : tie.Need-skip-requires
 skip-requires c κs = search needs
 
--- src/saying.rt:48:5
 worth-behind-requires : tie.Need-worth-behind-requires
 worth-behind-requires c κs = search needs
 
--- src/saying.rt:43:1
 returns : tie.Need-returns
-returns c = ?
+returns c = let a = c .before .before .before .args in let fs = fieldsBehind (drop (a .at) (a .line .now)) in (c .worth-behind .ensures .0 ∙ ap (λ (l : List (List ℕ)). worthOf (a .shape) (getD l 0 [])) (c .before .skip .ensures .1) ∙ ap (worthOf (a .shape)) (getD-drop (a .n) fs 0 [] ∙ ap (λ (k : ℕ). getD fs k []) (add-zero (a .n))), c .worth-behind .ensures .1)
 
 pub item-spec : {M : Type 1} → statement M
 item-spec = tie.close (tie.spec skip-requires worth-behind-requires returns)

@@ -1,38 +1,38 @@
+-- `lines::saying::judge` meets its contract, by the verdict. Assumes nothing.
+use mathlib.Core.Path.{_≡_, refl, sym, ap, _∙_}
+use Prim.Native.Nat.{ℕ}
+use Rattle.lines.specs.Fields.{fieldsFrom}
+use Rattle.lines.specs.Said.{verdictOf, judged}
+use Rattle.base.proofs.Laid.{laid-none}
+use Rattle.lines.specs.declared.Verdict.{Verdict}
+use Rattle.lines.proofs.Walking.{says-by}
 use borrow.Author.Needs.{needs}
 use Rattle.lines.proofs.saying.judge.Statement.{statement}
 use Rattle.lines.proofs.saying.judge.Tie as tie
-use Rattle.lines.proofs.saying.judge.Reads as reads
-use Rattle.lines.proofs.saying.judge.Lts as lts
-use Rattle.lines.proofs.kinds.check.Reads as check-reads
-use Rattle.lines.proofs.saying.take.Reads as take-reads
 
--- src/saying.rt:163:9
 check-requires : tie.Need-check-requires
 check-requires c κs = search needs
 
--- src/saying.rt:165:21
 enum-known-verdict : tie.Need-enum-known-verdict
 enum-known-verdict c = search needs
 
--- src/saying.rt:166:50
 enum-told : tie.Need-enum-told
 enum-told c = search needs
 
--- src/saying.rt:166:26
 take-requires : tie.Need-take-requires
-take-requires c κs = ?
+unfolding verdictOf
+take-requires c κs = (c .before .before .before .before .before .before .pre, sym (c .before .before .before .check .ensures) ∙ c .before .enum-told .given .1)
 
--- src/saying.rt:159:1
 returns : tie.Need-returns
-returns c = ?
+unfolding verdictOf
+returns c = let a = c .before .before .before .before .before .before .args in says-by (fieldsFrom (a .line .now) (a .first)) (a .words .now) (ap (λ (v : Verdict). judged v (a .kind) (fieldsFrom (a .line .now) (a .first))) (sym (c .before .before .before .check .ensures) ∙ c .before .verdict .given .1)) (refl, laid-none (a .words .now) 0)
 
--- src/saying.rt:159:1
 same-length : tie.Need-same-length
 same-length c = search needs
 
--- src/saying.rt:159:1
 returns-2 : tie.Need-returns-2
-returns-2 c = ?
+unfolding verdictOf
+returns-2 c = let a = c .before .before .before .before .before .before .before .before .before .args in says-by (fieldsFrom (a .line .now) (a .first)) (a .words .now) (ap (λ (v : Verdict). judged v (a .kind) (fieldsFrom (a .line .now) (a .first))) (sym (c .before .before .before .before .before .before .check .ensures) ∙ c .before .before .before .before .enum-told .given .1)) (c .before .before .take .ensures)
 
 pub judge-spec : {M : Type 1} → statement M
 judge-spec =

@@ -1,64 +1,77 @@
+-- `lines::saying::read` meets its contract: quiet, or by what its first field names. Assumes nothing.
+use mathlib.Core.Path.{_≡_, refl, sym, ap, _∙_}
+use Prim.Native.Nat.{ℕ, _-_}
+use native.Mathlib.Nat.{sub-zero}
+use mathlib.Core.Bool.{true, false}
+use mathlib.Core.List.{List, []}
+use lib.ListN.{length, getD, take}
+use Rattle.base.proofs.Pick.{yes, no}
+use Rattle.base.specs.Words.{laid}
+use Rattle.base.proofs.Laid.{laid-none}
+use Rattle.lines.specs.Fields.{isQuiet, fields, firstLength, fieldsFrom}
+use Rattle.lines.specs.Kinds.{namedBy}
+use Rattle.lines.specs.Said.{saidBy, bodySaid, wordsOf, Says}
+use Rattle.lines.specs.declared.Named.{Named}
+use Rattle.lines.specs.declared.Said.{Said}
+use Rattle.lines.proofs.Splitting.{fields-split}
+use Rattle.lines.proofs.Walking.{says-by}
 use borrow.Author.Needs.{needs}
 use Rattle.lines.proofs.saying.read.Statement.{statement}
 use Rattle.lines.proofs.saying.read.Tie as tie
-use Rattle.lines.proofs.saying.read.Reads as reads
-use Rattle.lines.proofs.saying.read.Lts as lts
-use Rattle.lines.proofs.fields.first_length.Reads as first-length-reads
-use Rattle.lines.proofs.fields.is_quiet.Reads as is-quiet-reads
-use Rattle.lines.proofs.kinds.named_by.Reads as named-by-reads
-use Rattle.lines.proofs.saying.judge.Reads as judge-reads
 
--- src/saying.rt:174:8
+-- a line that is not quiet says what its first field names
+by-name : (line ws : List ℕ) (first : ℕ) {found : Named} {r : Said} {after : List ℕ} → isQuiet line ≡ false → first ≡ firstLength line
+    → namedBy (take (first - 0) line) ≡ found → Says (saidBy found (length ws) (fieldsFrom line first)) (fieldsFrom line first) ws r after
+    → Says (bodySaid line (length ws)) (fields line) ws r after
+unfolding bodySaid
+by-name line ws first {found} q f n h =
+    let e : fieldsFrom line first ≡ fields line = ap (fieldsFrom line) f ∙ sym (fields-split line) in
+    let named : found ≡ namedBy (take first line) = sym n ∙ ap (λ (k : ℕ). namedBy (take k line)) (sub-zero first) in
+    let told : saidBy found (length ws) (fieldsFrom line first) ≡ saidBy (namedBy (getD (fields line) 0 [])) (length ws) (fields line) =
+    ap (λ (m : Named). saidBy m (length ws) (fieldsFrom line first)) named
+    ∙ ap (λ (fs : List (List ℕ)). saidBy (namedBy (getD fs 0 [])) (length ws) fs) e in
+    says-by (fields line) ws (sym (no _ q told))
+    (h .0, h .1 ∙ ap (λ (fs : List (List ℕ)). laid ws 0 (wordsOf (saidBy found (length ws) (fieldsFrom line first)) fs)) e)
+
 is-quiet-requires : tie.Need-is-quiet-requires
 is-quiet-requires c κs = search needs
 
--- src/saying.rt:175:9
 returns : tie.Need-returns
-returns c = ?
+unfolding bodySaid
+returns c = let a = c .before .before .before .before .args in says-by (fields (a .line .now)) (a .words .now) (sym (yes _ (sym (c .before .is-quiet .ensures) ∙ c .if1 .taken) refl)) (refl, laid-none (a .words .now) 0)
 
--- src/saying.rt:177:9
 first-length-requires : tie.Need-first-length-requires
 first-length-requires c κs = search needs
 
--- src/saying.rt:178:26
 sub-named-by : tie.Need-sub-named-by
 sub-named-by c = search needs
 
--- src/saying.rt:178:26
 part-named-by-start : tie.Need-part-named-by-start
 part-named-by-start c = search needs
 
--- src/saying.rt:178:26
 part-named-by-end : tie.Need-part-named-by-end
 part-named-by-end c = search needs
 
--- src/saying.rt:178:9
 named-by-requires : tie.Need-named-by-requires
 named-by-requires c κs = search needs
 
--- src/saying.rt:180:18
 enum-known-named : tie.Need-enum-known-named
 enum-known-named c = search needs
 
--- src/saying.rt:180:27
 judge-requires : tie.Need-judge-requires
 judge-requires c κs = search needs
 
--- src/saying.rt:183:19
 enum-told : tie.Need-enum-told
 enum-told c = search needs
 
--- src/saying.rt:171:1
 same-length : tie.Need-same-length
 same-length c = search needs
 
--- src/saying.rt:171:1
 returns-2 : tie.Need-returns-2
-returns-2 c = ?
+returns-2 c = let a = c .before .before .before .before .before .before .before .before .before .before .before .before .before .before .args in by-name (a .line .now) (a .words .now) (c .before .before .before .before .before .before .before .before .before .first-length .result) (sym (c .before .before .before .before .before .before .before .before .before .before .before .is-quiet .ensures) ∙ c .before .before .before .before .before .before .before .before .before .before .if1 .left) (c .before .before .before .before .before .before .before .before .before .first-length .ensures .0) (sym (c .before .before .before .before .before .before .before .named-by .ensures) ∙ c .before .before .before .before .before .named .given .1) (c .before .before .judge .ensures)
 
--- src/saying.rt:171:1
 returns-3 : tie.Need-returns-3
-returns-3 c = ?
+returns-3 c = let a = c .before .before .before .before .before .before .before .before .before .args in by-name (a .line .now) (a .words .now) (c .before .before .before .before .first-length .result) (sym (c .before .before .before .before .before .before .is-quiet .ensures) ∙ c .before .before .before .before .before .if1 .left) (c .before .before .before .before .first-length .ensures .0) (sym (c .before .before .named-by .ensures) ∙ c .enum-told .given .1) (refl, laid-none (a .words .now) 0)
 
 pub read-spec : {M : Type 1} → statement M
 read-spec =

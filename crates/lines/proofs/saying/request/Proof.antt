@@ -1,43 +1,37 @@
+-- `lines::saying::request` meets its contract, field by field. Assumes nothing.
+use Prim.Native.Nat.{ℕ}
+use mathlib.Core.Path.{ap, _∙_}
+use native.Mathlib.Nat.{sub-zero}
+use lib.ListN.{take}
+use Rattle.lines.specs.Numbers.{worthOf}
+use Rattle.lines.specs.declared.Shape.{Shape}
 use borrow.Author.Needs.{needs}
 use Rattle.lines.proofs.saying.request.Statement.{statement}
 use Rattle.lines.proofs.saying.request.Tie as tie
-use Rattle.lines.proofs.saying.request.Reads as reads
-use Rattle.lines.proofs.saying.request.Lts as lts
-use Rattle.lines.proofs.saying.item32.Reads as item32-reads
-use Rattle.lines.proofs.saying.link_of.Reads as link-of-reads
-use Rattle.lines.proofs.saying.store_behind.Reads as store-behind-reads
 
--- src/saying.rt:115:24
 sub-link-of : tie.Need-sub-link-of
 sub-link-of c = search needs
 
--- src/saying.rt:115:24
 part-link-of-start : tie.Need-part-link-of-start
 part-link-of-start c = search needs
 
--- src/saying.rt:115:24
 part-link-of-end : tie.Need-part-link-of-end
 part-link-of-end c = search needs
 
--- src/saying.rt:115:9
 link-of-requires : tie.Need-link-of-requires
 link-of-requires c κs = search needs
 
--- src/saying.rt:116:9
 item32-requires : tie.Need-item32-requires
 item32-requires c κs = search needs
 
--- src/saying.rt:117:9
 store-behind-requires : tie.Need-store-behind-requires
 store-behind-requires c κs = search needs
 
--- src/saying.rt:111:1
 same-length : tie.Need-same-length
 same-length c = search needs
 
--- src/saying.rt:111:1
 returns : tie.Need-returns
-returns c = ?
+returns c = let a = c .before .before .before .before .before .before .before .before .before .args in let link = c .before .before .before .before .before .link-of .ensures ∙ ap (λ (n : ℕ). worthOf Shape.Number32 (take n (a .line .now))) (sub-zero (a .first)) in ((λ i. record { link = link i; bc = (c .before .before .before .before .item32 .ensures) i; words = (c .before .before .store-behind .ensures .0) i }), c .before .before .store-behind .ensures .1)
 
 pub request-spec : {M : Type 1} → statement M
 request-spec =

@@ -1,26 +1,27 @@
+-- `lines::saying::store_behind` meets its contract, callee by callee. Assumes nothing.
+use mathlib.Core.Path.{_≡_, refl, sym, ap, _∙_}
+use native.Mathlib.Omega.{arith}
+use Prim.Native.Nat.{ℕ}
+use mathlib.Core.List.{List, map}
+use lib.ListN.{length}
+use Rattle.base.specs.Words.{laid}
+use Rattle.lines.specs.Numbers.{worthOf}
+use Rattle.lines.specs.declared.Shape.{Shape}
 use borrow.Author.Needs.{needs}
 use Rattle.lines.proofs.saying.store_behind.Statement.{statement}
 use Rattle.lines.proofs.saying.store_behind.Tie as tie
-use Rattle.lines.proofs.saying.store_behind.Reads as reads
-use Rattle.lines.proofs.saying.store_behind.Lts as lts
-use Rattle.lines.proofs.fields.skip.Reads as skip-reads
-use Rattle.lines.proofs.saying.store.Reads as store-reads
 
--- src/saying.rt:106:9
 skip-requires : tie.Need-skip-requires
 skip-requires c κs = search needs
 
--- src/saying.rt:107:5
 store-requires : tie.Need-store-requires
-store-requires c κs = ?
+store-requires c κs = let n = ap length (c .before .skip .ensures .1) in (c .before .skip .ensures .0, omega arith)
 
--- src/saying.rt:102:1
 same-length : tie.Need-same-length
 same-length c = search needs
 
--- src/saying.rt:102:1
 returns : tie.Need-returns
-returns c = ?
+returns c = (c .before .before .store .ensures .0 ∙ ap length (c .before .before .before .before .skip .ensures .1), c .before .before .store .ensures .1 ∙ ap (λ (fs : List (List ℕ)). laid (c .before .before .before .before .before .before .before .args .words .now) 0 (map (worthOf Shape.Word) fs)) (c .before .before .before .before .skip .ensures .1))
 
 pub store-behind-spec : {M : Type 1} → statement M
 store-behind-spec = tie.close (tie.spec skip-requires store-requires same-length returns)

@@ -1,92 +1,76 @@
+-- `lines::saying::take` meets its contract, kind by kind. Assumes nothing.
+use mathlib.Core.Path.{_≡_, refl, sym, ap, _∙_}
+use Prim.Native.Nat.{ℕ}
+use lib.ListN.{length}
+use Rattle.lines.specs.Fields.{fieldsFrom}
+use Rattle.lines.specs.Said.{verdictOf, taken}
+use Rattle.base.proofs.Laid.{laid-none}
+use Rattle.lines.specs.declared.Kind.{Kind}
+use Rattle.lines.specs.declared.Said.{Said}
+use Rattle.lines.proofs.Walking.{fits-room, says-by}
 use borrow.Author.Needs.{needs}
 use Rattle.lines.proofs.saying.take.Statement.{statement}
 use Rattle.lines.proofs.saying.take.Tie as tie
-use Rattle.lines.proofs.saying.take.Reads as reads
-use Rattle.lines.proofs.saying.take.Lts as lts
-use Rattle.lines.proofs.saying.item.Reads as item-reads
-use Rattle.lines.proofs.saying.item32.Reads as item32-reads
-use Rattle.lines.proofs.saying.reply.Reads as reply-reads
-use Rattle.lines.proofs.saying.request.Reads as request-reads
 
--- src/saying.rt:148:61
 enum-told : tie.Need-enum-told
 enum-told c = search needs
 
--- src/saying.rt:148:40
 request-requires : tie.Need-request-requires
-request-requires c κs = ?
+request-requires c κs = let a = c .before .before .before .before .before .args in let fs = fieldsFrom (a .line .now) (a .first) in (c .before .before .before .before .before .pre .0, fits-room Kind.Request (length (a .words .now)) fs refl (sym (ap (λ (k : Kind). verdictOf k (length (a .words .now)) fs) (c .before .enum-told .given .1)) ∙ c .before .before .before .before .before .pre .1))
 
--- src/saying.rt:149:55
 enum-told-2 : tie.Need-enum-told-2
 enum-told-2 c = search needs
 
--- src/saying.rt:149:36
 reply-requires : tie.Need-reply-requires
-reply-requires c κs = ?
+reply-requires c κs = let a = c .before .before .before .before .before .args in let fs = fieldsFrom (a .line .now) (a .first) in (c .before .before .before .before .before .pre .0, fits-room Kind.Reply (length (a .words .now)) fs refl (sym (ap (λ (k : Kind). verdictOf k (length (a .words .now)) fs) (c .before .enum-told2 .given .1)) ∙ c .before .before .before .before .before .pre .1))
 
--- src/saying.rt:150:23
 enum-told-3 : tie.Need-enum-told-3
 enum-told-3 c = search needs
 
--- src/saying.rt:151:57
 enum-told-4 : tie.Need-enum-told-4
 enum-told-4 c = search needs
 
--- src/saying.rt:151:36
 item-requires : tie.Need-item-requires
 item-requires c κs = search needs
 
--- src/saying.rt:152:59
 enum-told-5 : tie.Need-enum-told-5
 enum-told-5 c = search needs
 
--- src/saying.rt:152:36
 item32-requires : tie.Need-item32-requires
 item32-requires c κs = search needs
 
--- src/saying.rt:153:24
 enum-told-6 : tie.Need-enum-told-6
 enum-told-6 c = search needs
 
--- src/saying.rt:154:23
 enum-told-7 : tie.Need-enum-told-7
 enum-told-7 c = search needs
 
--- src/saying.rt:143:1
 same-length : tie.Need-same-length
 same-length c = search needs
 
--- src/saying.rt:143:1
 returns : tie.Need-returns
-returns c = ?
+returns c = let a = c .before .before .before .before .before .before .before .before .args in says-by (fieldsFrom (a .line .now) (a .first)) (a .words .now) (ap (λ (k : Kind). taken k (fieldsFrom (a .line .now) (a .first))) (c .before .before .before .before .enum-told .given .1)) (ap Said.Request (c .before .before .request .ensures .0), c .before .before .request .ensures .1)
 
--- src/saying.rt:143:1
 same-length-2 : tie.Need-same-length-2
 same-length-2 c = search needs
 
--- src/saying.rt:143:1
 returns-2 : tie.Need-returns-2
-returns-2 c = ?
+returns-2 c = let a = c .before .before .before .before .before .before .before .before .args in says-by (fieldsFrom (a .line .now) (a .first)) (a .words .now) (ap (λ (k : Kind). taken k (fieldsFrom (a .line .now) (a .first))) (c .before .before .before .before .enum-told2 .given .1)) (ap Said.Reply (c .before .before .reply .ensures .0), c .before .before .reply .ensures .1)
 
--- src/saying.rt:143:1
 returns-3 : tie.Need-returns-3
-returns-3 c = ?
+returns-3 c = let a = c .before .before .before .before .args in says-by (fieldsFrom (a .line .now) (a .first)) (a .words .now) (ap (λ (k : Kind). taken k (fieldsFrom (a .line .now) (a .first))) (c .enum-told3 .given .1)) (refl, laid-none (a .words .now) 0)
 
--- src/saying.rt:143:1
 returns-4 : tie.Need-returns-4
-returns-4 c = ?
+returns-4 c = let a = c .before .before .before .before .before .args in says-by (fieldsFrom (a .line .now) (a .first)) (a .words .now) (ap (λ (k : Kind). taken k (fieldsFrom (a .line .now) (a .first))) (c .before .enum-told4 .given .1)) (ap Said.Erase (c .item .ensures .0), laid-none (a .words .now) 0)
 
--- src/saying.rt:143:1
 returns-5 : tie.Need-returns-5
-returns-5 c = ?
+returns-5 c = let a = c .before .before .before .before .before .args in says-by (fieldsFrom (a .line .now) (a .first)) (a .words .now) (ap (λ (k : Kind). taken k (fieldsFrom (a .line .now) (a .first))) (c .before .enum-told5 .given .1)) (ap Said.Clock (c .item32 .ensures), laid-none (a .words .now) 0)
 
--- src/saying.rt:143:1
 returns-6 : tie.Need-returns-6
-returns-6 c = ?
+returns-6 c = let a = c .before .before .before .before .args in says-by (fieldsFrom (a .line .now) (a .first)) (a .words .now) (ap (λ (k : Kind). taken k (fieldsFrom (a .line .now) (a .first))) (c .enum-told6 .given .1)) (refl, laid-none (a .words .now) 0)
 
--- src/saying.rt:143:1
 returns-7 : tie.Need-returns-7
-returns-7 c = ?
+returns-7 c = let a = c .before .before .before .before .args in says-by (fieldsFrom (a .line .now) (a .first)) (a .words .now) (ap (λ (k : Kind). taken k (fieldsFrom (a .line .now) (a .first))) (c .enum-told7 .given .1)) (refl, laid-none (a .words .now) 0)
 
 pub take-spec : {M : Type 1} → statement M
 take-spec =

@@ -1,42 +1,39 @@
+-- `lines::saying::worth_behind` meets its contract: at the line's end there is no field, else it is the one up to its end. Assumes nothing.
+use mathlib.Core.Path.{_≡_, refl, sym, ap, _∙_}
+use native.Mathlib.Omega.{arith}
+use Prim.Native.Nat.{ℕ}
+use mathlib.Core.List.{List, []}
+use lib.ListN.{getD}
+use Rattle.lines.specs.Numbers.{worthOf}
+use Rattle.lines.proofs.Splitting.{none-behind}
+use Rattle.lines.proofs.Digits.{worth-none}
 use borrow.Author.Needs.{needs}
 use Rattle.lines.proofs.saying.worth_behind.Statement.{statement}
 use Rattle.lines.proofs.saying.worth_behind.Tie as tie
-use Rattle.lines.proofs.saying.worth_behind.Reads as reads
-use Rattle.lines.proofs.saying.worth_behind.Lts as lts
-use Rattle.lines.proofs.fields.field_end.Reads as field-end-reads
-use Rattle.lines.proofs.numbers.worth.Reads as worth-reads
 
--- src/saying.rt:36:9
 returns : tie.Need-returns
-returns c = ?
+returns c = let a = c .before .before .args in (sym (ap (λ (fs : List (List ℕ)). worthOf (a .shape) (getD fs 0 [])) (none-behind (a .line .now) (a .at) (omega arith)) ∙ worth-none (a .shape)), omega arith)
 
--- src/saying.rt:38:9
 field-end-requires : tie.Need-field-end-requires
 field-end-requires c κs = search needs
 
--- src/saying.rt:39:24
 add-worth : tie.Need-add-worth
 add-worth c = search needs
 
--- src/saying.rt:39:18
 sub-worth : tie.Need-sub-worth
 sub-worth c = search needs
 
--- src/saying.rt:39:18
 part-worth-start : tie.Need-part-worth-start
 part-worth-start c = search needs
 
--- src/saying.rt:39:18
 part-worth-end : tie.Need-part-worth-end
 part-worth-end c = search needs
 
--- src/saying.rt:39:5
 worth-requires : tie.Need-worth-requires
 worth-requires c κs = search needs
 
--- src/saying.rt:31:1
 returns-2 : tie.Need-returns-2
-returns-2 c = ?
+returns-2 c = let a = c .before .before .before .before .before .args in (c .worth .ensures .0 ∙ sym (ap (λ (fs : List (List ℕ)). worthOf (a .shape) (getD fs 0 [])) (c .before .before .field-end .ensures .splits)), c .worth .ensures .1)
 
 pub worth-behind-spec : {M : Type 1} → statement M
 worth-behind-spec =
