@@ -24,7 +24,7 @@ fine-tells (c ∷ causes) e = let r = pick-second (c .holds) (refused (c .refusa
     refused : (r : Refusal) → Verdict.No r ≡ Verdict.Fine → ⊥
     refused r e = let z : _≡_ {A = ℕ} 0 1 = cc in omega arith
 
-or-neither : (t u : Bool) → (t || u) ≡ false → (t ≡ false) × (u ≡ false)
+pub or-neither : (t u : Bool) → (t || u) ≡ false → (t ≡ false) × (u ≡ false)
 or-neither true u e = absurd (false≢true (sym e))
 or-neither false u e = (refl, e)
 

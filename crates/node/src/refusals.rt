@@ -1,5 +1,6 @@
 // When a call is refused: by numbers alone, before any lent word is looked at.
 ghost use mathlib.Core.Path.{_≡_};
+ghost use Rattle.node.specs.State.{refusalNumber};
 ghost use Rattle.node.specs.Refusals.{isPending, isAsked, requestVerdict, replyVerdict, pollVerdict, eraseVerdict, startVerdict};
 use crate::Node;
 use crate::Pending;
@@ -9,6 +10,21 @@ use crate::valid::kind_ok;
 use crate::valid::ports_ok;
 use crate::valid::size_ok;
 use crate::valid::state_ok;
+
+// The paper's number of a refusal.
+pub fn refusal_number(refusal: Refusal) -> u32
+    ensures { λ r. ⌜ r ≡ refusalNumber refusal ⌝ }
+{
+    match refusal {
+        Refusal::FlashSize => 1,
+        Refusal::ReplySize => 2,
+        Refusal::MemorySize => 3,
+        Refusal::Number => 4,
+        Refusal::State => 5,
+        Refusal::Busy => 6,
+        Refusal::Unasked => 7,
+    }
+}
 
 // Whether a request is pending.
 pub fn is_pending(pending: Pending) -> bool

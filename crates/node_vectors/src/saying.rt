@@ -1,24 +1,8 @@
 // What is printed of a call: its answer, in words and numbers.
-ghost use mathlib.Core.Path.{_≡_};
-ghost use Rattle.node.specs.State.{refusalNumber};
 use group::Reply;
 use node::Answer;
 use node::Asking;
-use node::Refusal;
-
-fn refusal_number(refusal: Refusal) -> u32
-    ensures { λ r. ⌜ r ≡ refusalNumber refusal ⌝ }
-{
-    match refusal {
-        Refusal::FlashSize => 1,
-        Refusal::ReplySize => 2,
-        Refusal::MemorySize => 3,
-        Refusal::Number => 4,
-        Refusal::State => 5,
-        Refusal::Busy => 6,
-        Refusal::Unasked => 7,
-    }
-}
+use node::refusals::refusal_number;
 
 pub fn say_word(word: u16) {
     io::print_hex(1, word as u64, 4);
