@@ -36,7 +36,7 @@ fn spell(words: &[u16], text: &mut [u8]) -> usize
     while i < n {
         let word = words[i];
         text[i * 5] = b'\t';
-        text[i * 5 + 1] = glyph(word / 4096);
+        text[i * 5 + 1] = glyph(word / 4096 % 16);
         text[i * 5 + 2] = glyph(word / 256 % 16);
         text[i * 5 + 3] = glyph(word / 16 % 16);
         text[i * 5 + 4] = glyph(word % 16);
