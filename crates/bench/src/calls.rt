@@ -50,7 +50,16 @@ pub fn ask(
     let n = base::least(asked.words, words.len());
     let packet = &words[0..n];
     let turn = node.request(
-        kept.clock, asked.link, asked.bc, kept.fault, packet, flash, pm, dm, io, reply,
+        kept.clock,
+        asked.link,
+        asked.bc,
+        kept.fault,
+        packet,
+        flash,
+        pm,
+        dm,
+        io,
+        reply,
     );
     let answer = turn.answer;
     let next = Kept {

@@ -112,7 +112,9 @@ pub fn say_answer(number: u64, answer: Answer, held: &[u16], buffer: &[u16]) {
 // What is wrong with a field.
 fn say_what(what: What) {
     match what {
-        What::NoLink => say(b"no link, and none of reply, poll, erase, clock, error, help; fields are parted by tabs"),
+        What::NoLink => say(
+            b"no link, and none of reply, poll, erase, clock, error, help; fields are parted by tabs",
+        ),
         What::Missing => say(b"missing"),
         What::TooMany => say(b"one too many"),
         What::NoRoom => say(b"no room for this word"),
@@ -146,10 +148,16 @@ pub fn say_long(number: u64) {
 pub fn say_help() {
     say(b"LINK BC [WORD..]                              a request from a link\n");
     say(b"reply SLAVE BC ERROR STATUS ADDRESS [WORD..]  what a slave replied\n");
-    say(b"poll                                          a poll, while the node waits for a slave\n");
+    say(
+        b"poll                                          a poll, while the node waits for a slave\n",
+    );
     say(b"erase BUDGET                                  erase progress, with a budget in words\n");
     say(b"clock TICKS                                   the clock of the calls from here on\n");
-    say(b"error                                         the next request comes with a receive error\n");
+    say(
+        b"error                                         the next request comes with a receive error\n",
+    );
     say(b"help                                          these lines\n");
-    say(b"Fields are parted by tabs. LINK, SLAVE and BUDGET are decimal, BC is 0 to 3, ERROR 0 or 1, the others are hex.\n");
+    say(
+        b"Fields are parted by tabs. LINK, SLAVE and BUDGET are decimal, BC is 0 to 3, ERROR 0 or 1, the others are hex.\n",
+    );
 }

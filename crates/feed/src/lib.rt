@@ -2,7 +2,6 @@
 // row of words of four hex digits with one byte between them. What a line holds is compared with the model's answers, so the contracts
 // here say only what a caller needs to stay inside its buffers.
 ghost use Prim.Native.Nat.{_+_, _≤_, _<_};
-ghost use mathlib.Core.Path.{_≡_};
 ghost use lib.ListN.{length};
 ghost use Rattle.feed.specs.Bounds.{Within};
 

@@ -1,16 +1,17 @@
 -- A number a digit at a time, and the limit that it never passes. Assumes nothing.
-use Prim.Native.Nat.{ℕ, zero, suc, _+_, _-_, _*_, _/_, _≤_, _<_}
+use Prim.Native.Nat.{ℕ, _+_, _-_, _*_, _/_, _≤_, _<_}
 use mathlib.Core.Path.{_≡_, refl, sym, ap, _∙_}
 use mathlib.Core.Bool.{Bool, true, false, false≢true}
 use mathlib.Core.List.{List, [], _∷_}
 use native.Mathlib.Nat.{mul-le-mul-left, mul-one, div-lt-iff-lt-mul, le-div-iff-mul-le}
 use native.Mathlib.Omega.{arith}
 use borrow.Author.Tests.{le-leb, lt-leb, lt-ltb, le-ltb, leb-true, eqb-true}
-use lib.Dec.{leb, ltb, eqb}
+use lib.Dec.{leb, eqb}
 use lib.ListN.{length, getD, drop}
 use Rattle.base.specs.Pick.{pick}
-use Rattle.base.proofs.Pick.{yes, no, pick-case, pick-first}
-use Rattle.lines.specs.Numbers.{digitOf, areDigits, numberFrom, numberIn, baseOf, digitsOk, limitOf, valueOf, isValue, fits, worth, worthOf}
+use Rattle.base.proofs.Pick.{yes, no, pick-case}
+use Rattle.lines.specs.Numbers.{digitOf, areDigits, numberFrom, numberIn}
+use Rattle.lines.specs.Numbers.{baseOf, digitsOk, limitOf, valueOf, isValue, fits, worth, worthOf}
 use Rattle.lines.specs.declared.Shape.{Shape}
 use Rattle.lines.specs.declared.Value.{Value}
 use Rattle.lines.proofs.Splitting.{rest}
@@ -41,7 +42,8 @@ module _ (base limit n b : ℕ) (s : List ℕ) where
   pub one-digit : digitOf b < base → numberIn base limit n (b ∷ s) ≡ numberIn base limit (n * base + digitOf b) s
   unfolding numberIn areDigits numberFrom
   one-digit h =
-      ap (λ (t : Bool). pick (pick t (areDigits base s) false) (pick (leb (numberFrom base (n * base + digitOf b) s) limit) (Value.Is (numberFrom base (n * base + digitOf b) s)) Value.Isnt) Value.Isnt)
+      let m = numberFrom base (n * base + digitOf b) s in
+      ap (λ (t : Bool). pick (pick t (areDigits base s) false) (pick (leb m limit) (Value.Is m) Value.Isnt) Value.Isnt)
       (lt-ltb (digitOf b) base h)
 
 pub number-end : (base limit n : ℕ) → n ≤ limit → numberIn base limit n [] ≡ Value.Is n
@@ -54,7 +56,8 @@ module _ (base limit n : ℕ) (field : List ℕ) (i d : ℕ) (h : i < length fie
   turn-no-digit p = ap (numberIn base limit n) (rest field i h) ∙ no-digit base limit n (getD field i 0) (drop (i + 1) field) (omega arith)
 
   pub turn-above : 1 ≤ base → limit < n * base + d → numberIn base limit n (drop i field) ≡ Value.Isnt
-  turn-above o p = ap (numberIn base limit n) (rest field i h) ∙ above-limit base limit n (getD field i 0) (drop (i + 1) field) o (rw e at p)
+  turn-above o p =
+      ap (numberIn base limit n) (rest field i h) ∙ above-limit base limit n (getD field i 0) (drop (i + 1) field) o (rw e at p)
 
   pub turn-digit : d < base → numberIn base limit n (drop i field) ≡ numberIn base limit (n * base + d) (drop (i + 1) field)
   turn-digit p =
@@ -93,10 +96,11 @@ unfolding valueOf numberIn
 worth-limit shape s =
     pick-case Within (digitsOk shape (length s))
     (λ _. pick-case Within (areDigits (baseOf shape) s)
-    (λ _. pick-case Within (leb (numberFrom (baseOf shape) 0 s) (limitOf shape)) (λ h. leb-true _ _ h) (λ _. omega arith)) (λ _. omega arith)) (λ _. omega arith)
+    (λ _. pick-case Within (leb (numberFrom (baseOf shape) 0 s) (limitOf shape)) (λ h. leb-true _ _ h) (λ _. omega arith))
+    (λ _. omega arith)) (λ _. omega arith)
   where
-  Within : Value → Type 0
-  Within v = worth v ≤ limitOf shape
+    Within : Value → Type 0
+    Within v = worth v ≤ limitOf shape
 
 -- no field is worth nothing
 pub worth-none : (shape : Shape) → worthOf shape [] ≡ 0

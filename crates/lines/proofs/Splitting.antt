@@ -1,19 +1,18 @@
 -- A line falls into its first field and what stands behind it, and so on from the end of each field; and how loops go along a line. Assumes
 -- nothing.
-use Prim.Native.Nat.{ℕ, zero, suc, _+_, _-_, _≤_, _<_}
+use Prim.Native.Nat.{ℕ, suc, _+_, _-_, _≤_, _<_}
 use mathlib.Core.Path.{_≡_, refl, sym, ap, ap₂, _∙_}
 use mathlib.Core.Bool.{Bool, true, false}
 use mathlib.Core.List.{List, [], _∷_}
 use native.Mathlib.Numerals.{add-one}
 use native.Mathlib.Omega.{arith}
-use borrow.Author.Tests.{eq-eqb, ne-eqb}
 use lib.Dec.{eqb}
-use lib.ListN.{length, getD, take, drop, length-drop, drop-of-length-le}
+use lib.ListN.{length, getD, drop, length-drop, drop-of-length-le}
 use lib.Seq.{take-all, drop-cons, drop-drop}
 use Rattle.base.specs.Pick.{pick}
 use Rattle.base.specs.Words.{part}
-use Rattle.base.proofs.Pick.{yes, no, pick-case}
-use Rattle.lines.specs.Fields.{isSpace, isBlank, longer, fields, firstLength, fieldsBehind, fieldsFrom, same, FieldEnd}
+use Rattle.base.proofs.Pick.{pick-case}
+use Rattle.lines.specs.Fields.{isSpace, isBlank, longer, fields, firstLength, fieldsBehind, behind, fieldsFrom, same, FieldEnd}
 
 -- the rest of a run is its next byte and the rest behind that: how a loop goes on
 pub rest : (s : List ℕ) (i : ℕ) → i < length s → drop i s ≡ getD s i 0 ∷ drop (i + 1) s
@@ -34,7 +33,8 @@ blank-end s i h = ap isBlank (rest-none s i h)
 
 -- the length of the first field, a byte at a time
 
-pub first-turn : (s : List ℕ) (i : ℕ) → i < length s → firstLength (drop i s) ≡ pick (eqb (getD s i 0) 9) 0 (suc (firstLength (drop (i + 1) s)))
+pub first-turn : (s : List ℕ) (i : ℕ) → i < length s
+    → firstLength (drop i s) ≡ pick (eqb (getD s i 0) 9) 0 (suc (firstLength (drop (i + 1) s)))
 unfolding firstLength
 first-turn s i h = ap firstLength (rest s i h)
 
@@ -73,7 +73,7 @@ fields-split [] = refl
 fields-split (b ∷ s) = split-by b s (eqb b 9) (fields-split s)
 
 -- behind the line's end there is no field, and behind any other place there is the one up to its end
-pub none-behind : (line : List ℕ) (at : ℕ) → length line ≤ at → fieldsBehind (drop at line) ≡ []
+pub none-behind : (line : List ℕ) (at : ℕ) → length line ≤ at → behind line at ≡ []
 none-behind line at h = ap fieldsBehind (rest-none line at h)
 
 -- what is lent from a place on is all that stands there
@@ -83,15 +83,15 @@ lent-rest s i = take-all (length s - i) (drop i s) (let l = length-drop i s in o
 pub field-behind : (line : List ℕ) (at n : ℕ) → at < length line → n ≡ firstLength (part line (at + 1) (length line - (at + 1)))
     → n ≤ length (part line (at + 1) (length line - (at + 1))) → FieldEnd line at (at + 1 + n)
 field-behind line at n h e k =
-    let behind = lent-rest line (at + 1) in
-    let l : length (part line (at + 1) (length line - (at + 1))) ≡ length line - (at + 1) = ap length behind ∙ length-drop (at + 1) line in
+    let lent = lent-rest line (at + 1) in
+    let l : length (part line (at + 1) (length line - (at + 1))) ≡ length line - (at + 1) = ap length lent ∙ length-drop (at + 1) line in
     let d : at + 1 + n - (at + 1) ≡ n = omega arith in
     record {
-      behind = omega arith;
+      after = omega arith;
       inside = omega arith;
       splits =
           ap fieldsBehind (rest line at h)
           ∙ fields-split (drop (at + 1) line)
-          ∙ ap (fieldsFrom (drop (at + 1) line)) (sym (e ∙ ap firstLength behind))
+          ∙ ap (fieldsFrom (drop (at + 1) line)) (sym (e ∙ ap firstLength lent))
           ∙ ap₂ (λ (k : ℕ) (l : List ℕ). part line (at + 1) k ∷ fieldsBehind l) (sym d) (drop-drop n (at + 1) line);
     }

@@ -1,8 +1,8 @@
 -- How the fields of a line are walked: those that it must have, a shape at a time, then its words. Assumes nothing.
 use Prim.Native.Nat.{ℕ, zero, suc, _+_, _-_, _≤_, _<_}
 use mathlib.Core.Path.{_≡_, refl, sym, ap, ap₂, _∙_}
-use mathlib.Core.Bool.{Bool, true, false}
-use mathlib.Core.List.{List, [], _∷_, map}
+use mathlib.Core.Bool.{Bool, true}
+use mathlib.Core.List.{List, [], _∷_}
 use native.Mathlib.Numerals.{add-one}
 use native.Mathlib.Omega.{arith}
 use lib.ListN.{length, getD, drop, set, length-map, drop-of-length-le}
@@ -11,8 +11,8 @@ use Rattle.base.specs.Pick.{pick}
 use Rattle.base.specs.Words.{laid}
 use Rattle.base.proofs.Laid.{laid-cons, laid-none}
 use Rattle.base.proofs.Pick.{pick-case}
-use Rattle.lines.specs.Fields.{firstLength, fieldsBehind, fieldsFrom}
-use Rattle.lines.specs.Numbers.{fits, worthOf}
+use Rattle.lines.specs.Fields.{firstLength, fieldsBehind, behind, fieldsFrom}
+use Rattle.lines.specs.Numbers.{fits, worthOf, wordsIn}
 use Rattle.lines.specs.Kinds.{Walked, shapesOf, takesWords, whatOf, wrong, walked, wordsFit, endFits}
 use Rattle.lines.specs.Said.{restFits, verdictOf, wordsOf, Says}
 use Rattle.lines.specs.declared.Kind.{Kind}
@@ -24,11 +24,16 @@ use Rattle.lines.specs.declared.Wrong.{Wrong}
 use Rattle.lines.proofs.Splitting.{rest, fields-split}
 
 -- behind any place but the line's end there is a field
-pub some-behind : (line : List ℕ) (at : ℕ) → at < length line → fieldsBehind (drop at line) ≡ fieldsFrom (drop (at + 1) line) (firstLength (drop (at + 1) line))
+pub some-behind : (line : List ℕ) (at : ℕ) → at < length line
+    → behind line at ≡ fieldsFrom (drop (at + 1) line) (firstLength (drop (at + 1) line))
 some-behind line at h = ap fieldsBehind (rest line at h) ∙ fields-split (drop (at + 1) line)
 
 next : (ss : List Shape) (i : ℕ) → i < length ss → drop i ss ≡ getD ss i Shape.Word ∷ drop (i + 1) ss
 next ss i h = rw (add-one i) (drop-cons ss i Shape.Word h)
+
+-- what comes of a field and its shape, with the walk from there on
+abbrev stepped : ℕ → Shape → List ℕ → Walked → Walked
+stepped k s f next = pick (fits s f) next (Walked.Bad (wrong k (whatOf s)))
 
 -- a turn of the walk over the shapes: the next shape is there, and the field is missing, wrong or right
 module _ (ss : List Shape) (i : ℕ) (h : i < length ss) {fs : List (List ℕ)} where
@@ -37,13 +42,12 @@ module _ (ss : List Shape) (i : ℕ) (h : i < length ss) {fs : List (List ℕ)} 
   walked-missing e = ap₂ (walked (2 + i)) (next ss i h) e
 
   pub walked-turn : {f : List ℕ} {gs : List (List ℕ)} → fs ≡ f ∷ gs
-      → walked (2 + i) (drop i ss) fs
-      ≡ pick (fits (getD ss i Shape.Word) f) (walked (2 + (i + 1)) (drop (i + 1) ss) gs) (Walked.Bad (wrong (2 + i) (whatOf (getD ss i Shape.Word))))
+      → walked (2 + i) (drop i ss) fs ≡ stepped (2 + i) (getD ss i Shape.Word) f (walked (2 + (i + 1)) (drop (i + 1) ss) gs)
   unfolding walked
   walked-turn {f} {gs} e =
       let k : 2 + i + 1 ≡ 2 + (i + 1) = omega arith in
       ap₂ (walked (2 + i)) (next ss i h) e
-      ∙ ap (λ (n : ℕ). pick (fits (getD ss i Shape.Word) f) (walked n (drop (i + 1) ss) gs) (Walked.Bad (wrong (2 + i) (whatOf (getD ss i Shape.Word))))) k
+      ∙ ap (λ (n : ℕ). stepped (2 + i) (getD ss i Shape.Word) f (walked n (drop (i + 1) ss) gs)) k
 
 pub walked-end : (ss : List Shape) (i : ℕ) (fs : List (List ℕ)) → length ss ≤ i → walked (2 + i) (drop i ss) fs ≡ Walked.Left fs
 unfolding walked
@@ -96,29 +100,30 @@ pub fits-room : (kind : Kind) (room : ℕ) (fs : List (List ℕ)) → takesWords
 unfolding verdictOf
 fits-room kind room fs t h = by-walk (walked 2 (shapesOf kind) (drop 1 fs)) refl h
   where
-  by-walk : (w : Walked) → walked 2 (shapesOf kind) (drop 1 fs) ≡ w → restFits kind room w ≡ Verdict.Fits
-      → length (drop (length (shapesOf kind)) (drop 1 fs)) ≤ room
-  by-walk (Walked.Left gs) e f =
-      let l = walked-left 2 (shapesOf kind) (drop 1 fs) gs e in
-      let g : wordsFit (2 + length (shapesOf kind)) room gs ≡ Verdict.Fits =
-      sym (ap (λ (b : Bool). pick b (wordsFit (2 + length (shapesOf kind)) room gs) (endFits (2 + length (shapesOf kind)) gs)) t) ∙ f in
-      rw (sym l) (words-room (2 + length (shapesOf kind)) room gs g)
-  by-walk (Walked.Bad w) e f = absurd (not-fits f)
+    by-walk : (w : Walked) → walked 2 (shapesOf kind) (drop 1 fs) ≡ w → restFits kind room w ≡ Verdict.Fits
+        → length (drop (length (shapesOf kind)) (drop 1 fs)) ≤ room
+    by-walk (Walked.Left gs) e f =
+        let l = walked-left 2 (shapesOf kind) (drop 1 fs) gs e in
+        let g : wordsFit (2 + length (shapesOf kind)) room gs ≡ Verdict.Fits =
+        sym (ap (λ (b : Bool). pick b (wordsFit (2 + length (shapesOf kind)) room gs) (endFits (2 + length (shapesOf kind)) gs)) t) ∙ f in
+        rw (sym l) (words-room (2 + length (shapesOf kind)) room gs g)
+    by-walk (Walked.Bad w) e f = absurd (not-fits f)
 
 -- a turn of the loop that stores words, and its end
 module _ (words : List ℕ) (i : ℕ) {fs : List (List ℕ)} where
   pub store-turn : {f : List ℕ} {gs : List (List ℕ)} {w : ℕ} → fs ≡ f ∷ gs → w ≡ worthOf Shape.Word f → i + length fs ≤ length words
-      → laid words i (map (worthOf Shape.Word) fs) ≡ laid (set words i w) (i + 1) (map (worthOf Shape.Word) gs)
+      → laid words i (wordsIn fs) ≡ laid (set words i w) (i + 1) (wordsIn gs)
   store-turn {f} {gs} {w} e v h =
       let l = length-map gs (worthOf Shape.Word) in
       let n : length fs ≡ suc (length gs) = ap length e in
-      ap (λ (l : List (List ℕ)). laid words i (map (worthOf Shape.Word) l)) e
-      ∙ ap (λ (x : ℕ). laid words i (x ∷ map (worthOf Shape.Word) gs)) (sym v)
-      ∙ laid-cons words i w (map (worthOf Shape.Word) gs) (omega arith)
+      ap (λ (l : List (List ℕ)). laid words i (wordsIn l)) e
+      ∙ ap (λ (x : ℕ). laid words i (x ∷ wordsIn gs)) (sym v)
+      ∙ laid-cons words i w (wordsIn gs) (omega arith)
 
-  pub store-end : fs ≡ [] → laid words i (map (worthOf Shape.Word) fs) ≡ words
-  store-end e = ap (λ (l : List (List ℕ)). laid words i (map (worthOf Shape.Word) l)) e ∙ sym (laid-none words i)
+  pub store-end : fs ≡ [] → laid words i (wordsIn fs) ≡ words
+  store-end e = ap (λ (l : List (List ℕ)). laid words i (wordsIn l)) e ∙ sym (laid-none words i)
 
 -- what is said may be put in other words
-pub says-by : {d e : Said} (fs : List (List ℕ)) (ws : List ℕ) {r : Said} {after : List ℕ} → d ≡ e → Says e fs ws r after → Says d fs ws r after
+pub says-by : {d e : Said} (fs : List (List ℕ)) (ws : List ℕ) {r : Said} {after : List ℕ} → d ≡ e
+    → Says e fs ws r after → Says d fs ws r after
 says-by fs ws p h = (h .0 ∙ sym p, h .1 ∙ sym (ap (λ (x : Said). laid ws 0 (wordsOf x fs)) p))

@@ -1,7 +1,7 @@
 -- Worked examples of lines, as one statement that computes. 01 'Examples', docs/BENCH.md 'Lines' and 'Answers'. Assumes nothing.
 use Prim.Native.Nat.{ℕ}
 use mathlib.Core.Path.{_≡_}
-use mathlib.Core.Bool.{Bool, true}
+use mathlib.Core.Bool.{true}
 use mathlib.Core.List.{List, [], _∷_}
 use Rattle.lines.specs.Kinds.{wrong}
 use Rattle.lines.specs.Said.{said, stored}

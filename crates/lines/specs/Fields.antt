@@ -48,9 +48,13 @@ abbrev pub fieldsBehind : List ℕ → List (List ℕ)
 fieldsBehind [] = []
 fieldsBehind (b ∷ s) = fields s
 
+-- The fields behind a place of a line, where a field ends.
+abbrev pub behind : List ℕ → ℕ → List (List ℕ)
+behind line at = fieldsBehind (drop at line)
+
 -- The fields of a line whose first field ends at a place.
 abbrev pub fieldsFrom : List ℕ → ℕ → List (List ℕ)
-fieldsFrom line first = take first line ∷ fieldsBehind (drop first line)
+fieldsFrom line first = take first line ∷ behind line first
 
 -- Two runs of bytes are the same.
 unfoldable pub same : List ℕ → List ℕ → Bool
@@ -61,6 +65,6 @@ same (a ∷ s) (b ∷ t) = pick (eqb a b) (same s t) false
 
 -- The field behind a place ends at `end`, and the other fields stand behind that.
 pub record FieldEnd (line : List ℕ) (at end : ℕ) : Type 0 where
-  pub behind : at < end
+  pub after : at < end
   pub inside : end ≤ length line
-  pub splits : fieldsBehind (drop at line) ≡ part line (at + 1) (end - (at + 1)) ∷ fieldsBehind (drop end line)
+  pub splits : behind line at ≡ part line (at + 1) (end - (at + 1)) ∷ behind line end

@@ -2,9 +2,8 @@
 use Prim.Native.Nat.{ℕ, zero, suc, _+_, _≤_}
 use mathlib.Core.Bool.{Bool, true, false}
 use mathlib.Core.List.{List, [], _∷_}
-use lib.ListN.{drop}
 use Rattle.base.specs.Pick.{pick}
-use Rattle.lines.specs.Fields.{fieldsBehind, same}
+use Rattle.lines.specs.Fields.{behind, same}
 use Rattle.lines.specs.Numbers.{fits}
 use Rattle.lines.specs.Text.{bytes}
 use Rattle.lines.specs.declared.Kind.{Kind}
@@ -84,7 +83,7 @@ endFits k (f ∷ fs) = Verdict.No (wrong k What.TooMany)
 
 -- A step of the code along a line, as the fields that are left, and that it ends inside the line.
 abbrev pub leftOf : List ℕ → Step → Walked
-leftOf line (Step.To at) = Walked.Left (fieldsBehind (drop at line))
+leftOf line (Step.To at) = Walked.Left (behind line at)
 leftOf line (Step.Bad w) = Walked.Bad w
 
 abbrev pub Inside : ℕ → Step → Type 0

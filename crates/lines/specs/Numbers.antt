@@ -1,7 +1,7 @@
 -- What a field is worth: decimal and hex numbers, BC and flag. docs/BENCH.md 'Lines'. Assumes nothing.
 use Prim.Native.Nat.{ℕ, _+_, _-_, _*_}
 use mathlib.Core.Bool.{Bool, true, false, _&&_}
-use mathlib.Core.List.{List, [], _∷_}
+use mathlib.Core.List.{List, [], _∷_, map}
 use lib.Dec.{eqb, leb, ltb}
 use lib.ListN.{length}
 use Rattle.base.specs.Pick.{pick}
@@ -77,3 +77,7 @@ worth Value.Isnt = 0
 
 abbrev pub worthOf : Shape → List ℕ → ℕ
 worthOf shape s = worth (valueOf shape s)
+
+-- The words that fields of four hex digits are.
+abbrev pub wordsIn : List (List ℕ) → List ℕ
+wordsIn fs = map (worthOf Shape.Word) fs

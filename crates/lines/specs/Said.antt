@@ -1,14 +1,13 @@
 -- What a line says, and what it leaves in the buffer for words. docs/BENCH.md 'Lines' and 'Answers', 01 'Examples'. Assumes nothing.
 use Prim.Native.Nat.{ℕ, _+_}
 use mathlib.Core.Path.{_≡_}
-use mathlib.Core.Bool.{Bool}
-use mathlib.Core.List.{List, [], _∷_, map}
+use mathlib.Core.List.{List, []}
 use lib.Dec.{eqb}
 use lib.ListN.{length, getD, drop}
 use Rattle.base.specs.Pick.{pick}
 use Rattle.base.specs.Words.{laid}
 use Rattle.lines.specs.Fields.{bodyOf, isQuiet, fields}
-use Rattle.lines.specs.Numbers.{worthOf}
+use Rattle.lines.specs.Numbers.{worthOf, wordsIn}
 use Rattle.lines.specs.Kinds.{Walked, namedBy, shapesOf, takesWords, wrong, walked, wordsFit, endFits}
 use Rattle.lines.specs.declared.Kind.{Kind}
 use Rattle.lines.specs.declared.Named.{Named}
@@ -77,8 +76,8 @@ said line room = bodySaid (bodyOf line) room
 
 -- The words of a request or a reply; no other line has any, and a line that can't be read has none.
 abbrev pub wordsOf : Said → List (List ℕ) → List ℕ
-wordsOf (Said.Request r) fs = map (worthOf Shape.Word) (drop 2 fs)
-wordsOf (Said.Reply r) fs = map (worthOf Shape.Word) (drop 6 fs)
+wordsOf (Said.Request r) fs = wordsIn (drop 2 fs)
+wordsOf (Said.Reply r) fs = wordsIn (drop 6 fs)
 wordsOf Said.Nothing fs = []
 wordsOf Said.Poll fs = []
 wordsOf (Said.Erase n) fs = []

@@ -2,7 +2,7 @@
 ghost use Prim.Native.Nat.{_≤_, _<_};
 ghost use mathlib.Core.Path.{_≡_};
 ghost use lib.ListN.{length, drop};
-ghost use Rattle.lines.specs.Fields.{bodyLength, isSpace, isBlank, isQuiet, firstLength, fieldsBehind, same, FieldEnd};
+ghost use Rattle.lines.specs.Fields.{bodyLength, isSpace, isBlank, isQuiet, firstLength, behind, same, FieldEnd};
 
 // The length of a line without the \r that may stand before its end.
 pub(crate) fn body_length(line: &[u8]) -> usize
@@ -96,7 +96,7 @@ pub(crate) fn field_end(line: &[u8], at: usize) -> usize
 // The place behind so many fields more, or the line's end where it has fewer.
 pub(crate) fn skip(line: &[u8], from: usize, n: usize) -> usize
     requires { ⌜ from ≤ length (now line) ⌝ }
-    ensures { λ r. ⌜ (r ≤ length (now (line .entry))) × (fieldsBehind (drop r (now (line .entry))) ≡ drop n (fieldsBehind (drop from (now (line .entry))))) ⌝ }
+    ensures { λ r. ⌜ (r ≤ length (now (line .entry))) × (behind (now (line .entry)) r ≡ drop n (behind (now (line .entry)) from)) ⌝ }
 {
     let mut at = from;
     let mut left = n;

@@ -1,8 +1,8 @@
 // The kinds of line, and whether the fields of a line are those of its kind.
 ghost use Prim.Native.Nat.{_≤_};
 ghost use mathlib.Core.Path.{_≡_};
-ghost use lib.ListN.{length, getD, drop};
-ghost use Rattle.lines.specs.Fields.{fieldsBehind};
+ghost use lib.ListN.{length, getD};
+ghost use Rattle.lines.specs.Fields.{behind};
 ghost use mathlib.Core.List.{[], _∷_};
 ghost use Rattle.lines.specs.Kinds.{Walked, namedBy, shapesOf, takesWords, whatOf, walked, wordsFit, leftOf, Inside};
 ghost use Rattle.lines.specs.declared.Kind.{Kind};
@@ -128,7 +128,7 @@ fn what_of(shape: Shape) -> What
 // Walks the fields that a line must have, behind the first.
 fn walk(line: &[u8], from: usize, kind: Kind) -> Step
     requires { ⌜ from ≤ length (now line) ⌝ }
-    ensures { λ r. ⌜ (leftOf (now (line .entry)) r ≡ walked 2 (shapesOf kind) (fieldsBehind (drop from (now (line .entry))))) × Inside (length (now (line .entry))) r ⌝ }
+    ensures { λ r. ⌜ (leftOf (now (line .entry)) r ≡ walked 2 (shapesOf kind) (behind (now (line .entry)) from)) × Inside (length (now (line .entry))) r ⌝ }
 {
     let n = must_have(kind);
     let mut at = from;
@@ -157,7 +157,7 @@ fn walk(line: &[u8], from: usize, kind: Kind) -> Step
 // Walks the words behind a place, the first of them in field k.
 fn walk_words(line: &[u8], from: usize, k: usize, room: usize) -> Verdict
     requires { ⌜ (from ≤ length (now line)) × (k ≤ 7) ⌝ }
-    ensures { λ r. ⌜ r ≡ wordsFit k room (fieldsBehind (drop from (now (line .entry)))) ⌝ }
+    ensures { λ r. ⌜ r ≡ wordsFit k room (behind (now (line .entry)) from) ⌝ }
 {
     let mut at = from;
     let mut i: usize = 0;
@@ -184,7 +184,7 @@ fn walk_words(line: &[u8], from: usize, k: usize, room: usize) -> Verdict
 // What follows the fields that a line must have: words, or nothing.
 fn walk_rest(line: &[u8], at: usize, kind: Kind, room: usize) -> Verdict
     requires { ⌜ at ≤ length (now line) ⌝ }
-    ensures { λ r. ⌜ r ≡ restFits kind room (Walked.Left (fieldsBehind (drop at (now (line .entry))))) ⌝ }
+    ensures { λ r. ⌜ r ≡ restFits kind room (Walked.Left (behind (now (line .entry)) at)) ⌝ }
 {
     let k = 2 + must_have(kind);
     if takes_words(kind) {
@@ -202,7 +202,7 @@ fn walk_rest(line: &[u8], at: usize, kind: Kind, room: usize) -> Verdict
 // Whether the fields behind the first are those of the kind, with room for so many words.
 pub(crate) fn check(line: &[u8], first: usize, kind: Kind, room: usize) -> Verdict
     requires { ⌜ first ≤ length (now line) ⌝ }
-    ensures { λ r. ⌜ r ≡ restFits kind room (walked 2 (shapesOf kind) (fieldsBehind (drop first (now (line .entry))))) ⌝ }
+    ensures { λ r. ⌜ r ≡ restFits kind room (walked 2 (shapesOf kind) (behind (now (line .entry)) first)) ⌝ }
 {
     let step = walk(line, first, kind);
     match step {

@@ -1,11 +1,11 @@
 // What a line says: its kind, the check of its fields, and then what they are worth.
 ghost use Prim.Native.Nat.{_≤_};
 ghost use mathlib.Core.Path.{_≡_};
-ghost use mathlib.Core.List.{[], map};
+ghost use mathlib.Core.List.{[]};
 ghost use lib.ListN.{length, getD, drop};
 ghost use Rattle.base.specs.Words.{laid};
-ghost use Rattle.lines.specs.Fields.{fieldsBehind, fieldsFrom, fields};
-ghost use Rattle.lines.specs.Numbers.{limitOf, worthOf};
+ghost use Rattle.lines.specs.Fields.{behind, fieldsFrom, fields};
+ghost use Rattle.lines.specs.Numbers.{limitOf, worthOf, wordsIn};
 ghost use Rattle.lines.specs.Said.{verdictOf, requestOf, replyOf, taken, saidBy, bodySaid, Says};
 ghost use Rattle.lines.specs.declared.Named.{Named};
 ghost use Rattle.lines.specs.declared.Shape.{Shape};
@@ -30,7 +30,7 @@ use crate::numbers::worth;
 // What the field behind a place is worth; 0 at the line's end.
 fn worth_behind(line: &[u8], at: usize, shape: Shape) -> u64
     requires { ⌜ at ≤ length (now line) ⌝ }
-    ensures { λ r. ⌜ (r ≡ worthOf shape (getD (fieldsBehind (drop at (now (line .entry)))) 0 [])) × (r ≤ limitOf shape) ⌝ }
+    ensures { λ r. ⌜ (r ≡ worthOf shape (getD (behind (now (line .entry)) at) 0 [])) × (r ≤ limitOf shape) ⌝ }
 {
     if at == line.len() {
         return 0;
@@ -42,7 +42,7 @@ fn worth_behind(line: &[u8], at: usize, shape: Shape) -> u64
 // What a field is worth, n fields behind a place.
 fn item(line: &[u8], at: usize, n: usize, shape: Shape) -> u64
     requires { ⌜ at ≤ length (now line) ⌝ }
-    ensures { λ r. ⌜ (r ≡ worthOf shape (getD (fieldsBehind (drop at (now (line .entry)))) n [])) × (r ≤ limitOf shape) ⌝ }
+    ensures { λ r. ⌜ (r ≡ worthOf shape (getD (behind (now (line .entry)) at) n [])) × (r ≤ limitOf shape) ⌝ }
 {
     let place = skip(line, at, n);
     worth_behind(line, place, shape)
@@ -51,7 +51,7 @@ fn item(line: &[u8], at: usize, n: usize, shape: Shape) -> u64
 // The same for a shape of 32 bits ..
 fn item32(line: &[u8], at: usize, n: usize, shape: Shape) -> u32
     requires { ⌜ (at ≤ length (now line)) × (limitOf shape ≤ 4294967295) ⌝ }
-    ensures { λ r. ⌜ r ≡ worthOf shape (getD (fieldsBehind (drop at (now (line .entry)))) n []) ⌝ }
+    ensures { λ r. ⌜ r ≡ worthOf shape (getD (behind (now (line .entry)) at) n []) ⌝ }
 {
     let value = item(line, at, n, shape);
     value as u32
@@ -60,7 +60,7 @@ fn item32(line: &[u8], at: usize, n: usize, shape: Shape) -> u32
 // .. and for a word.
 fn item16(line: &[u8], at: usize, n: usize) -> u16
     requires { ⌜ at ≤ length (now line) ⌝ }
-    ensures { λ r. ⌜ r ≡ worthOf Shape.Word (getD (fieldsBehind (drop at (now (line .entry)))) n []) ⌝ }
+    ensures { λ r. ⌜ r ≡ worthOf Shape.Word (getD (behind (now (line .entry)) at) n []) ⌝ }
 {
     let value = item(line, at, n, Shape::Word);
     value as u16
@@ -84,8 +84,8 @@ fn word_of(field: &[u8]) -> u16
 
 // Stores the words behind a place, and says how many they are.
 fn store(line: &[u8], from: usize, words: &mut [u16]) -> usize
-    requires { ⌜ (from ≤ length (now line)) × (length (fieldsBehind (drop from (now line))) ≤ length (now words)) ⌝ }
-    ensures { λ r. ⌜ (r ≡ length (fieldsBehind (drop from (now (line .entry))))) × (now (words .exit) ≡ laid (now (words .entry)) 0 (map (worthOf Shape.Word) (fieldsBehind (drop from (now (line .entry)))))) ⌝ }
+    requires { ⌜ (from ≤ length (now line)) × (length (behind (now line) from) ≤ length (now words)) ⌝ }
+    ensures { λ r. ⌜ (r ≡ length (behind (now (line .entry)) from)) × (now (words .exit) ≡ laid (now (words .entry)) 0 (wordsIn (behind (now (line .entry)) from))) ⌝ }
 {
     let mut at = from;
     let mut i: usize = 0;
@@ -100,8 +100,8 @@ fn store(line: &[u8], from: usize, words: &mut [u16]) -> usize
 
 // Stores the words n fields behind a place, and says how many they are.
 fn store_behind(line: &[u8], at: usize, n: usize, words: &mut [u16]) -> usize
-    requires { ⌜ (at ≤ length (now line)) × (length (drop n (fieldsBehind (drop at (now line)))) ≤ length (now words)) ⌝ }
-    ensures { λ r. ⌜ (r ≡ length (drop n (fieldsBehind (drop at (now (line .entry)))))) × (now (words .exit) ≡ laid (now (words .entry)) 0 (map (worthOf Shape.Word) (drop n (fieldsBehind (drop at (now (line .entry))))))) ⌝ }
+    requires { ⌜ (at ≤ length (now line)) × (length (drop n (behind (now line) at)) ≤ length (now words)) ⌝ }
+    ensures { λ r. ⌜ (r ≡ length (drop n (behind (now (line .entry)) at))) × (now (words .exit) ≡ laid (now (words .entry)) 0 (wordsIn (drop n (behind (now (line .entry)) at)))) ⌝ }
 {
     let place = skip(line, at, n);
     store(line, place, words)
@@ -109,8 +109,8 @@ fn store_behind(line: &[u8], at: usize, n: usize, words: &mut [u16]) -> usize
 
 // A request, whose first field ends at `first`.
 fn request(line: &[u8], first: usize, words: &mut [u16]) -> Request
-    requires { ⌜ (first ≤ length (now line)) × (length (drop 1 (fieldsBehind (drop first (now line)))) ≤ length (now words)) ⌝ }
-    ensures { λ r. ⌜ (r ≡ requestOf (fieldsFrom (now (line .entry)) first)) × (now (words .exit) ≡ laid (now (words .entry)) 0 (map (worthOf Shape.Word) (drop 1 (fieldsBehind (drop first (now (line .entry))))))) ⌝ }
+    requires { ⌜ (first ≤ length (now line)) × (length (drop 1 (behind (now line) first)) ≤ length (now words)) ⌝ }
+    ensures { λ r. ⌜ (r ≡ requestOf (fieldsFrom (now (line .entry)) first)) × (now (words .exit) ≡ laid (now (words .entry)) 0 (wordsIn (drop 1 (behind (now (line .entry)) first)))) ⌝ }
 {
     let link = link_of(&line[0..first]);
     let bc = item32(line, first, 0, Shape::Bc);
@@ -120,8 +120,8 @@ fn request(line: &[u8], first: usize, words: &mut [u16]) -> Request
 
 // What a slave replied.
 fn reply(line: &[u8], first: usize, words: &mut [u16]) -> Reply
-    requires { ⌜ (first ≤ length (now line)) × (length (drop 5 (fieldsBehind (drop first (now line)))) ≤ length (now words)) ⌝ }
-    ensures { λ r. ⌜ (r ≡ replyOf (fieldsFrom (now (line .entry)) first)) × (now (words .exit) ≡ laid (now (words .entry)) 0 (map (worthOf Shape.Word) (drop 5 (fieldsBehind (drop first (now (line .entry))))))) ⌝ }
+    requires { ⌜ (first ≤ length (now line)) × (length (drop 5 (behind (now line) first)) ≤ length (now words)) ⌝ }
+    ensures { λ r. ⌜ (r ≡ replyOf (fieldsFrom (now (line .entry)) first)) × (now (words .exit) ≡ laid (now (words .entry)) 0 (wordsIn (drop 5 (behind (now (line .entry)) first)))) ⌝ }
 {
     let slave = item32(line, first, 0, Shape::Number32);
     let bc = item32(line, first, 1, Shape::Bc);

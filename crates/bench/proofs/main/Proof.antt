@@ -1,14 +1,17 @@
--- `bench::main` meets its contract: the line, the words and all memories keep their lengths. The measure is how many turns are left. Assumes nothing.
+-- `bench::main` meets its contract: the line, the words and all memories keep their lengths. The measure is how many turns are left.
+-- Assumes nothing.
+use mathlib.Core.Path.{_∙_, _≡_}
 use mathlib.Core.Path.{_∙_, _≡_}
 use native.Mathlib.Omega.{arith}
-use mathlib.Core.Path.{_∙_, _≡_}
-use lib.ListN.{length}
 use borrow.Author.Needs.{needs}
+use lib.ListN.{length}
 use Rattle.bench.proofs.main.Statement.{statement}
 use Rattle.bench.proofs.main.Tie as tie
 
 abbrev Inv-loop : tie.InvT-loop
-Inv-loop bytes₀ words₀ held₀ flash₀ pm₀ dm₀ io₀ reply₀ after₀ line₀ turns₀ bytes words held flash pm dm io reply after line turns = (((length bytes ≡ 200000) × (length words ≡ 40000)) × ((length held ≡ 8192) × (length flash ≡ 32768))) × (((length pm ≡ 32768) × (length dm ≡ 32768)) × ((length io ≡ 4096) × (length reply ≡ 12288)))
+Inv-loop bytes₀ words₀ held₀ flash₀ pm₀ dm₀ io₀ reply₀ after₀ line₀ turns₀ bytes words held flash pm dm io reply after line turns =
+    (((length bytes ≡ 200000) × (length words ≡ 40000)) × ((length held ≡ 8192) × (length flash ≡ 32768)))
+    × (((length pm ≡ 32768) × (length dm ≡ 32768)) × ((length io ≡ 4096) × (length reply ≡ 12288)))
 
 abbrev μ-loop : tie.MeasureT-loop
 μ-loop bytes₀ words₀ held₀ flash₀ pm₀ dm₀ io₀ reply₀ after₀ line₀ turns₀ bytes words held flash pm dm io reply after line turns = turns
@@ -95,10 +98,27 @@ turn-requires : tie.Need-turn-requires Inv-loop μ-loop
 turn-requires c κs = search needs
 
 loop-less : tie.Need-loop-less Inv-loop μ-loop
-loop-less c = omega (arith, c .before .before .before .before .before .before .before .before .before .before .before .before .before .before .before .before .before .before .before .before .before .before .before .before .loop-test .taken)
+loop-less c =
+    omega (
+      arith,
+      c .before .before .before .before .before .before .before .before .before .before .before .before .before .before
+          .before .before .before .before .before .before .before .before .before .before .loop-test .taken,
+    )
 
 loop-again : tie.Need-loop-again Inv-loop μ-loop
-loop-again c = (((c .before .before .before .before .before .before .before .before .before .before .before .before .before .before .before .before .before .before .before .before .before .before .next-line .kept .0 ∙ c .before .before .before .before .before .before .before .before .before .before .before .before .before .before .before .before .before .before .before .before .before .before .before .before .before .loop .inv .0 .0 .0, search needs), (search needs, search needs)), ((search needs, search needs), (search needs, search needs)))
+loop-again c = (
+  (
+    (
+      c .before .before .before .before .before .before .before .before .before .before .before .before .before .before .before .before
+          .before .before .before .before .before .before .next-line .kept .0
+          ∙ c .before .before .before .before .before .before .before .before .before .before .before .before .before .before .before .before
+          .before .before .before .before .before .before .before .before .before .loop .inv .0 .0 .0,
+      search needs,
+    ),
+    (search needs, search needs),
+  ),
+  ((search needs, search needs), (search needs, search needs)),
+)
 
 returns-2 : tie.Need-returns-2 Inv-loop μ-loop
 returns-2 c = search needs

@@ -1,8 +1,9 @@
--- `feed::fill` meets its contract: each read stays inside the buffer, which keeps its length. The measure is the room that is left. Assumes nothing.
+-- `feed::fill` meets its contract: each read stays inside the buffer, which keeps its length. The measure is the room that is left. Assumes
+-- nothing.
 use Prim.Native.Nat.{_-_, _≤_}
 use mathlib.Core.Path.{_≡_}
-use lib.ListN.{length}
 use borrow.Author.Needs.{needs}
+use lib.ListN.{length}
 use Rattle.feed.proofs.fill.Statement.{statement}
 use Rattle.feed.proofs.fill.Tie as tie
 

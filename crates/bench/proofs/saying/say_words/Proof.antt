@@ -1,8 +1,8 @@
 -- `bench::saying::say_words` meets its contract: no turn passes the end of the words. The measure is how many are left. Assumes nothing.
 use Prim.Native.Nat.{_-_, _≤_}
 use mathlib.Core.Path.{_≡_}
-use lib.ListN.{length}
 use borrow.Author.Needs.{needs}
+use lib.ListN.{length}
 use Rattle.bench.proofs.saying.say_words.Statement.{statement}
 use Rattle.bench.proofs.saying.say_words.Tie as tie
 

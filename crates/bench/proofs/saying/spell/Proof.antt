@@ -1,10 +1,10 @@
--- `bench::saying::spell` meets its contract: five bytes for each word lie in the text, which keeps its length. The measure is how many words are left.
--- Assumes nothing.
+-- `bench::saying::spell` meets its contract: five bytes for each word lie in the text, which keeps its length. The measure is how many
+-- words are left. Assumes nothing.
 use Prim.Native.Nat.{_-_, _*_, _≤_}
 use mathlib.Core.Path.{_≡_}
 use native.Mathlib.Omega.{arith}
-use lib.ListN.{length, length-set}
 use borrow.Author.Needs.{needs}
+use lib.ListN.{length, length-set}
 use Rattle.bench.proofs.saying.spell.Statement.{statement}
 use Rattle.bench.proofs.saying.spell.Tie as tie
 
@@ -87,7 +87,9 @@ loop-less : tie.Need-loop-less Inv-loop μ-loop
 loop-less c = search needs
 
 loop-again : tie.Need-loop-again Inv-loop μ-loop
-loop-again c = (omega arith, simp length-set (c .before .before .before .before .before .before .loop .inv .1), c .before .before .before .before .before .before .loop .inv .2)
+loop-again c =
+    let l = c .before .before .before .before .before .before .loop in
+    (omega arith, simp length-set (l .inv .1), l .inv .2)
 
 mul-result : tie.Need-mul-result Inv-loop μ-loop
 mul-result c = search needs

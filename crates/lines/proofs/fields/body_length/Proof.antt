@@ -1,14 +1,14 @@
 -- `lines::fields::body_length` meets its contract: one step for each test that led to a return. Assumes nothing.
-use lib.ListN.{List·getD-eq-default}
-use mathlib.Core.Path.{_≡_, refl, sym, ap, _∙_}
-use native.Mathlib.Omega.{arith}
 use Prim.Native.Nat.{ℕ, _-_}
+use mathlib.Core.Path.{_≡_, refl, sym}
 use mathlib.Core.List.{List}
-use lib.ListN.{length, getD, List·getD-eq-default}
+use native.Mathlib.Omega.{arith}
 use borrow.Author.Tests.{eq-eqb, ne-eqb}
+use borrow.Author.Needs.{needs}
+use lib.ListN.{List·getD-eq-default}
+use lib.ListN.{length, getD, List·getD-eq-default}
 use Rattle.base.proofs.Pick.{yes, no}
 use Rattle.lines.specs.Fields.{bodyLength}
-use borrow.Author.Needs.{needs}
 use Rattle.lines.proofs.fields.body_length.Statement.{statement}
 use Rattle.lines.proofs.fields.body_length.Tie as tie
 
@@ -18,7 +18,10 @@ nothing s e h = let z : getD s (length s - 1) 0 ≡ 0 = List·getD-eq-default s 
 
 returns : tie.Need-returns
 unfolding bodyLength
-returns c = let s = c .before .args .line .now in let e : length s ≡ 0 = c .if1 .taken in (no _ (ne-eqb _ _ (λ d. absurd (nothing s (omega arith) d))) (sym e), omega arith)
+returns c =
+    let s = c .before .args .line .now in
+    let e : length s ≡ 0 = c .if1 .taken in
+    (no _ (ne-eqb _ _ (λ d. absurd (nothing s (omega arith) d))) (sym e), omega arith)
 
 sub-if2 : tie.Need-sub-if2
 sub-if2 c = search needs

@@ -1,8 +1,6 @@
 -- `lines::fields::field_end` meets its contract: the bytes behind the tab begin with the field. Assumes nothing.
-use mathlib.Core.Path.{_≡_, refl, sym, ap, _∙_}
-use native.Mathlib.Omega.{arith}
-use Rattle.lines.proofs.Splitting.{field-behind}
 use borrow.Author.Needs.{needs}
+use Rattle.lines.proofs.Splitting.{field-behind}
 use Rattle.lines.proofs.fields.field_end.Statement.{statement}
 use Rattle.lines.proofs.fields.field_end.Tie as tie
 
@@ -25,7 +23,11 @@ add-result : tie.Need-add-result
 add-result c = search needs
 
 returns : tie.Need-returns
-returns c = let line = c .before .before .before .args .line .now in field-behind line (c .before .before .before .args .at) (c .first-length .result) (c .before .before .before .pre) (c .first-length .ensures .0) (c .first-length .ensures .1)
+returns c =
+    let a = c .before .before .before .args in
+    let line = a .line .now in
+    field-behind line (a .at) (c .first-length .result) (c .before .before .before .pre) (c .first-length .ensures .0)
+    (c .first-length .ensures .1)
 
 pub field-end-spec : {M : Type 1} → statement M
 field-end-spec =

@@ -2,13 +2,13 @@
 use Prim.Native.Nat.{ℕ}
 use mathlib.Core.Bool.{true}
 use mathlib.Core.List.{List, [], _∷_}
-use lib.ListN.{length}
-use mathlib.Core.Path.{_≡_, refl, sym, ap, _∙_}
+use mathlib.Core.Path.{_≡_, refl}
 use native.Mathlib.Omega.{arith}
 use borrow.Author.Tests.{eq-eqb, ne-eqb}
+use borrow.Author.Needs.{needs}
+use lib.ListN.{length}
 use Rattle.base.proofs.Pick.{yes, no}
 use Rattle.lines.specs.Fields.{isBlank, isQuiet}
-use borrow.Author.Needs.{needs}
 use Rattle.lines.proofs.fields.is_quiet.Statement.{statement}
 use Rattle.lines.proofs.fields.is_quiet.Tie as tie
 

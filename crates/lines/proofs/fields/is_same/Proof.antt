@@ -1,14 +1,14 @@
--- `lines::fields::is_same` meets its contract. The loop's invariant: the rests are the same just where the runs are. The measure is the length of a rest.
--- Assumes nothing.
-use mathlib.Core.Path.{_≡_, refl, sym, ap, _∙_}
+-- `lines::fields::is_same` meets its contract. The loop's invariant: the rests are the same just where the runs are. The measure is the
+-- length of a rest. Assumes nothing.
+use Prim.Native.Nat.{_-_, _≤_}
+use mathlib.Core.Path.{_≡_, refl, sym, _∙_}
 use native.Mathlib.Omega.{arith}
-use Prim.Native.Nat.{ℕ, _+_, _-_, _≤_, _<_}
-use lib.ListN.{length, drop}
-use Rattle.base.proofs.Pick.{yes, no}
 use borrow.Author.Tests.{eq-eqb, ne-eqb}
+use borrow.Author.Needs.{needs}
+use lib.ListN.{drop}
+use Rattle.base.proofs.Pick.{yes, no}
 use Rattle.lines.specs.Fields.{same}
 use Rattle.lines.proofs.Splitting.{same-turn, same-end, same-length}
-use borrow.Author.Needs.{needs}
 use Rattle.lines.proofs.fields.is_same.Statement.{statement}
 use Rattle.lines.proofs.fields.is_same.Tie as tie
 
@@ -31,7 +31,12 @@ shared-slice-read-if2-2 : tie.Need-shared-slice-read-if2-2 Inv-loop μ-loop
 shared-slice-read-if2-2 c = search needs
 
 returns-2 : tie.Need-returns-2 Inv-loop μ-loop
-returns-2 c = let a = c .before .before .before .before .before .before .args .a .now in let b = c .before .before .before .before .before .before .args .b .now in sym (c .before .before .before .before .loop .inv .1 ∙ same-turn a b (c .before .before .before .before .loop .i) (omega arith) (omega arith) ∙ sym (no _ (ne-eqb _ _ (c .if2 .taken)) refl))
+returns-2 c =
+    let a′ = c .before .before .before .before .before .before .args in
+    let l = c .before .before .before .before .loop in
+    let a = a′ .a .now in
+    let b = a′ .b .now in
+    sym (l .inv .1 ∙ same-turn a b (l .i) (omega arith) (omega arith) ∙ sym (no _ (ne-eqb _ _ (c .if2 .taken)) refl))
 
 add-i : tie.Need-add-i Inv-loop μ-loop
 add-i c = search needs
@@ -40,10 +45,19 @@ loop-less : tie.Need-loop-less Inv-loop μ-loop
 loop-less c = search needs
 
 loop-again : tie.Need-loop-again Inv-loop μ-loop
-loop-again c = let a = c .before .before .before .before .before .before .args .a .now in let b = c .before .before .before .before .before .before .args .b .now in (omega arith, c .before .before .before .before .loop .inv .1 ∙ same-turn a b (c .before .before .before .before .loop .i) (omega arith) (omega arith) ∙ sym (yes _ (eq-eqb _ _ (c .if2 .left)) refl))
+loop-again c =
+    let a′ = c .before .before .before .before .before .before .args in
+    let l = c .before .before .before .before .loop in
+    let a = a′ .a .now in
+    let b = a′ .b .now in
+    (omega arith, l .inv .1 ∙ same-turn a b (l .i) (omega arith) (omega arith) ∙ sym (yes _ (eq-eqb _ _ (c .if2 .left)) refl))
 
 returns-3 : tie.Need-returns-3 Inv-loop μ-loop
-returns-3 c = let a = c .before .before .before .args .a .now in let b = c .before .before .before .args .b .now in sym (c .before .loop .inv .1 ∙ same-end a b (c .before .loop .i) (omega arith) (omega arith))
+returns-3 c =
+    let a′ = c .before .before .before .args in
+    let a = a′ .a .now in
+    let b = a′ .b .now in
+    sym (c .before .loop .inv .1 ∙ same-end a b (c .before .loop .i) (omega arith) (omega arith))
 
 pub is-same-spec : {M : Type 1} → statement M
 is-same-spec =

@@ -1,12 +1,9 @@
 -- `lines::kinds::check` meets its contract: by how far the walk came. Assumes nothing.
-use mathlib.Core.Path.{_≡_, sym, ap, subst, _∙_}
-use Prim.Native.Nat.{_≤_}
-use lib.ListN.{length, drop}
-use Rattle.lines.specs.Fields.{fieldsBehind}
+use mathlib.Core.Path.{sym, ap, subst, _∙_}
+use borrow.Author.Needs.{needs}
+use lib.ListN.{length}
 use Rattle.lines.specs.Kinds.{leftOf, Inside}
 use Rattle.lines.specs.Said.{restFits}
-use Rattle.lines.specs.declared.Step.{Step}
-use borrow.Author.Needs.{needs}
 use Rattle.lines.proofs.kinds.check.Statement.{statement}
 use Rattle.lines.proofs.kinds.check.Tie as tie
 
@@ -20,13 +17,21 @@ enum-known-step-2 : tie.Need-enum-known-step-2
 enum-known-step-2 c = search needs
 
 walk-rest-requires : tie.Need-walk-rest-requires
-walk-rest-requires c κs = subst (Inside (length (c .before .before .before .before .before .args .line .now))) (c .before .step2 .given .1) (c .before .before .before .walk .ensures .1)
+walk-rest-requires c κs =
+    subst (Inside (length (c .before .before .before .before .before .args .line .now))) (c .before .step2 .given .1)
+    (c .before .before .before .walk .ensures .1)
 
 returns : tie.Need-returns
-returns c = ap (restFits (c .before .before .before .before .before .args .kind) (c .before .before .before .before .before .args .room)) (sym (ap (leftOf (c .before .before .before .before .before .args .line .now)) (c .before .step .given .1)) ∙ c .before .before .before .walk .ensures .0)
+returns c =
+    let a = c .before .before .before .before .before .args in
+    ap (restFits (a .kind) (a .room)) (sym (ap (leftOf (a .line .now)) (c .before .step .given .1))
+    ∙ c .before .before .before .walk .ensures .0)
 
 returns-2 : tie.Need-returns-2
-returns-2 c = c .walk-rest .ensures ∙ ap (restFits (c .before .before .before .before .before .before .args .kind) (c .before .before .before .before .before .before .args .room)) (sym (ap (leftOf (c .before .before .before .before .before .before .args .line .now)) (c .before .before .step2 .given .1)) ∙ c .before .before .before .before .walk .ensures .0)
+returns-2 c =
+    let a = c .before .before .before .before .before .before .args in
+    c .walk-rest .ensures ∙ ap (restFits (a .kind) (a .room))
+    (sym (ap (leftOf (a .line .now)) (c .before .before .step2 .given .1)) ∙ c .before .before .before .before .walk .ensures .0)
 
 pub check-spec : {M : Type 1} → statement M
 check-spec =

@@ -1,7 +1,6 @@
 -- `lines::kinds::first_or_word` meets its contract: only the first place has the shape. Assumes nothing.
-use mathlib.Core.Path.{_≡_, refl, sym, ap, _∙_}
-use native.Mathlib.Omega.{arith}
 use Prim.Native.Nat.{ℕ, zero, suc}
+use mathlib.Core.Path.{_≡_, refl, sym, ap}
 use mathlib.Core.List.{[], _∷_}
 use lib.ListN.{getD}
 use Rattle.lines.specs.declared.Shape.{Shape}

@@ -1,12 +1,11 @@
 -- `lines::kinds::reply_shape` meets its contract: place by place. Assumes nothing.
-use mathlib.Core.Path.{_≡_, refl, sym, ap, _∙_}
-use native.Mathlib.Omega.{arith}
 use Prim.Native.Nat.{ℕ, zero, suc}
+use mathlib.Core.Path.{_≡_, refl}
+use borrow.Author.Needs.{needs}
 use lib.ListN.{getD}
 use Rattle.lines.specs.Kinds.{shapesOf}
 use Rattle.lines.specs.declared.Kind.{Kind}
 use Rattle.lines.specs.declared.Shape.{Shape}
-use borrow.Author.Needs.{needs}
 use Rattle.lines.proofs.kinds.reply_shape.Statement.{statement}
 use Rattle.lines.proofs.kinds.reply_shape.Tie as tie
 

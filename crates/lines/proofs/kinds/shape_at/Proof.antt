@@ -1,12 +1,10 @@
 -- `lines::kinds::shape_at` meets its contract, kind by kind. Assumes nothing.
-use mathlib.Core.Path.{_≡_, refl, sym, ap, _∙_}
-use Prim.Native.Nat.{ℕ}
+use borrow.Author.Needs.{needs}
 use lib.ListN.{getD}
 use Rattle.base.proofs.Pick.{via}
 use Rattle.lines.specs.Kinds.{shapesOf}
 use Rattle.lines.specs.declared.Kind.{Kind}
 use Rattle.lines.specs.declared.Shape.{Shape}
-use borrow.Author.Needs.{needs}
 use Rattle.lines.proofs.kinds.shape_at.Statement.{statement}
 use Rattle.lines.proofs.kinds.shape_at.Tie as tie
 
@@ -44,7 +42,9 @@ enum-told-7 : tie.Need-enum-told-7
 enum-told-7 c = search needs
 
 returns : tie.Need-returns
-returns c = via (λ (k : Kind). getD (shapesOf k) (c .before .before .before .args .i) Shape.Word) (c .before .enum-told .given .1) (c .first-or-word .ensures)
+returns c =
+    via (λ (k : Kind). getD (shapesOf k) (c .before .before .before .args .i) Shape.Word) (c .before .enum-told .given .1)
+    (c .first-or-word .ensures)
 
 returns-2 : tie.Need-returns-2
 returns-2 c = search needs
@@ -53,10 +53,14 @@ returns-3 : tie.Need-returns-3
 returns-3 c = search needs
 
 returns-4 : tie.Need-returns-4
-returns-4 c = via (λ (k : Kind). getD (shapesOf k) (c .before .before .before .args .i) Shape.Word) (c .before .enum-told4 .given .1) (c .first-or-word2 .ensures)
+returns-4 c =
+    via (λ (k : Kind). getD (shapesOf k) (c .before .before .before .args .i) Shape.Word) (c .before .enum-told4 .given .1)
+    (c .first-or-word2 .ensures)
 
 returns-5 : tie.Need-returns-5
-returns-5 c = via (λ (k : Kind). getD (shapesOf k) (c .before .before .before .args .i) Shape.Word) (c .before .enum-told5 .given .1) (c .first-or-word3 .ensures)
+returns-5 c =
+    via (λ (k : Kind). getD (shapesOf k) (c .before .before .before .args .i) Shape.Word) (c .before .enum-told5 .given .1)
+    (c .first-or-word3 .ensures)
 
 returns-6 : tie.Need-returns-6
 returns-6 c = search needs

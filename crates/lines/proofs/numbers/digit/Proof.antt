@@ -1,10 +1,10 @@
 -- `lines::numbers::digit` meets its contract: one step for each test that led to a return. Assumes nothing.
 use mathlib.Core.Path.{refl}
-use borrow.Author.Tests.{leb-true}
 use native.Mathlib.Omega.{arith}
+use borrow.Author.Tests.{leb-true}
+use borrow.Author.Needs.{needs}
 use Rattle.base.proofs.Pick.{yes, no, and-left}
 use Rattle.lines.specs.Numbers.{digitOf}
-use borrow.Author.Needs.{needs}
 use Rattle.lines.proofs.numbers.digit.Statement.{statement}
 use Rattle.lines.proofs.numbers.digit.Tie as tie
 

@@ -1,8 +1,8 @@
 -- `lines::numbers::digits_ok` meets its contract, shape by shape. Assumes nothing.
+use borrow.Author.Needs.{needs}
 use Rattle.base.proofs.Pick.{via}
 use Rattle.lines.specs.Numbers.{digitsOk}
 use Rattle.lines.specs.declared.Shape.{Shape}
-use borrow.Author.Needs.{needs}
 use Rattle.lines.proofs.numbers.digits_ok.Statement.{statement}
 use Rattle.lines.proofs.numbers.digits_ok.Tie as tie
 

@@ -1,7 +1,7 @@
 -- `lines::numbers::has_shape` meets its contract: by what the field is worth. Assumes nothing.
-use mathlib.Core.Path.{_≡_, refl, sym, ap, _∙_}
-use Rattle.lines.specs.Numbers.{isValue}
+use mathlib.Core.Path.{sym, ap, _∙_}
 use borrow.Author.Needs.{needs}
+use Rattle.lines.specs.Numbers.{isValue}
 use Rattle.lines.proofs.numbers.has_shape.Statement.{statement}
 use Rattle.lines.proofs.numbers.has_shape.Tie as tie
 

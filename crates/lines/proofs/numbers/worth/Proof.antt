@@ -1,13 +1,12 @@
 -- `lines::numbers::worth` meets its contract: by what the field is worth. Assumes nothing.
-use mathlib.Core.Path.{_≡_, refl, sym, ap, _∙_}
 use Prim.Native.Nat.{ℕ, _≤_}
-use Rattle.base.proofs.Pick.{via}
-use Rattle.lines.specs.Numbers.{limitOf, worth, worthOf}
-use Rattle.lines.proofs.Digits.{worth-limit}
-use borrow.Author.Needs.{needs}
+use mathlib.Core.Path.{_≡_, sym, ap, _∙_}
 use mathlib.Core.List.{List}
 use native.Mathlib.Omega.{arith}
+use borrow.Author.Needs.{needs}
+use Rattle.lines.specs.Numbers.{limitOf, worth, worthOf}
 use Rattle.lines.specs.declared.Shape.{Shape}
+use Rattle.lines.proofs.Digits.{worth-limit}
 use Rattle.lines.proofs.numbers.worth.Statement.{statement}
 use Rattle.lines.proofs.numbers.worth.Tie as tie
 
@@ -25,10 +24,15 @@ enum-told : tie.Need-enum-told
 enum-told c = search needs
 
 returns : tie.Need-returns
-returns c = by-value (c .before .before .before .before .before .args .shape) (c .before .before .before .before .before .args .field .now) (sym (ap worth (c .before .before .before .value .ensures)) ∙ ap worth (c .before .value2 .given .1))
+returns c =
+    let a = c .before .before .before .before .before .args in
+    by-value (a .shape) (a .field .now) (sym (ap worth (c .before .before .before .value .ensures))
+    ∙ ap worth (c .before .value2 .given .1))
 
 returns-2 : tie.Need-returns-2
-returns-2 c = by-value (c .before .before .before .before .args .shape) (c .before .before .before .before .args .field .now) (sym (ap worth (c .before .before .value .ensures)) ∙ ap worth (c .enum-told .given .1))
+returns-2 c =
+    let a = c .before .before .before .before .args in
+    by-value (a .shape) (a .field .now) (sym (ap worth (c .before .before .value .ensures)) ∙ ap worth (c .enum-told .given .1))
 
 pub worth-spec : {M : Type 1} → statement M
 worth-spec = tie.close (tie.spec value-requires enum-known-value enum-told returns returns-2)

@@ -1,12 +1,13 @@
 -- `lines::saying::read` meets its contract: quiet, or by what its first field names. Assumes nothing.
-use mathlib.Core.Path.{_≡_, refl, sym, ap, _∙_}
 use Prim.Native.Nat.{ℕ, _-_}
-use native.Mathlib.Nat.{sub-zero}
-use mathlib.Core.Bool.{true, false}
+use mathlib.Core.Path.{_≡_, refl, sym, ap, _∙_}
+use mathlib.Core.Bool.{false}
 use mathlib.Core.List.{List, []}
+use native.Mathlib.Nat.{sub-zero}
+use borrow.Author.Needs.{needs}
 use lib.ListN.{length, getD, take}
-use Rattle.base.proofs.Pick.{yes, no}
 use Rattle.base.specs.Words.{laid}
+use Rattle.base.proofs.Pick.{yes, no}
 use Rattle.base.proofs.Laid.{laid-none}
 use Rattle.lines.specs.Fields.{isQuiet, fields, firstLength, fieldsFrom}
 use Rattle.lines.specs.Kinds.{namedBy}
@@ -15,7 +16,6 @@ use Rattle.lines.specs.declared.Named.{Named}
 use Rattle.lines.specs.declared.Said.{Said}
 use Rattle.lines.proofs.Splitting.{fields-split}
 use Rattle.lines.proofs.Walking.{says-by}
-use borrow.Author.Needs.{needs}
 use Rattle.lines.proofs.saying.read.Statement.{statement}
 use Rattle.lines.proofs.saying.read.Tie as tie
 
@@ -38,7 +38,10 @@ is-quiet-requires c κs = search needs
 
 returns : tie.Need-returns
 unfolding bodySaid
-returns c = let a = c .before .before .before .before .args in says-by (fields (a .line .now)) (a .words .now) (sym (yes _ (sym (c .before .is-quiet .ensures) ∙ c .if1 .taken) refl)) (refl, laid-none (a .words .now) 0)
+returns c =
+    let a = c .before .before .before .before .args in
+    says-by (fields (a .line .now)) (a .words .now) (sym (yes _ (sym (c .before .is-quiet .ensures) ∙ c .if1 .taken) refl))
+    (refl, laid-none (a .words .now) 0)
 
 first-length-requires : tie.Need-first-length-requires
 first-length-requires c κs = search needs
@@ -68,10 +71,22 @@ same-length : tie.Need-same-length
 same-length c = search needs
 
 returns-2 : tie.Need-returns-2
-returns-2 c = let a = c .before .before .before .before .before .before .before .before .before .before .before .before .before .before .args in by-name (a .line .now) (a .words .now) (c .before .before .before .before .before .before .before .before .before .first-length .result) (sym (c .before .before .before .before .before .before .before .before .before .before .before .is-quiet .ensures) ∙ c .before .before .before .before .before .before .before .before .before .before .if1 .left) (c .before .before .before .before .before .before .before .before .before .first-length .ensures .0) (sym (c .before .before .before .before .before .before .before .named-by .ensures) ∙ c .before .before .before .before .before .named .given .1) (c .before .before .judge .ensures)
+returns-2 c =
+    let first-length = c .before .before .before .before .before .before .before .before .before .first-length in
+    let a = c .before .before .before .before .before .before .before .before .before .before .before .before .before .before .args in
+    by-name (a .line .now) (a .words .now) (first-length .result)
+    (sym (c .before .before .before .before .before .before .before .before .before .before .before .is-quiet .ensures)
+    ∙ c .before .before .before .before .before .before .before .before .before .before .if1 .left) (first-length .ensures .0)
+    (sym (c .before .before .before .before .before .before .before .named-by .ensures)
+    ∙ c .before .before .before .before .before .named .given .1) (c .before .before .judge .ensures)
 
 returns-3 : tie.Need-returns-3
-returns-3 c = let a = c .before .before .before .before .before .before .before .before .before .args in by-name (a .line .now) (a .words .now) (c .before .before .before .before .first-length .result) (sym (c .before .before .before .before .before .before .is-quiet .ensures) ∙ c .before .before .before .before .before .if1 .left) (c .before .before .before .before .first-length .ensures .0) (sym (c .before .before .named-by .ensures) ∙ c .enum-told .given .1) (refl, laid-none (a .words .now) 0)
+returns-3 c =
+    let first-length = c .before .before .before .before .first-length in
+    let a = c .before .before .before .before .before .before .before .before .before .args in
+    by-name (a .line .now) (a .words .now) (first-length .result)
+    (sym (c .before .before .before .before .before .before .is-quiet .ensures) ∙ c .before .before .before .before .before .if1 .left)
+    (first-length .ensures .0) (sym (c .before .before .named-by .ensures) ∙ c .enum-told .given .1) (refl, laid-none (a .words .now) 0)
 
 pub read-spec : {M : Type 1} → statement M
 read-spec =

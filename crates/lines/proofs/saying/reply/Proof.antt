@@ -1,8 +1,6 @@
 -- `lines::saying::reply` meets its contract, field by field. Assumes nothing.
-use Prim.Native.Nat.{ℕ}
-use mathlib.Core.Path.{ap}
-use lib.Dec.{eqb}
 use borrow.Author.Needs.{needs}
+use lib.Dec.{eqb}
 use Rattle.lines.proofs.saying.reply.Statement.{statement}
 use Rattle.lines.proofs.saying.reply.Tie as tie
 
@@ -28,7 +26,21 @@ same-length : tie.Need-same-length
 same-length c = search needs
 
 returns : tie.Need-returns
-returns c = ((λ i. record { slave = (c .before .before .before .before .before .before .before .before .item32 .ensures) i; bc = (c .before .before .before .before .before .before .before .item322 .ensures) i; errors = eqb ((c .before .before .before .before .before .before .item .ensures .0) i) 1; status = (c .before .before .before .before .before .item16 .ensures) i; address = (c .before .before .before .before .item162 .ensures) i; words = (c .before .before .store-behind .ensures .0) i }), c .before .before .store-behind .ensures .1)
+returns c =
+    let store-behind = c .before .before .store-behind in (
+      (λ i. record {
+        slave = (c .before .before .before .before .before .before .before .before .item32 .ensures) i;
+        bc =
+            (c .before .before .before .before .before .before .before .item322 .ensures) i;
+        errors = eqb
+            ((c .before .before .before .before .before .before .item .ensures .0) i) 1;
+        status =
+            (c .before .before .before .before .before .item16 .ensures) i;
+        address = (c .before .before .before .before .item162 .ensures) i;
+        words = (store-behind .ensures .0) i;
+      }),
+      store-behind .ensures .1,
+    )
 
 pub reply-spec : {M : Type 1} → statement M
 reply-spec =

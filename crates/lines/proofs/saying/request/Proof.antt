@@ -2,10 +2,10 @@
 use Prim.Native.Nat.{ℕ}
 use mathlib.Core.Path.{ap, _∙_}
 use native.Mathlib.Nat.{sub-zero}
+use borrow.Author.Needs.{needs}
 use lib.ListN.{take}
 use Rattle.lines.specs.Numbers.{worthOf}
 use Rattle.lines.specs.declared.Shape.{Shape}
-use borrow.Author.Needs.{needs}
 use Rattle.lines.proofs.saying.request.Statement.{statement}
 use Rattle.lines.proofs.saying.request.Tie as tie
 
@@ -31,7 +31,14 @@ same-length : tie.Need-same-length
 same-length c = search needs
 
 returns : tie.Need-returns
-returns c = let a = c .before .before .before .before .before .before .before .before .before .args in let link = c .before .before .before .before .before .link-of .ensures ∙ ap (λ (n : ℕ). worthOf Shape.Number32 (take n (a .line .now))) (sub-zero (a .first)) in ((λ i. record { link = link i; bc = (c .before .before .before .before .item32 .ensures) i; words = (c .before .before .store-behind .ensures .0) i }), c .before .before .store-behind .ensures .1)
+returns c =
+    let store-behind = c .before .before .store-behind in
+    let a = c .before .before .before .before .before .before .before .before .before .args in
+    let link = c .before .before .before .before .before .link-of .ensures
+    ∙ ap (λ (n : ℕ). worthOf Shape.Number32 (take n (a .line .now))) (sub-zero (a .first)) in (
+      (λ i. record { link = link i; bc = (c .before .before .before .before .item32 .ensures) i; words = (store-behind .ensures .0) i }),
+      store-behind .ensures .1,
+    )
 
 pub request-spec : {M : Type 1} → statement M
 request-spec =

@@ -1,18 +1,23 @@
 -- `lines::saying::worth_behind` meets its contract: at the line's end there is no field, else it is the one up to its end. Assumes nothing.
-use mathlib.Core.Path.{_≡_, refl, sym, ap, _∙_}
-use native.Mathlib.Omega.{arith}
 use Prim.Native.Nat.{ℕ}
+use mathlib.Core.Path.{sym, ap, _∙_}
 use mathlib.Core.List.{List, []}
+use native.Mathlib.Omega.{arith}
+use borrow.Author.Needs.{needs}
 use lib.ListN.{getD}
 use Rattle.lines.specs.Numbers.{worthOf}
 use Rattle.lines.proofs.Splitting.{none-behind}
 use Rattle.lines.proofs.Digits.{worth-none}
-use borrow.Author.Needs.{needs}
 use Rattle.lines.proofs.saying.worth_behind.Statement.{statement}
 use Rattle.lines.proofs.saying.worth_behind.Tie as tie
 
 returns : tie.Need-returns
-returns c = let a = c .before .before .args in (sym (ap (λ (fs : List (List ℕ)). worthOf (a .shape) (getD fs 0 [])) (none-behind (a .line .now) (a .at) (omega arith)) ∙ worth-none (a .shape)), omega arith)
+returns c =
+    let a = c .before .before .args in (
+      sym (ap (λ (fs : List (List ℕ)). worthOf (a .shape) (getD fs 0 [])) (none-behind (a .line .now) (a .at) (omega arith))
+          ∙ worth-none (a .shape)),
+      omega arith,
+    )
 
 field-end-requires : tie.Need-field-end-requires
 field-end-requires c κs = search needs
@@ -33,7 +38,12 @@ worth-requires : tie.Need-worth-requires
 worth-requires c κs = search needs
 
 returns-2 : tie.Need-returns-2
-returns-2 c = let a = c .before .before .before .before .before .args in (c .worth .ensures .0 ∙ sym (ap (λ (fs : List (List ℕ)). worthOf (a .shape) (getD fs 0 [])) (c .before .before .field-end .ensures .splits)), c .worth .ensures .1)
+returns-2 c =
+    let a = c .before .before .before .before .before .args in (
+      c .worth .ensures .0 ∙ sym (ap (λ (fs : List (List ℕ)). worthOf (a .shape) (getD fs 0 []))
+          (c .before .before .field-end .ensures .splits)),
+      c .worth .ensures .1,
+    )
 
 pub worth-behind-spec : {M : Type 1} → statement M
 worth-behind-spec =
