@@ -1,13 +1,13 @@
 // The kinds of line, and whether the fields of a line are those of its kind.
 ghost use Prim.Native.Nat.{_≤_};
 ghost use mathlib.Core.Path.{_≡_};
+ghost use mathlib.Core.List.{[], _∷_};
 ghost use lib.ListN.{length, getD};
 ghost use Rattle.lines.specs.Fields.{behind};
-ghost use mathlib.Core.List.{[], _∷_};
 ghost use Rattle.lines.specs.Kinds.{Walked, namedBy, shapesOf, takesWords, whatOf, walked, wordsFit, leftOf, Inside};
+ghost use Rattle.lines.specs.Said.{restFits};
 ghost use Rattle.lines.specs.declared.Kind.{Kind};
 ghost use Rattle.lines.specs.declared.Shape.{Shape};
-ghost use Rattle.lines.specs.Said.{restFits};
 use crate::Kind;
 use crate::Named;
 use crate::Shape;
@@ -48,7 +48,7 @@ pub(crate) fn named_by(first: &[u8]) -> Named
 }
 
 // How many fields a line must have behind its first one.
-pub(crate) fn must_have(kind: Kind) -> usize
+fn must_have(kind: Kind) -> usize
     ensures { λ r. ⌜ (r ≡ length (shapesOf kind)) × (r ≤ 5) ⌝ }
 {
     match kind {
