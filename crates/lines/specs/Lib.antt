@@ -3,4 +3,5 @@ pub mod Fields
 pub mod Numbers
 pub mod Kinds
 pub mod Said
+pub mod Laws
 pub mod Examples

@@ -93,3 +93,7 @@ Says d fs ws r after = (r ≡ d) × (after ≡ laid ws 0 (wordsOf d fs))
 -- The buffer after a line: its words from the start on, and everything else as it was.
 unfoldable pub stored : List ℕ → List ℕ → List ℕ
 stored line ws = laid ws 0 (wordsOf (said line (length ws)) (fields (bodyOf line)))
+
+-- What `parse` says of a line and a buffer: the answer, and the buffer afterwards.
+abbrev pub ParseSays : List ℕ → List ℕ → Said → List ℕ → Type 0
+ParseSays line ws r after = (r ≡ said line (length ws)) × (after ≡ stored line ws)

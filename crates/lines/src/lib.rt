@@ -1,8 +1,6 @@
 // What a line of the bench says. A line is its fields, parted by tabs; `parse` says what it means, or which field is the first that
 // can't be read, and stores the words of a request or a reply. docs/BENCH.md has the lines in full. No function here reads or writes.
-ghost use mathlib.Core.Path.{_≡_};
-ghost use lib.ListN.{length};
-ghost use Rattle.lines.specs.Said.{said, stored};
+ghost use Rattle.lines.specs.Said.{ParseSays};
 use crate::fields::body_length;
 use crate::saying::read;
 
@@ -109,7 +107,7 @@ enum Step {
 // What a line says, without its line end. The words of a request or a reply go to the start of `words`; every other word there, and for
 // every other line all of them, stay as they are.
 pub fn parse(line: &[u8], words: &mut [u16]) -> Said
-    ensures { λ r. ⌜ (r ≡ said (now (line .entry)) (length (now (words .entry)))) × (now (words .exit) ≡ stored (now (line .entry)) (now (words .entry))) ⌝ }
+    ensures { λ r. ⌜ ParseSays (now (line .entry)) (now (words .entry)) r (now (words .exit)) ⌝ }
 {
     let n = body_length(line);
     read(&line[0..n], words)
