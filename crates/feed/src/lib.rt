@@ -1,19 +1,19 @@
-// Standard input for the programs that run stored vectors: one line after the other, each a row of words of four hex digits with
-// one byte between them. What a line holds is compared with the model's answers, so the contracts here say only what a caller
-// needs to stay inside its buffers.
+// Standard input for the bench and for the programs that run stored vectors: one line after the other; and for stored vectors a line as a
+// row of words of four hex digits with one byte between them. What a line holds is compared with the model's answers, so the contracts
+// here say only what a caller needs to stay inside its buffers.
 ghost use Prim.Native.Nat.{_+_, _≤_, _<_};
-ghost use mathlib.Core.Path.{_≡_};
 ghost use lib.ListN.{length};
 ghost use Rattle.feed.specs.Bounds.{Within};
 
 // A line: where it stands in the buffer, and the bytes behind it that were read already, from `next` up to `have`. There is no
-// line where `some` is false.
+// line where `some` is false. A line that is as long as the buffer or longer is cut there, and what follows it is taken for the next one.
 pub struct Line {
     pub start: usize,
     pub end: usize,
     pub next: usize,
     pub have: usize,
     pub some: bool,
+    pub cut: bool,
 }
 
 // Before the first line.
@@ -24,6 +24,7 @@ pub fn before() -> Line {
         next: 0,
         have: 0,
         some: true,
+        cut: false,
     }
 }
 
@@ -53,16 +54,39 @@ fn shift(buffer: &mut [u8], start: usize, end: usize)
     }
 }
 
-// Reads behind the first `have` bytes, until the buffer is full or the input ends, and says how many bytes it then holds.
+// Reads once behind the first `have` bytes, and says how many bytes came: 0 at the end of the input.
+fn read_more(buffer: &mut [u8], have: usize) -> usize
+    requires { ⌜ have ≤ length (now buffer) ⌝ }
+    ensures { λ r. ⌜ have + r ≤ length (now (buffer .exit)) ⌝ }
+{
+    let rest = &mut buffer[have..];
+    let got = libc::read(0, rest);
+    io::count(got, rest)
+}
+
+// Reads behind the first `have` bytes, and says how many bytes it then holds. It stops as soon as the end of a line has come, so that a
+// person at a terminal is answered line by line; and where the buffer is full or the input ends.
 fn fill(buffer: &mut [u8], have: usize) -> usize
     requires { ⌜ have ≤ length (now buffer) ⌝ }
     ensures { λ r. ⌜ r ≤ length (now (buffer .exit)) ⌝ }
 {
-    let got = io::read_full(0, &mut buffer[have..]);
-    have + got
+    let n = buffer.len();
+    let mut held = have;
+    while held < n {
+        let got = read_more(buffer, held);
+        if got == 0 {
+            return held;
+        }
+        let before = held;
+        held += got;
+        if line_end(&buffer[before..held]) < got {
+            return held;
+        }
+    }
+    held
 }
 
-// The next line of standard input, after the one before it. A line that is longer than the buffer is cut there.
+// The next line of standard input, after the one before it.
 pub fn next_line(buffer: &mut [u8], line: Line) -> Line
     ensures { λ r. ⌜ Within r (length (now (buffer .exit))) ⌝ }
 {
@@ -76,6 +100,7 @@ pub fn next_line(buffer: &mut [u8], line: Line) -> Line
             next: whole + 1,
             have: end,
             some: true,
+            cut: false,
         };
     }
     shift(buffer, start, end);
@@ -88,6 +113,7 @@ pub fn next_line(buffer: &mut [u8], line: Line) -> Line
             next: first + 1,
             have,
             some: true,
+            cut: false,
         };
     }
     Line {
@@ -96,6 +122,7 @@ pub fn next_line(buffer: &mut [u8], line: Line) -> Line
         next: have,
         have,
         some: 0 < have,
+        cut: have == buffer.len(),
     }
 }
 

@@ -1,0 +1,236 @@
+// The bench: a node at work. It reads lines, makes a call for each, and prints what the node answers; docs/BENCH.md has the lines and the
+// answers in full. What a line says is proved in `lines`, and what a call comes to in `node`. No contract can say what is printed, so that
+// is compared with the model's answers, and the contracts here say only what keeps every place inside its run.
+ghost use mathlib.Core.Path.{_≡_};
+ghost use lib.ListN.{length};
+use crate::calls::ask;
+use crate::calls::erase;
+use crate::calls::hear;
+use crate::calls::poll;
+use crate::saying::say_help;
+use crate::saying::say_long;
+use crate::saying::say_wrong;
+use lines::Said;
+use node::Node;
+
+mod calls;
+mod saying;
+
+// What is kept from line to line beside the node: the line's number, the clock, whether the next request comes with a receive error, how
+// many words of the request that waits for a slave are held, and whether the line was too long, so that what follows is its rest.
+struct Kept {
+    number: u64,
+    clock: u32,
+    fault: bool,
+    held: usize,
+    cut: bool,
+}
+
+// The node and what is kept, after a line.
+struct After {
+    node: Node,
+    kept: Kept,
+}
+
+// A blank flash of bench size, and the memories, all zero.
+fn flash_room() -> [u16; 32768]
+    ensures { λ r. ⌜ length r ≡ 32768 ⌝ }
+{
+    [0xFFFF; 32768]
+}
+
+fn pm_room() -> [u32; 32768]
+    ensures { λ r. ⌜ length r ≡ 32768 ⌝ }
+{
+    [0; 32768]
+}
+
+fn dm_room() -> [u16; 32768]
+    ensures { λ r. ⌜ length r ≡ 32768 ⌝ }
+{
+    [0; 32768]
+}
+
+fn io_room() -> [u16; 4096]
+    ensures { λ r. ⌜ length r ≡ 4096 ⌝ }
+{
+    [0; 4096]
+}
+
+// The assembly area, zeroed at power-up, which is lent as the reply buffer.
+fn reply_room() -> [u16; 12288]
+    ensures { λ r. ⌜ length r ≡ 12288 ⌝ }
+{
+    [0; 12288]
+}
+
+// A line with its end, and as many words as such a line can have, which are five bytes each.
+fn line_room() -> [u8; 200000]
+    ensures { λ r. ⌜ length r ≡ 200000 ⌝ }
+{
+    [0; 200000]
+}
+
+fn words_room() -> [u16; 40000]
+    ensures { λ r. ⌜ length r ≡ 40000 ⌝ }
+{
+    [0; 40000]
+}
+
+// The longest request that is sent on to a slave.
+fn held_room() -> [u16; 8192]
+    ensures { λ r. ⌜ length r ≡ 8192 ⌝ }
+{
+    [0; 8192]
+}
+
+// A CDDC with four ports, sub-detector 0, versions 0, every start test passed, at clock 0.
+fn start(flash: &[u16]) -> Node {
+    let turn = Node::start(2, 4, 0, 0, 0, 0, 0, flash);
+    turn.node
+}
+
+// What is kept as a line comes: it is counted where it isn't the rest of one that was too long.
+fn counted(kept: Kept, cut: bool) -> Kept {
+    let one = if kept.cut { 0 } else { 1 };
+    Kept {
+        number: std::num::wrapping_add_u64(kept.number, one),
+        clock: kept.clock,
+        fault: kept.fault,
+        held: kept.held,
+        cut,
+    }
+}
+
+// The clock from here on.
+fn with_clock(kept: Kept, clock: u32) -> Kept {
+    Kept {
+        number: kept.number,
+        clock,
+        fault: kept.fault,
+        held: kept.held,
+        cut: kept.cut,
+    }
+}
+
+// The next request comes with a receive error.
+fn with_fault(kept: Kept) -> Kept {
+    Kept {
+        number: kept.number,
+        clock: kept.clock,
+        fault: true,
+        held: kept.held,
+        cut: kept.cut,
+    }
+}
+
+// Does what a line says.
+fn act(
+    said: Said,
+    node: Node,
+    kept: Kept,
+    words: &[u16],
+    held: &mut [u16],
+    flash: &mut [u16],
+    pm: &mut [u32],
+    dm: &mut [u16],
+    io: &mut [u16],
+    reply: &mut [u16],
+) -> After {
+    match said {
+        Said::Nothing => After { node, kept },
+        Said::Request(asked) => ask(asked, node, kept, words, held, flash, pm, dm, io, reply),
+        Said::Reply(heard) => hear(heard, node, kept, words, held, reply),
+        Said::Poll => poll(node, kept, held, reply),
+        Said::Erase(budget) => erase(budget, node, kept, flash),
+        Said::Clock(ticks) => After {
+            node,
+            kept: with_clock(kept, ticks),
+        },
+        Said::Fault => After {
+            node,
+            kept: with_fault(kept),
+        },
+        Said::Help => {
+            say_help();
+            After { node, kept }
+        }
+        Said::Wrong(wrong) => {
+            say_wrong(kept.number, wrong);
+            After { node, kept }
+        }
+    }
+}
+
+// One line, or the rest of one that was too long.
+fn turn(
+    line: &[u8],
+    cut: bool,
+    node: Node,
+    before: Kept,
+    words: &mut [u16],
+    held: &mut [u16],
+    flash: &mut [u16],
+    pm: &mut [u32],
+    dm: &mut [u16],
+    io: &mut [u16],
+    reply: &mut [u16],
+) -> After {
+    let kept = counted(before, cut);
+    if before.cut {
+        return After { node, kept };
+    }
+    if cut {
+        say_long(kept.number);
+        return After { node, kept };
+    }
+    let said = lines::parse(line, words);
+    act(said, node, kept, words, held, flash, pm, dm, io, reply)
+}
+
+fn main() {
+    let mut bytes = line_room();
+    let mut words = words_room();
+    let mut held = held_room();
+    let mut flash = flash_room();
+    let mut pm = pm_room();
+    let mut dm = dm_room();
+    let mut io = io_room();
+    let mut reply = reply_room();
+    let mut after = After {
+        node: start(&flash),
+        kept: Kept {
+            number: 0,
+            clock: 0,
+            fault: false,
+            held: 0,
+            cut: false,
+        },
+    };
+    let mut line = feed::before();
+    let mut turns = u64::MAX;
+    while 0 < turns {
+        turns -= 1;
+        line = feed::next_line(&mut bytes, line);
+        if !line.some {
+            return;
+        }
+        let start = line.start;
+        let end = line.end;
+        let node = after.node;
+        let kept = after.kept;
+        after = turn(
+            &bytes[start..end],
+            line.cut,
+            node,
+            kept,
+            &mut words,
+            &mut held,
+            &mut flash,
+            &mut pm,
+            &mut dm,
+            &mut io,
+            &mut reply,
+        );
+    }
+}

@@ -1,0 +1,163 @@
+// What the bench prints. Every part of an answer has a tab before it.
+ghost use Prim.Native.Nat.{_+_, _*_, _≤_, _<_};
+ghost use lib.ListN.{length};
+use group::Reply;
+use lines::What;
+use lines::Wrong;
+use node::Answer;
+use node::Asking;
+use node::refusals::refusal_number;
+
+fn say(text: &[u8]) {
+    io::write_all(1, text);
+}
+
+fn say_number(number: u64) {
+    say(b"\t");
+    io::print_decimal(1, number);
+}
+
+// A hex digit, as a capital.
+fn glyph(digit: u16) -> u8
+    requires { ⌜ digit < 16 ⌝ }
+{
+    if digit < 10 {
+        return b'0' + digit as u8;
+    }
+    b'A' + (digit - 10) as u8
+}
+
+// Spells words, a tab before each, as many as there is room for, and says how many bytes that takes.
+fn spell(words: &[u16], text: &mut [u8]) -> usize
+    ensures { λ r. ⌜ r ≤ length (now (text .exit)) ⌝ }
+{
+    let n = base::least(words.len(), text.len() / 5);
+    let mut i = 0;
+    while i < n {
+        let word = words[i];
+        text[i * 5] = b'\t';
+        text[i * 5 + 1] = glyph(word / 4096 % 16);
+        text[i * 5 + 2] = glyph(word / 256 % 16);
+        text[i * 5 + 3] = glyph(word / 16 % 16);
+        text[i * 5 + 4] = glyph(word % 16);
+        i += 1;
+    }
+    n * 5
+}
+
+// The words of a reply or a request, 800 of them at a time.
+fn say_words(words: &[u16]) {
+    let mut text = io::buffer();
+    let mut at = 0;
+    while at < words.len() {
+        let end = at + base::least(words.len() - at, 800);
+        let n = spell(&words[at..end], &mut text);
+        say(&text[0..n]);
+        at = end;
+    }
+}
+
+// A reply of 0 words, by its BC.
+fn say_zero(bc: u32) {
+    match bc {
+        0 => say(b"\tNEXT"),
+        1 => say(b"\tERROR"),
+        2 => say(b"\tABORT"),
+        _ => say(b"\tEND"),
+    }
+}
+
+// A reply: its words, behind its BC where that isn't 3.
+fn say_reply(sent: Reply, buffer: &[u16]) {
+    if sent.words == 0 {
+        say_zero(sent.bc);
+        return;
+    }
+    if sent.bc != 3 {
+        say(b"\tBC ");
+        io::print_decimal(1, sent.bc as u64);
+    }
+    let n = base::least(sent.words, buffer.len());
+    say_words(&buffer[0..n]);
+}
+
+// The slave to ask, and the words sent on to it.
+fn say_asking(asking: Asking, held: &[u16]) {
+    say(b"\tASK");
+    say_number(asking.slave as u64);
+    let from = base::least(asking.from as usize, held.len());
+    say_words(&held[from..]);
+}
+
+// The answer of a call, behind the line's number. A start is none of the lines' calls.
+pub fn say_answer(number: u64, answer: Answer, held: &[u16], buffer: &[u16]) {
+    io::print_decimal(1, number);
+    match answer {
+        Answer::Started => say(b"\tSTARTED"),
+        Answer::Reply(sent) => say_reply(sent, buffer),
+        Answer::Ask(asking) => say_asking(asking, held),
+        Answer::Waiting => say(b"\tWAITING"),
+        Answer::Erased(words) => {
+            say(b"\tERASED");
+            say_number(words as u64);
+        }
+        Answer::Refused(refusal) => {
+            say(b"\tREFUSED");
+            say_number(refusal_number(refusal) as u64);
+        }
+    }
+    say(b"\n");
+}
+
+// What is wrong with a field.
+fn say_what(what: What) {
+    match what {
+        What::NoLink => say(
+            b"no link, and none of reply, poll, erase, clock, error, help; fields are parted by tabs",
+        ),
+        What::Missing => say(b"missing"),
+        What::TooMany => say(b"one too many"),
+        What::NoRoom => say(b"no room for this word"),
+        What::NoNumber32 => say(b"no decimal number below 4294967296"),
+        What::NoNumber64 => say(b"no decimal number below 18446744073709551616"),
+        What::NoBc => say(b"no BC, 0 to 3"),
+        What::NoFlag => say(b"neither 0 nor 1"),
+        What::NoTicks => say(b"not one to eight hex digits"),
+        What::NoWord => say(b"not four hex digits"),
+    }
+}
+
+// A line that can't be read, by its first wrong field.
+pub fn say_wrong(number: u64, wrong: Wrong) {
+    io::print_decimal(1, number);
+    say(b"\tUNREADABLE\tfield ");
+    io::print_decimal(1, wrong.field as u64);
+    say(b": ");
+    let what = wrong.what;
+    say_what(what);
+    say(b"\n");
+}
+
+// A line that is too long.
+pub fn say_long(number: u64) {
+    io::print_decimal(1, number);
+    say(b"\tUNREADABLE\tthe line has 200,000 bytes or more\n");
+}
+
+// The lines that the bench takes.
+pub fn say_help() {
+    say(b"LINK BC [WORD..]                              a request from a link\n");
+    say(b"reply SLAVE BC ERROR STATUS ADDRESS [WORD..]  what a slave replied\n");
+    say(
+        b"poll                                          a poll, while the node waits for a slave\n",
+    );
+    say(b"erase BUDGET                                  erase progress, with a budget in words\n");
+    say(b"clock TICKS                                   the clock of the calls from here on\n");
+    say(
+        b"error                                         the next request comes with a receive error\n",
+    );
+    say(b"help                                          these lines\n");
+    say(
+        b"Fields are parted by tabs. LINK, SLAVE and BUDGET are decimal, BC is 0 to 3, ERROR 0 or 1, the others are hex.\n",
+    );
+}

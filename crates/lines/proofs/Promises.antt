@@ -1,0 +1,69 @@
+-- What a caller of `parse` may count on: by the cases of what a line says. Assumes nothing.
+use Prim.Native.Nat.{ℕ, _≤_}
+use mathlib.Core.Path.{_≡_, refl, sym, ap, _∙_}
+use mathlib.Core.List.{List, []}
+use native.Mathlib.Omega.{arith}
+use lib.ListN.{length, getD, drop, length-map}
+use lib.Seq.{drop-drop}
+use Rattle.base.specs.Words.{laid}
+use Rattle.base.proofs.Laid.{laid-none}
+use Rattle.base.proofs.Pick.{pick-case}
+use Rattle.lines.specs.Fields.{bodyOf, isQuiet, fields}
+use Rattle.lines.specs.Numbers.{worthOf}
+use Rattle.lines.specs.Kinds.{namedBy}
+use Rattle.lines.specs.Said.{verdictOf, taken, judged, saidBy, bodySaid, said, wordsOf, stored}
+use Rattle.lines.specs.Laws.{Settled, UnreadableKeeps, countOf, WordsThere}
+use Rattle.lines.specs.declared.Kind.{Kind}
+use Rattle.lines.specs.declared.Named.{Named}
+use Rattle.lines.specs.declared.Said.{Said}
+use Rattle.lines.specs.declared.Shape.{Shape}
+use Rattle.lines.specs.declared.Verdict.{Verdict}
+use Rattle.lines.proofs.Walking.{fits-room}
+
+pub settled : Settled
+settled line ws r s after later h k = (h .0 ∙ sym (k .0), h .1 ∙ sym (k .1))
+
+pub unreadable-keeps : UnreadableKeeps
+unfolding stored
+unreadable-keeps line ws w h =
+    ap (λ (d : Said). laid ws 0 (wordsOf d (fields (bodyOf line)))) h ∙ sym (laid-none ws 0)
+
+-- the words of fields are as many as the fields ..
+count-taken : (kind : Kind) (fs : List (List ℕ)) → length (wordsOf (taken kind fs) fs) ≡ countOf (taken kind fs)
+count-taken Kind.Request fs = length-map (drop 2 fs) (worthOf Shape.Word)
+count-taken Kind.Reply fs = length-map (drop 6 fs) (worthOf Shape.Word)
+count-taken Kind.Poll fs = refl
+count-taken Kind.Erase fs = refl
+count-taken Kind.Clock fs = refl
+count-taken Kind.Fault fs = refl
+count-taken Kind.Help fs = refl
+
+-- .. and where the fields fit, there is room for them
+room-taken : (kind : Kind) (room : ℕ) (fs : List (List ℕ)) → verdictOf kind room fs ≡ Verdict.Fits → countOf (taken kind fs) ≤ room
+room-taken Kind.Request room fs e =
+    let h = fits-room Kind.Request room fs refl e in let d = ap length (drop-drop 1 1 fs) in omega arith
+room-taken Kind.Reply room fs e =
+    let h = fits-room Kind.Reply room fs refl e in let d = ap length (drop-drop 5 1 fs) in omega arith
+room-taken Kind.Poll room fs e = omega arith
+room-taken Kind.Erase room fs e = omega arith
+room-taken Kind.Clock room fs e = omega arith
+room-taken Kind.Fault room fs e = omega arith
+room-taken Kind.Help room fs e = omega arith
+
+-- what is so of a line of a kind, of a line by its first field, and of every line
+abbrev There : ℕ → List (List ℕ) → Said → Type 0
+There room fs d = (length (wordsOf d fs) ≡ countOf d) × (countOf d ≤ room)
+
+there-judged : (kind : Kind) (room : ℕ) (fs : List (List ℕ)) (v : Verdict) → verdictOf kind room fs ≡ v → There room fs (judged v kind fs)
+there-judged kind room fs Verdict.Fits e = (count-taken kind fs, room-taken kind room fs e)
+there-judged kind room fs (Verdict.No w) e = (refl, omega arith)
+
+there-said : (named : Named) (room : ℕ) (fs : List (List ℕ)) → There room fs (saidBy named room fs)
+there-said (Named.A kind) room fs = there-judged kind room fs (verdictOf kind room fs) refl
+there-said Named.Unknown room fs = (refl, omega arith)
+
+pub words-there : WordsThere
+unfolding said bodySaid
+words-there line room =
+    let fs = fields (bodyOf line) in
+    pick-case (There room fs) (isQuiet (bodyOf line)) {x = Said.Nothing} (λ _. (refl, omega arith)) (λ _. there-said (namedBy (getD fs 0 [])) room fs)

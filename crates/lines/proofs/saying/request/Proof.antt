@@ -1,0 +1,54 @@
+-- `lines::saying::request` meets its contract, field by field. Assumes nothing.
+use Prim.Native.Nat.{ℕ}
+use mathlib.Core.Path.{ap, _∙_}
+use native.Mathlib.Nat.{sub-zero}
+use borrow.Author.Needs.{needs}
+use lib.ListN.{take}
+use Rattle.lines.specs.Numbers.{worthOf}
+use Rattle.lines.specs.declared.Shape.{Shape}
+use Rattle.lines.proofs.saying.request.Statement.{statement}
+use Rattle.lines.proofs.saying.request.Tie as tie
+
+sub-link-of : tie.Need-sub-link-of
+sub-link-of c = search needs
+
+part-link-of-start : tie.Need-part-link-of-start
+part-link-of-start c = search needs
+
+part-link-of-end : tie.Need-part-link-of-end
+part-link-of-end c = search needs
+
+link-of-requires : tie.Need-link-of-requires
+link-of-requires c κs = search needs
+
+item32-requires : tie.Need-item32-requires
+item32-requires c κs = search needs
+
+store-behind-requires : tie.Need-store-behind-requires
+store-behind-requires c κs = search needs
+
+same-length : tie.Need-same-length
+same-length c = search needs
+
+returns : tie.Need-returns
+returns c =
+    let store-behind = c .before .before .store-behind in
+    let a = c .before .before .before .before .before .before .before .before .before .args in
+    let link = c .before .before .before .before .before .link-of .ensures
+    ∙ ap (λ (n : ℕ). worthOf Shape.Number32 (take n (a .line .now))) (sub-zero (a .first)) in (
+      (λ i. record { link = link i; bc = (c .before .before .before .before .item32 .ensures) i; words = (store-behind .ensures .0) i }),
+      store-behind .ensures .1,
+    )
+
+pub request-spec : {M : Type 1} → statement M
+request-spec =
+    tie.close
+    (tie.spec
+    sub-link-of
+    part-link-of-start
+    part-link-of-end
+    link-of-requires
+    item32-requires
+    store-behind-requires
+    same-length
+    returns)

@@ -1,0 +1,7 @@
+pub mod Text
+pub mod Fields
+pub mod Numbers
+pub mod Kinds
+pub mod Said
+pub mod Laws
+pub mod Examples
