@@ -2,7 +2,7 @@
 -- are equal. Assumes nothing.
 use mathlib.Core.Path.{sym, ap, _∙_}
 use Rattle.logodwen.specs.Entry.{Answered}
-use Rattle.border.specs.Settled.{EntriesSettled}
+use Rattle.border.specs.Settled.{EntriesSettled, LinesSettled}
 
 pub entries-settled : EntriesSettled
 entries-settled =
@@ -12,4 +12,10 @@ entries-settled =
       reply = λ κs given x y v w p q. (ap (λ (a : Answered). a .number) (p ∙ sym q), λ i. (v .0, (v .1 .0, (v .1 .1 .0, (v .1 .1 .1 .0, (v .1 .1 .1 .1 .0, (v .1 .1 .1 .1 .1 .0, (v .1 .1 .1 .1 .1 .1 .0, ((p ∙ sym q) i .state, ((p ∙ sym q) i .runs .reply, v .1 .1 .1 .1 .1 .1 .1 .1 .1))))))))));
       poll = λ κs given x y v w p q. (ap (λ (a : Answered). a .number) (p ∙ sym q), λ i. (v .0, ((p ∙ sym q) i .state, ((p ∙ sym q) i .runs .reply, v .1 .1 .1))));
       erase = λ κs given x y v w p q. (ap (λ (a : Answered). a .number) (p ∙ sym q), λ i. (v .0, ((p ∙ sym q) i .state, ((p ∙ sym q) i .runs .flash, v .1 .1 .1))));
+    }
+
+pub lines-settled : LinesSettled
+lines-settled =
+    record {
+      parse = λ κs given x y v w p q. (p .0 ∙ sym (q .0), λ i. (v .0, ((p .1 ∙ sym (q .1)) i, v .1 .1)));
     }

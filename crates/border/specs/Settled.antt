@@ -1,7 +1,9 @@
 -- What calls owe, at the C border: the statement of every entry settles the number that it answers and each byte of each run that it is
--- lent, for refused entries too. 01 'What calls owe'. The statements are the entries' own contracts, as a host has them. Assumes nothing.
+-- lent, for refused entries too. So it is with the reader of the bench's lines. 01 'What calls owe'. The statements are the functions' own
+-- contracts, as a caller has them. Assumes nothing.
 use Rattle.demands.specs.Settled.{Settles}
 use Rattle.logodwen.proofs as Logodwen
+use Rattle.lines.proofs as Lines
 
 -- The five entries.
 pub record EntriesSettled : Type 0 where
@@ -10,3 +12,7 @@ pub record EntriesSettled : Type 0 where
   pub reply : Settles Logodwen.logodwen1_reply.Kinds.ps Logodwen.logodwen1_reply.Kinds.r Logodwen.logodwen1_reply.Reads.Learnt
   pub poll : Settles Logodwen.logodwen1_poll.Kinds.ps Logodwen.logodwen1_poll.Kinds.r Logodwen.logodwen1_poll.Reads.Learnt
   pub erase : Settles Logodwen.logodwen1_erase.Kinds.ps Logodwen.logodwen1_erase.Kinds.r Logodwen.logodwen1_erase.Reads.Learnt
+
+-- The reader of the bench's lines: what a line says, and each word of the buffer.
+pub record LinesSettled : Type 0 where
+  pub parse : Settles Lines.parse.Kinds.ps Lines.parse.Kinds.r Lines.parse.Reads.Learnt

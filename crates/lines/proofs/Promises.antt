@@ -12,16 +12,13 @@ use Rattle.lines.specs.Fields.{bodyOf, isQuiet, fields}
 use Rattle.lines.specs.Numbers.{worthOf}
 use Rattle.lines.specs.Kinds.{namedBy}
 use Rattle.lines.specs.Said.{verdictOf, taken, judged, saidBy, bodySaid, said, wordsOf, stored}
-use Rattle.lines.specs.Laws.{Settled, UnreadableKeeps, countOf, WordsThere}
+use Rattle.lines.specs.Laws.{UnreadableKeeps, countOf, WordsThere}
 use Rattle.lines.specs.declared.Kind.{Kind}
 use Rattle.lines.specs.declared.Named.{Named}
 use Rattle.lines.specs.declared.Said.{Said}
 use Rattle.lines.specs.declared.Shape.{Shape}
 use Rattle.lines.specs.declared.Verdict.{Verdict}
 use Rattle.lines.proofs.Walking.{fits-room}
-
-pub settled : Settled
-settled line ws r s after later h k = (h .0 ∙ sym (k .0), h .1 ∙ sym (k .1))
 
 pub unreadable-keeps : UnreadableKeeps
 unfolding stored

@@ -4,17 +4,9 @@ use mathlib.Core.Path.{_≡_}
 use mathlib.Core.List.{List}
 use lib.ListN.{length}
 use Rattle.lines.specs.Fields.{bodyOf, fields}
-use Rattle.lines.specs.Said.{said, wordsOf, stored, ParseSays}
+use Rattle.lines.specs.Said.{said, wordsOf, stored}
 use Rattle.lines.specs.declared.Said.{Said}
 use Rattle.lines.specs.declared.Wrong.{Wrong}
-
--- The contract of `parse` settles what it answers and every word of the buffer: any two results that it allows are equal.
-abbrev pub Settled : Type 0
-Settled =
-    (line ws : List ℕ) (r s : Said) (after later : List ℕ)
-    → ParseSays line ws r after
-    → ParseSays line ws s later
-    → (r ≡ s) × (after ≡ later)
 
 -- A line that can't be read leaves the buffer as it was.
 abbrev pub UnreadableKeeps : Type 0
