@@ -37,14 +37,15 @@ install: tools
 
 # Proved functions and the calls at the C border, against plain C in one process.
 perf: tools
-	@test -f target/staticlib/liblogodwen.a || host/lib
+	@host/verify >build/verify.log 2>&1 || host/lib
 	@rt staticlib perf >build/perf.log 2>&1 || { cat build/perf.log; exit 1; }
 	@host/build build/perf target/staticlib/libperf.a target/staticlib/liblogodwen.a host/perf/*.c host/model/*.c
 	@host/run build/perf
 
-# The stored vectors anew, by the model: for a change of what is tested, never of what is right.
+# The stored vectors and the answers to the bench's scripts anew, by the model: for a change of what is tested, never of what is right.
 vectors: tools
 	@python3 model/vectors.py write
+	@python3 model/bench.py write
 
 tools:
 	@mkdir -p build
