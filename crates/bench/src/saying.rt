@@ -160,4 +160,7 @@ pub fn say_help() {
     say(
         b"Fields are parted by tabs. LINK, SLAVE and BUDGET are decimal, BC is 0 to 3, ERROR 0 or 1, the others are hex.\n",
     );
+    say(
+        b"For example 0 3 0D2E 1234, with tabs for the spaces, is a Ping from link 0, and answers 1234 0020 4F08.\n",
+    );
 }
