@@ -2,18 +2,19 @@
 use Prim.Native.Nat.{ℕ, zero, suc, _-_, _≤_, _<_}
 use mathlib.Core.Path.{_≡_, refl, sym, ap, _∙_}
 use mathlib.Core.Bool.{true, false, false≢true}
-use mathlib.Core.List.{List, [], _∷_}
+use mathlib.Core.List.{List, [], _∷_, map}
 use native.Mathlib.Numerals.{sub-one}
 use native.Mathlib.Nat.{not-suc-le-zero}
 use lib.ListN.{length}
 use Rattle.base.specs.Words.{part}
 use Rattle.base.proofs.Pick.{yes, no, and-left, and-right}
 use Rattle.image.specs.Segment.{segmentEnd}
+use Rattle.image.specs.Segments.{Segment, segmentThen, segmentsAt}
 use Rattle.image.specs.File.{walk, fileEnd}
 use Rattle.image.proofs.File.{walk-turn, FileTo, file-tells}
 use Rattle.image.specs.declared.End.{End}
 use Rattle.memory.specs.Segment.{Memories}
-use Rattle.memory.specs.Load.{onward, segmentsFrom, fileSegments, allFit, allStored, isAt, loadable, loaded, loadOf}
+use Rattle.memory.specs.Load.{segmentsFrom, fileSegments, allFit, allStored, isAt, loadable, loaded, loadOf}
 
 -- what ends at a place ends somewhere
 pub record Ended (end : End) : Type 0 where
@@ -39,13 +40,13 @@ pub walk-rest : (n : ℕ) (file : List ℕ) (at next : ℕ) → 0 < n → isAt (
 walk-rest n file at next h w e = sym (ap isAt (walk-turn n file at (End.At next) h (sym e))) ∙ w
 
 pub segments-turn : (n : ℕ) (file : List ℕ) (at next : ℕ) → 0 < n → segmentEnd file at ≡ End.At next → segmentsFrom n file at ≡ part file at (next - at) ∷ segmentsFrom (n - 1) file next
-unfolding segmentsFrom
+unfolding segmentsAt
 segments-turn zero file at next h e = absurd (not-suc-le-zero h)
 segments-turn (suc n) file at next h e =
-    ap (λ (end : End). onward end (λ k. part file at (k - at) ∷ segmentsFrom n file k)) e ∙ simp sub-one
+    ap (λ (end : End). map (λ (s : Segment). s .words) (segmentThen file at end (segmentsAt n file))) e ∙ simp sub-one
 
 pub segments-end : (n : ℕ) (file : List ℕ) (at : ℕ) → n ≤ 0 → segmentsFrom n file at ≡ []
-unfolding segmentsFrom
+unfolding segmentsAt
 segments-end zero file at h = refl
 segments-end (suc n) file at h = absurd (not-suc-le-zero h)
 

@@ -1,30 +1,23 @@
 -- Load: the segments of a valid file into their memories. 01 'Flash': every segment fits, else no memory changes; IO read pairs do
 -- nothing. Assumes nothing.
-use Prim.Native.Nat.{ℕ, zero, suc, _-_}
+use Prim.Native.Nat.{ℕ}
 use mathlib.Core.Bool.{Bool, true, false, _&&_}
-use mathlib.Core.List.{List, [], _∷_}
-use lib.ListN.{length, getD}
+use mathlib.Core.List.{List, [], _∷_, map}
+use lib.ListN.{length}
 use Rattle.base.specs.Pick.{pick}
-use Rattle.base.specs.Words.{part}
-use Rattle.image.specs.Header.{segmentsOf}
-use Rattle.image.specs.Segment.{segmentEnd}
+use Rattle.image.specs.Segments.{Segment, segmentsAt, segmentsIn}
 use Rattle.image.specs.File.{fileEnd}
 use Rattle.image.specs.declared.End.{End}
 use Rattle.image.specs.declared.End.the-variants.{At, Invalid}
 use Rattle.memory.specs.Segment.{Memories, segmentFits, segmentStored}
 
--- n segments in a row, the first of which starts at a place: the words of each.
-abbrev pub onward : End → (ℕ → List (List ℕ)) → List (List ℕ)
-onward (At end) next = next end
-onward Invalid next = []
+-- The words of n segments in a row, the first of which starts at a place.
+abbrev pub segmentsFrom : ℕ → List ℕ → ℕ → List (List ℕ)
+segmentsFrom n file at = map (λ (s : Segment). s .words) (segmentsAt n file at)
 
-unfoldable pub segmentsFrom : ℕ → List ℕ → ℕ → List (List ℕ)
-segmentsFrom zero file at = []
-segmentsFrom (suc n) file at = onward (segmentEnd file at) (λ end. part file at (end - at) ∷ segmentsFrom n file end)
-
--- The segments of a file.
+-- The words of the segments of a file.
 abbrev pub fileSegments : List ℕ → List (List ℕ)
-fileSegments file = segmentsFrom (segmentsOf (getD file 0 0)) file 1
+fileSegments file = map (λ (s : Segment). s .words) (segmentsIn file)
 
 -- All of them fit memories of these lengths.
 unfoldable pub allFit : ℕ → ℕ → ℕ → List (List ℕ) → Bool
