@@ -3,6 +3,7 @@ pub mod Settled
 pub mod Host
 pub mod Kept
 pub mod ReadsBack
+pub mod Flash
 pub mod Answers
 pub mod ClosedRun
 pub mod ShutOut
