@@ -8,7 +8,7 @@ use mathlib.Core.Bool.{Bool, true, false}
 use mathlib.Core.List.{List, [], _∷_}
 use lib.ListN.{length, getD}
 use lib.Dec.{eqb}
-use lib.Pow.{shr-shr, field, mod-mod-pow}
+use lib.Pow.{shr-shr, shr-le, field, mod-mod-pow}
 use Rattle.base.specs.Pick.{pick}
 use Rattle.base.specs.Words.{Below}
 use Rattle.base.proofs.Laid.{length-laid, getD-laid-in, getD-laid-after}
@@ -34,15 +34,15 @@ use Rattle.border.proofs.Kept.{erasing-is}
 
 -- a byte of words stored: the low or the high one of its word
 
-byte-of : (ws : List ℕ) (i : ℕ) → i < length ws * 2 → getD (bytesOf 2 ws) i 0 ≡ getD ws (i / 2) 0 / 2 ^ (i % 2 * 8) % 256
+pub byte-of : (ws : List ℕ) (i : ℕ) → getD (bytesOf 2 ws) i 0 ≡ getD ws (i / 2) 0 / 2 ^ (i % 2 * 8) % 256
 unfolding bytesOf digitsOf
-byte-of [] i h = absurd (omega arith)
-byte-of (w ∷ ws) zero h = omega arith
-byte-of (w ∷ ws) (suc zero) h = omega arith
-byte-of (w ∷ ws) (suc (suc i)) h =
+byte-of [] i = omega (arith, shr-le 0 (i % 2 * 8))
+byte-of (w ∷ ws) zero = omega arith
+byte-of (w ∷ ws) (suc zero) = omega arith
+byte-of (w ∷ ws) (suc (suc i)) =
     let q : suc (suc i) / 2 ≡ suc (i / 2) = omega arith in
     let r : suc (suc i) % 2 ≡ i % 2 = omega arith in
-    byte-of ws i (omega arith) ∙ sym (λ j. getD (w ∷ ws) (q j) 0 / 2 ^ (r j * 8) % 256)
+    byte-of ws i ∙ sym (λ j. getD (w ∷ ws) (q j) 0 / 2 ^ (r j * 8) % 256)
 
 -- a bit of it
 bit-of : (x j k : ℕ) → k < 8 → bitOf (x / 2 ^ j % 256) k ≡ bitOf x (j + k)
@@ -73,7 +73,7 @@ module _ (bytes new : List ℕ) (size : length new ≡ length (wordsOf 2 bytes))
   stored-byte i h =
       ap (λ (j : ℕ). getD after j 0) (sym (zero-add i))
       ∙ getD-laid-in bytes 0 (bytesOf 2 new) room i (omega (arith, length-bytes 2 new))
-      ∙ byte-of new i (omega arith)
+      ∙ byte-of new i
 
   stored-odd : (i : ℕ) → length old * 2 ≤ i → SameByte bytes after i
   stored-odd i h = getD-laid-after bytes 0 (bytesOf 2 new) room i (omega (arith, length-bytes 2 new))

@@ -5,5 +5,6 @@ pub mod Kept
 pub mod ReadsBack
 pub mod Flash
 pub mod Answers
+pub mod NeverCorrupted
 pub mod ClosedRun
 pub mod ShutOut
