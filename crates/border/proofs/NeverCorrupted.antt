@@ -174,7 +174,8 @@ named-by state packet header word e i = targetOf (directory-is state i) (nameOf 
 aborts : (clock link bc : ℕ) (packet header state flash : List ℕ) (m : Memories) (reply : List ℕ) (s : ℕ)
     → let asked : Entry = Entry.Request clock link bc 0 packet m reply in
     InC asked → Below 256 flash → (packet ≡ fileRead header) ⊎ (packet ≡ fileLoad header) → length header / 2 ≡ 1 → bc % 4 ≡ 3
-    → isDone (numberAfter entries asked state flash) ≡ true → sectorIn state ≡ 0 → namedIn state header ≡ Target.At s → NotGood state flash s
+    → isDone (numberAfter entries asked state flash) ≡ true → sectorIn state ≡ 0 → namedIn state header ≡ Target.At s
+    → NotGood state flash s
     → answerOf entries asked state flash ≡ answered abortNumber (withFault state) (lent flash m reply)
 aborts clock link bc packet header state flash m reply s c b p one whole done quiet named bad =
     let a = asked-is p in

@@ -49,13 +49,17 @@ use Rattle.border.proofs.Delivered.{number-is, delivered, reply-bytes}
 use Rattle.border.proofs.Follows.{no-erasing, run-follows}
 
 -- the words of the two packets
-write-words : (file : List ℕ) → wordsOf 2 (fileWrite file) ≡ 0x452E ∷ wordsOf 2 file
+pub write-words : (file : List ℕ) → wordsOf 2 (fileWrite file) ≡ 0x452E ∷ wordsOf 2 file
 unfolding valueOf
 write-words file = words-two 0x2E 0x45 file
 
 pub read-words : (header : List ℕ) → wordsOf 2 (fileRead header) ≡ 0x052E ∷ wordsOf 2 header
 unfolding valueOf
 read-words header = words-two 0x2E 0x05 header
+
+-- a file's name, by its words
+pub name-words : (file : List ℕ) → length file % 2 ≡ 0 → fileName (wordsOf 2 file) ≡ nameIn file
+name-words file even = ap nameOf (first-word file even)
 
 -- a File Write that is answered END had a place
 record Placed (n : Node) (words file : List ℕ) : Type 0 where
@@ -179,7 +183,7 @@ module _ (state flash : List ℕ) (st : Stands state flash) (clock link bc error
 
   -- and a File Read finds them
   named : nameIn file ≡ fileName sent
-  named = sym (ap nameOf (ap (λ (x : List ℕ). getD x 0 0) sent-is ∙ first-word file even))
+  named = sym (ap fileName sent-is ∙ name-words file even)
 
   module _ (later after : List ℕ) (run : Runs entries s (nameIn file) state₁ flash₁ later after) (quiet : sectorIn later ≡ 0) where
     calls : Calls logodwen s (fileName sent) (o .turn .node) (o .after .flash) (nodeIn later) (wordsOf 2 after)

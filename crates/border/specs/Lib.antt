@@ -6,5 +6,6 @@ pub mod ReadsBack
 pub mod Flash
 pub mod Answers
 pub mod NeverCorrupted
+pub mod Writes
 pub mod ClosedRun
 pub mod ShutOut
