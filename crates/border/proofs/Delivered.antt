@@ -1,8 +1,8 @@
--- A request that is done, without receive errors and with BC 11, is delivered to the node; and the words that the node then answers are
--- the first bytes of the reply run. Assumes nothing.
+-- A request that is done, without receive errors and with BC 11, is delivered to the node; and the words that the node answers to any
+-- request that is done are the first bytes of the reply run. Assumes nothing.
 use Prim.Native.Nat.{ℕ, _*_, _/_, _%_, _≤_}
 use native.Mathlib.Omega.{arith}
-use mathlib.Core.Path.{_≡_, refl, sym, ap, _∙_}
+use mathlib.Core.Path.{_≡_, sym, ap, _∙_}
 use mathlib.Core.Bool.{true, false}
 use mathlib.Core.List.{List}
 use lib.ListN.{length, take, length-take}
@@ -14,23 +14,23 @@ use Rattle.demands.specs.Requests.{Delivered}
 use Rattle.logodwen.specs.Bytes.{wordsOf, bytesOf}
 use Rattle.logodwen.specs.StateBytes.{nodeIn}
 use Rattle.logodwen.specs.Number.{answerNumber}
-use Rattle.logodwen.specs.Entry.{Answered, memoryWords, replyWords}
+use Rattle.logodwen.specs.Entry.{Answered, memoryWords, replyWords, isSet}
 use Rattle.logodwen.proofs.Runs.{length-words-of}
 use Rattle.border.specs.Exactly.{entries}
 use Rattle.border.specs.Host.{Entry, answerOf, numberAfter, isDone}
 use Rattle.border.proofs.Runs.{store-front}
 use Rattle.border.proofs.Steps.{Made, done-made, done-taken}
 
-module _ (clock link bc : ℕ) (packet : List ℕ) (m : Memories) (reply state flash : List ℕ) where
+module _ (clock link bc errors : ℕ) (packet : List ℕ) (m : Memories) (reply state flash : List ℕ) where
   abbrev asked : Entry
-  asked = Entry.Request clock link bc 0 packet m reply
+  asked = Entry.Request clock link bc errors packet m reply
 
   abbrev l : Lent
   l = lent (wordsOf 2 flash) (memoryWords m) (replyWords reply)
 
   -- what the node's request comes to
   abbrev does : Outcome
-  does = requestOf (nodeIn state) clock link bc false (wordsOf 2 packet) l
+  does = requestOf (nodeIn state) clock link bc (isSet errors) (wordsOf 2 packet) l
 
   module _ (done : isDone (numberAfter entries asked state flash) ≡ true) where
     made : Made asked state flash
@@ -39,13 +39,13 @@ module _ (clock link bc : ℕ) (packet : List ℕ) (m : Memories) (reply state f
     pub number-is : numberAfter entries asked state flash ≡ answerNumber (does .turn .answer)
     number-is = made .number
 
-    pub delivered : bc % 4 ≡ 3 → 1 ≤ length packet / 2 → length packet / 2 ≤ 8192
-        → Delivered logodwen (nodeIn state) clock link bc false (wordsOf 2 packet) l
-    delivered whole least most =
+    pub delivered : isSet errors ≡ false → bc % 4 ≡ 3 → 1 ≤ length packet / 2 → length packet / 2 ≤ 8192
+        → Delivered logodwen (nodeIn state) clock link bc (isSet errors) (wordsOf 2 packet) l
+    delivered clean whole least most =
         let k = length-words-of 2 packet in
         record {
           taken = done-taken (does .turn .answer) (ap isDone (sym number-is) ∙ done);
-          clean = refl;
+          clean = clean;
           least = omega arith;
           most = omega arith;
           whole = whole;

@@ -55,7 +55,7 @@ entry-below s first status h (suc (suc zero)) = status-below status
 entry-below s first status h (suc (suc (suc zero))) = omega arith
 entry-below s first status h (suc (suc (suc (suc i)))) = omega arith
 
-sector-below : (flash : List ℕ) (s : ℕ) → Below 65536 flash → Below 65536 (sectorOf flash s)
+pub sector-below : (flash : List ℕ) (s : ℕ) → Below 65536 flash → Below 65536 (sectorOf flash s)
 unfolding sectorOf
 sector-below flash s h =
     below-take (sizeOf (unitOf flash) s) (drop (startOf (unitOf flash) s) flash) (below-drop (startOf (unitOf flash) s) flash h)

@@ -31,7 +31,7 @@ unfolding nodeIn
 erasing-is state = refl
 
 -- the directory stands behind the numbers and the masks
-directory-bytes : (n : Node) → Typed n → drop 108 (encodeOf n) ≡ bytesOf 2 (n .directory)
+pub directory-bytes : (n : Node) → Typed n → drop 108 (encodeOf n) ≡ bytesOf 2 (n .directory)
 unfolding encodeOf
 directory-bytes n t =
     let numbers = packed sizes (numbersOf n) in
@@ -57,11 +57,11 @@ summary-is-true state flash h clock link bc m reply whole done =
     let s = hosted-stands h in
     let packet : List ℕ = 0x2E ∷ 0x07 ∷ [] in
     let words : List ℕ = wordsOf 2 flash in
-    let d = delivered clock link bc packet m reply state flash done whole (omega arith) (omega arith) in
+    let d = delivered clock link bc 0 packet m reply state flash done refl whole (omega arith) (omega arith) in
     let r =
     word-summary (nodeIn state) words (s .reached) clock link bc false (wordsOf 2 packet) (memoryWords m) (replyWords reply) d refl refl in
     let fresh = r .1 ∙ ap (directoryOf words) (erasing-is state) in (
-      number-is clock link bc packet m reply state flash done ∙ ap answerNumber (r .0),
-      reply-bytes clock link bc packet m reply state flash done 32 (directoryOf words (erasingIn state))
+      number-is clock link bc 0 packet m reply state flash done ∙ ap answerNumber (r .0),
+      reply-bytes clock link bc 0 packet m reply state flash done 32 (directoryOf words (erasingIn state))
           (length-directory words (erasingIn state)) fresh,
     )

@@ -49,13 +49,17 @@ use Rattle.border.proofs.Delivered.{number-is, delivered, reply-bytes}
 use Rattle.border.proofs.Follows.{no-erasing, run-follows}
 
 -- the words of the two packets
-write-words : (file : List ℕ) → wordsOf 2 (fileWrite file) ≡ 0x452E ∷ wordsOf 2 file
+pub write-words : (file : List ℕ) → wordsOf 2 (fileWrite file) ≡ 0x452E ∷ wordsOf 2 file
 unfolding valueOf
 write-words file = words-two 0x2E 0x45 file
 
-read-words : (header : List ℕ) → wordsOf 2 (fileRead header) ≡ 0x052E ∷ wordsOf 2 header
+pub read-words : (header : List ℕ) → wordsOf 2 (fileRead header) ≡ 0x052E ∷ wordsOf 2 header
 unfolding valueOf
 read-words header = words-two 0x2E 0x05 header
+
+-- a file's name, by its words
+pub name-words : (file : List ℕ) → length file % 2 ≡ 0 → fileName (wordsOf 2 file) ≡ nameIn file
+name-words file even = ap nameOf (first-word file even)
 
 -- a File Write that is answered END had a place
 record Placed (n : Node) (words file : List ℕ) : Type 0 where
@@ -179,7 +183,7 @@ module _ (state flash : List ℕ) (st : Stands state flash) (clock link bc error
 
   -- and a File Read finds them
   named : nameIn file ≡ fileName sent
-  named = sym (ap nameOf (ap (λ (x : List ℕ). getD x 0 0) sent-is ∙ first-word file even))
+  named = sym (ap fileName sent-is ∙ name-words file even)
 
   module _ (later after : List ℕ) (run : Runs entries s (nameIn file) state₁ flash₁ later after) (quiet : sectorIn later ≡ 0) where
     calls : Calls logodwen s (fileName sent) (o .turn .node) (o .after .flash) (nodeIn later) (wordsOf 2 after)
@@ -195,15 +199,15 @@ module _ (state flash : List ℕ) (st : Stands state flash) (clock link bc error
         let asked : List ℕ = wordsOf 2 (fileRead header) in
         let words-two : length asked ≡ 2 = length-words-of 2 (fileRead header) ∙ omega arith in
         let word = ap (λ (x : List ℕ). getD x 1 0) (read-words header) ∙ first-word header (omega arith) in
-        let d = delivered clock′ link′ bc′ (fileRead header) m′ reply′ later after done whole (omega arith) (omega arith) in
+        let d = delivered clock′ link′ bc′ 0 (fileRead header) m′ reply′ later after done refl whole (omega arith) (omega arith) in
         let answers =
         words-back n words (st .reached) clock link bc (isSet errors) packet (memoryWords m) (replyWords reply) s
         (words-of-below (fileWrite file) (c .4)) command (place .placed) short (ap (λ (x : Outcome). x .turn .answer) did)
         (nodeIn later) (wordsOf 2 after) calls (no-erasing later quiet) clock′ link′ bc′ false asked (memoryWords m′) (replyWords reply′)
         (ap (isCommand 0x05) (read-words header)) words-two (ap nameOf word ∙ name ∙ named) d in
         let long : length sent * 2 ≡ length file = omega (arith, count) in
-        let front = reply-bytes clock′ link′ bc′ (fileRead header) m′ reply′ later after done (length sent) sent refl (answers .1) in (
-          number-is clock′ link′ bc′ (fileRead header) m′ reply′ later after done
+        let front = reply-bytes clock′ link′ bc′ 0 (fileRead header) m′ reply′ later after done (length sent) sent refl (answers .1) in (
+          number-is clock′ link′ bc′ 0 (fileRead header) m′ reply′ later after done
               ∙ ap answerNumber (answers .0)
               ∙ ap (λ (k : ℕ). wholeNumber (k + 2)) count,
           subst (λ (k : ℕ). take k (answerOf entries read later after .runs .reply) ≡ file) long (front ∙ sent-bytes),

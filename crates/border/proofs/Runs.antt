@@ -89,7 +89,7 @@ words-bytes-of bytes h e =
 
 -- the bytes of a part of words are a part of the bytes
 
-bytes-take : (n : ℕ) (ws : List ℕ) → bytesOf 2 (take n ws) ≡ take (n * 2) (bytesOf 2 ws)
+pub bytes-take : (n : ℕ) (ws : List ℕ) → bytesOf 2 (take n ws) ≡ take (n * 2) (bytesOf 2 ws)
 unfolding bytesOf digitsOf
 bytes-take zero ws = refl
 bytes-take (suc n) [] = sym (take-nil (suc n * 2))
@@ -97,7 +97,7 @@ bytes-take (suc n) (w ∷ ws) =
     let e : suc n * 2 ≡ suc (suc (n * 2)) = omega arith in
     ap (λ (l : List ℕ). digitsOf 2 w ++ l) (bytes-take n ws) ∙ ap (λ (k : ℕ). take k (bytesOf 2 (w ∷ ws))) (sym e)
 
-bytes-drop : (n : ℕ) (ws : List ℕ) → bytesOf 2 (drop n ws) ≡ drop (n * 2) (bytesOf 2 ws)
+pub bytes-drop : (n : ℕ) (ws : List ℕ) → bytesOf 2 (drop n ws) ≡ drop (n * 2) (bytesOf 2 ws)
 unfolding bytesOf digitsOf
 bytes-drop zero ws = refl
 bytes-drop (suc n) [] = let e : suc n * 2 ≡ suc (suc (n * 2)) = omega arith in ap (λ (k : ℕ). drop k (bytesOf 2 [])) (sym e)
@@ -115,7 +115,7 @@ bytes-laid ws at new =
     let back = bytes-drop (at + length new) ws ∙ ap (λ (k : ℕ). drop k (bytesOf 2 ws)) e in
     bytes-append 2 (take at ws ++ new) (drop (at + length new) ws) ∙ (λ i. front i ++ back i)
 
-laid-front : (ws new : List ℕ) → laid ws 0 new ≡ new ++ drop (0 + length new) ws
+pub laid-front : (ws new : List ℕ) → laid ws 0 new ≡ new ++ drop (0 + length new) ws
 unfolding laid
 laid-front ws new = refl
 

@@ -1,4 +1,4 @@
--- The wrong entries fail, each in the closed run or at one call of it. Assumes nothing.
+-- The wrong entries fail, each in the closed run, at one call of it, or at one step of an erasure. Assumes nothing.
 use Prim.Native.Nat.{ℕ, zero, suc}
 use native.Mathlib.Omega.{arith}
 use mathlib.Core.Path.{_≡_, refl, ap, subst}
@@ -17,29 +17,30 @@ use Rattle.flash.specs.Geometry.{isSector, bySector, sectorOf}
 use Rattle.flash.specs.Status.{isEmpty, statusOf, statusIn, fourthWord}
 use Rattle.flash.specs.Directory.{entryOf, entryFor, entriesFrom, directoryOf, entered, entrySays, entryIs, keptStatus}
 use Rattle.flash.specs.Search.{firstFrom, countFrom, isNamed, searchOf, targetOf, takes, placeOf}
-use Rattle.flash.specs.Change.{stored}
+use Rattle.flash.specs.Change.{stored, eraseCount, erased, bitOf}
 use Rattle.group.specs.Ending.{replied}
 use Rattle.memory.specs.Run.{allBelow}
 use Rattle.report.specs.Status.{ownStatus}
 use Rattle.node.specs.Valid.{masksOk, stateOk}
-use Rattle.node.specs.Refusals.{requestVerdict}
+use Rattle.node.specs.Refusals.{requestVerdict, eraseVerdict}
 use Rattle.node.specs.Route.{addressed, routeOf}
 use Rattle.node.specs.Settings.{pingOf}
 use Rattle.node.specs.Files.{writeOf}
 use Rattle.node.specs.Own.{settingsOf, filesOf, ownOf}
-use Rattle.node.specs.Calls.{requestOf}
+use Rattle.node.specs.Calls.{requestOf, eraseOf}
 use Rattle.node.specs.declared.Answer.{Answer}
 use Rattle.logodwen.specs.Bytes.{valueOf, digitsOf, wordsIn, wordsOf, bytesOf}
 use Rattle.logodwen.specs.Places.{packed}
 use Rattle.logodwen.specs.StateBytes.{encodeOf, nodeIn, alike, areState}
-use Rattle.logodwen.specs.Causes.{requestCheck}
-use Rattle.logodwen.specs.Entry.{requestEntry}
-use Rattle.border.specs.Host.{Entry, U8s, InC, numberAfter, isDone, Hosted}
+use Rattle.logodwen.specs.Causes.{requestCheck, eraseCheck}
+use Rattle.logodwen.specs.Entry.{requestEntry, eraseEntry}
+use Rattle.border.specs.Host.{Entry, U8s, InC, numberAfter, flashAfter, isDone, Hosted}
 use Rattle.border.specs.Kept.{directoryBytes, NoStaleRecord}
 use Rattle.border.specs.ReadsBack.{fileWrite, endNumber}
+use Rattle.border.specs.Flash.{InStep, NoBitRises}
 use Rattle.border.specs.Answers.{Says, answerIn, NothingCut}
 use Rattle.border.specs.ClosedRun.{blank, file, zeros, fresh, sends, started, written, ClosedRun}
-use Rattle.border.specs.ShutOut.{refusing, scanning, cutting, ShutOut}
+use Rattle.border.specs.ShutOut.{refusing, scanning, cutting, hasty, ShutOut}
 use Rattle.border.proofs.ClosedRun.{closed-run}
 
 -- what always refuses answers the same to Write and to Read
@@ -107,5 +108,28 @@ cuts h =
     (subst (λ (a : Answer). Says (numberAfter cutting pings fresh blank) a) ping-answer says) in
     omega (arith, both .words)
 
+-- what erases all at the first progress call sets the second word of sector 3 in a step of one word
+
+abbrev begun : List ℕ
+begun = laid fresh 14 (3 ∷ [])
+
+cleared : U8s (zeros 65536)
+unfolding allBelow
+cleared = tested (zeros 65536) refl
+
+second-byte : (says : ℕ → ℕ) → getD (flashAfter (hasty says) (Entry.Erase 1) begun (zeros 65536)) 4098 0 ≡ 0xFF
+unfolding laid isSector bySector eraseCount erased masksOk stateOk eraseVerdict eraseOf valueOf digitsOf wordsIn wordsOf bytesOf packed encodeOf nodeIn alike areState eraseCheck eraseEntry
+second-byte says = refl
+
+not-in-step : InStep begun 1 4098 → ⊥
+unfolding laid bySector isSector valueOf
+not-in-step q = omega (arith, q .1)
+
+erases-all : (says : ℕ → ℕ) → NoBitRises (hasty says) → ⊥
+erases-all says h =
+    let stays = h (Entry.Erase 1) begun (zeros 65536) cleared 4098 0 (omega arith) not-in-step refl in
+    let set = ap (λ (x : ℕ). bitOf x 0) (second-byte says) in
+    omega (arith, stays, set)
+
 pub shut-out : ShutOut
-shut-out = record { refuses = refuses; scans-once = scans-once; cuts = cuts }
+shut-out = record { refuses = refuses; scans-once = scans-once; cuts = cuts; erases-all = erases-all }

@@ -3,6 +3,9 @@ pub mod Settled
 pub mod Host
 pub mod Kept
 pub mod ReadsBack
+pub mod Flash
 pub mod Answers
+pub mod NeverCorrupted
+pub mod Writes
 pub mod ClosedRun
 pub mod ShutOut

@@ -1,11 +1,13 @@
--- Wrong entries, and for each the statement that it fails: two that 01 names under 'What calls owe', as a host in C would meet them, and
+-- Wrong entries, and for each the statement that it fails: three that 01 names under 'What calls owe', as a host in C would meet them, and
 -- one that a host would meet with a number of the wrong size. An entry of which nothing is said is ours. Assumes nothing.
 use Prim.Native.Nat.{ℕ, _%_}
 use mathlib.Core.List.{List}
+use lib.ListN.{length}
 use Rattle.node.specs.Calls.{lentReply, lentFlash}
 use Rattle.logodwen.specs.Entry.{Answered, answered, startEntry, requestEntry, replyEntry, pollEntry, eraseEntry}
 use Rattle.border.specs.Exactly.{Entries}
 use Rattle.border.specs.Kept.{NoStaleRecord}
+use Rattle.border.specs.Flash.{NoBitRises}
 use Rattle.border.specs.Answers.{NothingCut}
 use Rattle.border.specs.ClosedRun.{ClosedRun}
 
@@ -48,8 +50,23 @@ cutting =
       erase = eraseEntry;
     }
 
+-- Erases all at the first progress call, whatever it answers.
+abbrev pub answering : ℕ → Answered → Answered
+answering number a = answered number (a .state) (a .runs)
+
+abbrev pub hasty : (ℕ → ℕ) → Entries
+hasty says =
+    record {
+      start = startEntry;
+      request = requestEntry;
+      reply = replyEntry;
+      poll = pollEntry;
+      erase = λ budget state flash. answering (says budget) (eraseEntry (length flash) state flash);
+    }
+
 -- Each fails a statement.
 pub record ShutOut : Type 0 where
   pub refuses : (number : ℕ) → ClosedRun (refusing number) → ⊥
   pub scans-once : NoStaleRecord scanning → ⊥
   pub cuts : NothingCut cutting → ⊥
+  pub erases-all : (says : ℕ → ℕ) → NoBitRises (hasty says) → ⊥
