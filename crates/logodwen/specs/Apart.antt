@@ -1,5 +1,5 @@
--- Which lent runs a request can touch, by the second byte of its first word, where an own command has its ID: what it can't touch
--- need not be taken out of its bytes. Assumes nothing.
+-- Which lent runs a request can touch, by the second byte of its first word, where an own command has its ID (01 'Requests', step 4): what
+-- it can't touch need not be taken out of its bytes. No entry's statement rests on this. Assumes nothing.
 use Prim.Native.Nat.{ℕ}
 use mathlib.Core.Bool.{Bool, _||_}
 use mathlib.Core.List.{List}
