@@ -14,7 +14,7 @@ use Rattle.base.proofs.Pick.{yes, no, and-left, and-right}
 use Rattle.group.specs.Ending.{replied, zeroReply}
 use Rattle.group.specs.declared.Reply.{Reply}
 use Rattle.group.specs.declared.ZeroLength.{ZeroLength}
-use Rattle.node.specs.Effect.{Lent, Outcome, ownOutcome}
+use Rattle.node.specs.Effect.{Lent, Outcome, applied, ownOutcome}
 use Rattle.node.specs.Route.{firstByte, secondByte, bcOf, drops, addressed, routeOf}
 use Rattle.node.specs.Own.{ownOf}
 use Rattle.node.specs.Calls.{judged, routed, requestOf}
@@ -122,3 +122,31 @@ module _ (n : Node) (clock link bc : ℕ) (errors : Bool) (packet : List ℕ) (l
 
   pub delivered-own : Delivered logodwen n clock link bc errors packet l → Own
   delivered-own d = let k = delivered-comes n clock link bc errors packet l d in own-is (k .fine) (sym (own-route ∙ k .route))
+
+  -- or it is refused, or answered ERROR, and leaves flash, erasure and memories
+  pub record Unserved : Type 0 where
+    pub answer : requestOf n clock link bc errors packet l .turn .answer ≡ Answer.Reply (zeroReply ZeroLength.End) → ⊥
+    pub flash : requestOf n clock link bc errors packet l .after .flash ≡ l .flash
+    pub memories : requestOf n clock link bc errors packet l .after .memories ≡ l .memories
+    pub erasing : requestOf n clock link bc errors packet l .turn .node .erasing ≡ n .erasing
+
+  unserved : (o : Outcome) → requestOf n clock link bc errors packet l ≡ o → (o .turn .answer ≡ Answer.Reply (zeroReply ZeroLength.End) → ⊥)
+      → o .after .flash ≡ l .flash → o .after .memories ≡ l .memories → o .turn .node .erasing ≡ n .erasing → Unserved
+  unserved o is a f m e =
+      record {
+        answer = λ h. a (ap (λ (x : Outcome). x .turn .answer) (sym is) ∙ h);
+        flash = ap (λ (x : Outcome). x .after .flash) is ∙ f;
+        memories = ap (λ (x : Outcome). x .after .memories) is ∙ m;
+        erasing = ap (λ (x : Outcome). x .turn .node .erasing) is ∙ e;
+      }
+
+  pub own-or-not : Own ⊎ Unserved
+  unfolding requestOf
+  own-or-not = by (verdictOn n link packet l) refl
+    where
+      by : (v : Verdict) → verdictOn n link packet l ≡ v → Own ⊎ Unserved
+      by Verdict.Fine v =
+          ⊎-elim (λ r. inl (own-is v r))
+          (λ r. inr (unserved (applied n l (routed Route.Wrong n clock link packet l)) (λ i. judged (v i) n l (routed (r i) n clock link packet l)) (λ h. not-end 1 refl (ap bcIn h)) refl refl refl))
+          command-route
+      by (Verdict.No x) v = inr (unserved (judged (Verdict.No x) n l (requestEffect n clock link bc errors packet l)) (λ i. judged (v i) n l (requestEffect n clock link bc errors packet l)) (λ h. false≢true (sym (ap isRefused h))) refl refl refl)

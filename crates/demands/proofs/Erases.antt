@@ -1,45 +1,51 @@
--- An erasure, from the Erase that is answered END through any row of steps: each call is the flash's own step, on a state that stays
--- valid. Assumes nothing.
-use Prim.Native.Nat.{ℕ, min, _+_, _/_, _≤_, _<_}
+-- An erasure, from the Erase that is answered END through any calls: other calls leave it while it goes on, and each step sets the next
+-- words of its sector. Assumes nothing.
+use Prim.Native.Nat.{ℕ, min, _+_, _-_, _/_, _≤_, _<_}
 use mathlib.Core.Path.{_≡_, refl, sym, ap, _∙_, subst}
-use mathlib.Core.Bool.{Bool, true, false, _||_, not}
-use mathlib.Core.List.{List, [], _∷_}
-use native.Mathlib.Nat.{zero-add}
+use mathlib.Core.Logic.{⊎-elim}
+use mathlib.Core.Bool.{Bool, true, false, _||_, not, false≢true}
+use mathlib.Core.List.{List, []}
+use native.Mathlib.Nat.{add-zero}
+use native.Mathlib.Decide.{decLt}
 use native.Mathlib.Omega.{arith}
-use lib.ListN.{length, getD, length-replicate}
-use lib.Dec.{eqb}
-use borrow.Author.Tests.{eq-eqb, lt-leb, lt-ltb}
+use lib.ListN.{length, getD, length-replicate, replicate-append-replicate}
+use lib.Dec.{eqb, leb}
+use borrow.Author.Tests.{eq-eqb, leb-true, leb-false, lt-ltb}
+use Rattle.base.specs.Pick.{pick}
 use Rattle.base.specs.Words.{laid, blanks}
-use Rattle.base.proofs.Laid.{laid-whole}
-use Rattle.base.proofs.Pick.{yes, no, pick-case}
+use Rattle.base.proofs.Laid.{length-laid, laid-none, laid-laid, laid-whole}
+use Rattle.base.proofs.Pick.{yes, no}
 use Rattle.flash.specs.Geometry.{isSector, unitOf, sizeOf, startOf, sectorOf}
 use Rattle.flash.specs.Status.{isEmpty, progress}
-use Rattle.flash.specs.Change.{restOf, eraseCount, erased, erasingAfter, erasedBy, erasingBy, countedBy, sum}
+use Rattle.flash.specs.Change.{restOf, eraseCount, erased, erasingAfter}
 use Rattle.flash.specs.declared.Erasing.{Erasing}
 use Rattle.flash.specs.declared.Found.{Found}
-use Rattle.flash.proofs.Geometry.{length-sector, laid-sector}
+use Rattle.flash.proofs.Geometry.{sector-fits, length-sector, laid-sector}
 use Rattle.flash.proofs.Statuses.{empty-blanks}
-use Rattle.flash.proofs.Erasure.{erasing-by, erased-from-start, counted-from-start, ended-from-start}
-use Rattle.group.specs.Ending.{zeroReply}
-use Rattle.group.specs.declared.ZeroLength.{ZeroLength}
-use Rattle.node.specs.Effect.{ownOutcome, Did, changes, owns, Lent, Outcome, applied, nodeAfter, Change}
+use Rattle.flash.proofs.Erasure.{count-is, erased-laid}
+use Rattle.memory.specs.Segment.{Memories}
+use Rattle.node.specs.Effect.{ownOutcome, Did, changes, owns, Lent, lent, Outcome, applied, nodeAfter, Change, flashAfter}
 use Rattle.node.specs.Files.{isErasing, toErase, eraseAt, eraseStartOf}
 use Rattle.node.specs.Own.{filesOf, ownOf}
-use Rattle.node.specs.Refusals.{eraseVerdict}
+use Rattle.node.specs.Refusals.{replyVerdict, pollVerdict, eraseVerdict}
+use Rattle.node.specs.Slaves.{replyEffect, pollEffect}
 use Rattle.node.specs.Valid.{sizeOk, stateOk}
-use Rattle.node.specs.Calls.{judged, lentFlash, requestOf, eraseEffect, eraseOf}
+use Rattle.node.specs.Calls.{judged, lentFlash, lentReply, requestOf, replyOf, pollOf, eraseEffect, eraseOf}
 use Rattle.node.specs.declared.Answer.{Answer}
 use Rattle.node.specs.declared.Node.{Node}
 use Rattle.node.specs.declared.Verdict.{Verdict}
-use Rattle.node.proofs.Why.{erase-sector}
+use Rattle.node.proofs.Why.{Why, request-why, erase-sector}
 use Rattle.node.proofs.Directories.{some-words}
 use Rattle.node.proofs.Ranges.{and-both, ranges-tell, ranges-told}
 use Rattle.node.proofs.Verdicts.{Fit, request-fine}
-use Rattle.demands.specs.Machine.{logodwen}
-use Rattle.demands.specs.Requests.{Delivered, isCommand}
-use Rattle.demands.specs.Flash.{Row, counting, rowOf, Sets, Begins, Erases}
-use Rattle.demands.proofs.Commands.{not-end, ended-own, delivered-own}
-use Rattle.demands.proofs.Sound.{Valid, change-size, given-size, some-unit, step-valid}
+use Rattle.demands.specs.Machine.{Call, logodwen, turnOf, flashOf}
+use Rattle.demands.specs.Requests.{end, Delivered, isCommand}
+use Rattle.demands.specs.Reached.{Lends16, stateAfter, Step}
+use Rattle.demands.specs.Flash.{Begins, isStart, budgetOf, countOf, Course, HasSet, Erases}
+use Rattle.demands.proofs.Taken.{verdictOn, requestEffect, request-answer, reply-answer, poll-answer}
+use Rattle.demands.proofs.Commands.{ended-own, delivered-own}
+use Rattle.demands.proofs.Sound.{Valid, step-valid, call-valid, given-size, some-unit, refused-same, refused-flash}
+use Rattle.demands.proofs.Follows.{began, erase-begins, erasure-follows}
 
 -- a step on a valid state is taken
 erase-taken : (n : Node) (flash : List ℕ) (budget : ℕ) → Valid n flash → eraseOf n budget flash ≡ applied n (lentFlash flash) (eraseEffect n budget flash)
@@ -55,31 +61,62 @@ erase-taken n flash budget v = ap (λ (x : Verdict). judged x n (lentFlash flash
     state-fits : not (stateOk n) ≡ false
     state-fits = ap not (ranges-told n (v .ranges))
 
--- a row of steps is the flash's own row
-record RowIs (budgets : List ℕ) (n : Node) (flash : List ℕ) : Type 0 where
-  words : rowOf logodwen budgets n flash .flash ≡ erasedBy flash (n .erasing) budgets
-  sums : rowOf logodwen budgets n flash .count ≡ countedBy (unitOf flash) (n .erasing) budgets
-  left : rowOf logodwen budgets n flash .node .erasing ≡ erasingBy (unitOf flash) (n .erasing) budgets
+-- what a call leaves of an erasure in progress that neither starts the node nor goes on with it
+record Leaves (c : Call) (n : Node) (flash : List ℕ) : Type 0 where
+  erasing : stateAfter logodwen c n flash .erasing ≡ n .erasing
+  words : flashOf logodwen c n flash ≡ flash
+  count : countOf (turnOf logodwen c n flash .answer) ≡ 0
 
-row-is : (budgets : List ℕ) (n : Node) (flash : List ℕ) → Valid n flash → RowIs budgets n flash
-unfolding rowOf erasedBy countedBy erasingBy
-row-is [] n flash v = record { words = refl; sums = refl; left = refl }
-row-is (b ∷ budgets) n flash v =
-    let after : List ℕ = erased flash (n .erasing) b in
-    let rest = row-is budgets (nodeAfter n flash (eraseEffect n b flash)) after (step-valid n flash b v) in
-    let unit : unitOf after ≡ unitOf flash = ap (λ (k : ℕ). k / 16) (change-size (Change.Blanked b) (n .erasing) flash) in
-    let next : Erasing = erasingAfter (unitOf flash) (n .erasing) b in
-    let whole = ap (λ (o : Outcome). counting (o .turn .answer) (rowOf logodwen budgets (o .turn .node) (o .after .flash))) (erase-taken n flash b v) in
-    record {
-      words = ap (λ (r : Row). r .flash) whole ∙ rest .words;
-      sums =
-          ap (λ (r : Row). r .count) whole
-          ∙ ap (λ (k : ℕ). eraseCount (unitOf flash) (n .erasing) b + k) (rest .sums ∙ ap (λ (k : ℕ). countedBy k next budgets) unit);
-      left = ap (λ (r : Row). r .node .erasing) whole ∙ rest .left ∙ ap (λ (k : ℕ). erasingBy k next budgets) unit;
-    }
+abbrev CountsNone : Answer → Type 0
+CountsNone a = countOf a ≡ 0
+
+module _ (n : Node) (flash : List ℕ) (erases : isErasing (n .erasing) ≡ true) where
+  not-idle : {A : Type 0} → n .erasing ≡ Erasing.Nothing → A
+  not-idle e = absurd (false≢true (sym (ap isErasing e) ∙ erases))
+
+  request-leaves : (clock link bc : ℕ) (errors : Bool) (packet : List ℕ) (m : Memories) (reply : List ℕ) → Leaves (Call.Request clock link bc errors packet m reply) n flash
+  unfolding requestOf
+  request-leaves clock link bc errors packet m reply =
+      record {
+        erasing = ⊎-elim (λ e. e) (λ b. not-idle (b .idle)) (erasure-follows .request n clock link bc errors packet (lent flash m reply));
+        words = words (verdictOn n link packet (lent flash m reply));
+        count = count (verdictOn n link packet (lent flash m reply));
+      }
+    where
+      why : (c : Change) → Why c n flash packet → flashAfter c (n .erasing) flash ≡ flash
+      why Change.Kept w = refl
+      why (Change.Wrote s file) w = not-idle (w .idle)
+      why (Change.Headed s end header) w = not-idle (w .idle)
+      why (Change.Begun s) w = refl
+      why (Change.Blanked budget) w = absurd w
+
+      words : (v : Verdict) → judged v n (lent flash m reply) (requestEffect n clock link bc errors packet (lent flash m reply)) .after .flash ≡ flash
+      words Verdict.Fine = why (requestEffect n clock link bc errors packet (lent flash m reply) .change) (request-why n (lent flash m reply) packet clock link bc errors .0)
+      words (Verdict.No r) = refl
+
+      count : (v : Verdict) → countOf (judged v n (lent flash m reply) (requestEffect n clock link bc errors packet (lent flash m reply)) .turn .answer) ≡ 0
+      count Verdict.Fine = request-answer CountsNone (λ _. refl) (λ _. refl) n clock link bc errors packet (lent flash m reply)
+      count (Verdict.No r) = refl
+
+  reply-leaves : (clock slave bc : ℕ) (errors : Bool) (status address : ℕ) (words reply : List ℕ) → Leaves (Call.Reply clock slave bc errors status address words reply) n flash
+  unfolding replyOf
+  reply-leaves clock slave bc errors status address words reply =
+      record { erasing = erasure-follows .reply n clock slave bc errors status address words reply; words = refl; count = count (replyVerdict n slave (length reply)) }
+    where
+      count : (v : Verdict) → countOf (judged v n (lentReply reply) (replyEffect n clock errors status address bc words reply) .turn .answer) ≡ 0
+      count Verdict.Fine = reply-answer CountsNone (λ _. refl) (λ _. refl) refl n clock errors status address bc words reply
+      count (Verdict.No r) = refl
+
+  poll-leaves : (clock : ℕ) (reply : List ℕ) → Leaves (Call.Poll clock reply) n flash
+  unfolding pollOf
+  poll-leaves clock reply = record { erasing = erasure-follows .poll n clock reply; words = refl; count = count (pollVerdict n (length reply)) }
+    where
+      count : (v : Verdict) → countOf (judged v n (lentReply reply) (pollEffect n clock reply) .turn .answer) ≡ 0
+      count Verdict.Fine = poll-answer CountsNone (λ _. refl) (λ _. refl) refl n clock reply
+      count (Verdict.No r) = refl
 
 -- the erasure of a sector just begun
-module _ (n : Node) (flash : List ℕ) (s : ℕ) (v : Valid n flash) (sector : isSector s ≡ true) (begun : n .erasing ≡ Erasing.Sector (progress s 0)) (budgets : List ℕ) where
+module _ (n : Node) (flash : List ℕ) (s : ℕ) (v : Valid n flash) (sector : isSector s ≡ true) (begun : n .erasing ≡ Erasing.Sector (progress s 0)) where
   abbrev u : ℕ
   u = unitOf flash
 
@@ -89,53 +126,136 @@ module _ (n : Node) (flash : List ℕ) (s : ℕ) (v : Valid n flash) (sector : i
   some : 0 < size
   some = some-words u s (some-unit n flash v) sector
 
-  all : RowIs budgets n flash
-  all = row-is budgets n flash v
+  abbrev front : ℕ → List ℕ
+  front k = laid flash (startOf u s) (blanks k)
 
-  set-words : rowOf logodwen budgets n flash .flash ≡ laid flash (startOf u s) (blanks (min (sum budgets) size))
-  set-words = all .words ∙ ap (λ (e : Erasing). erasedBy flash e budgets) begun ∙ erased-from-start flash s budgets
+  -- where it has come, of a state that is valid
+  record Stage (m : Node) (after : List ℕ) (given counted : ℕ) : Type 0 where
+    valid : Valid m after
+    has : HasSet s flash m after given counted
 
-  left-is : rowOf logodwen budgets n flash .node .erasing ≡ erasingBy u (Erasing.Sector (progress s 0)) budgets
-  left-is = all .left ∙ ap (λ (e : Erasing). erasingBy u e budgets) begun
-
-  set-empty : size ≤ sum budgets → isEmpty (sectorOf (rowOf logodwen budgets n flash .flash) s) ≡ true
-  set-empty h =
-      let m : min (sum budgets) size ≡ size = omega arith in
+  -- all of the sector is set
+  all-empty : isEmpty (sectorOf (front size) s) ≡ true
+  all-empty =
       let z : startOf u s ≡ startOf u s + 0 = omega arith in
       let l = length-replicate {A = ℕ} size 0xFFFF in
-      ap (λ (x : List ℕ). isEmpty (sectorOf x s)) (set-words ∙ (λ i. laid flash (z i) (blanks (m i))))
+      ap (λ (k : ℕ). isEmpty (sectorOf (laid flash k (blanks size)) s)) z
       ∙ ap isEmpty (laid-sector flash s 0 (blanks size) (omega arith) ∙ laid-whole (sectorOf flash s) (blanks size) (l ∙ sym (length-sector flash s)))
       ∙ empty-blanks size
 
-  sets : Sets logodwen n flash s budgets
-  sets =
-      let h = some in
+  -- it goes on with so many words set, or all are set and it is over
+  going : (m : Node) (given : ℕ) → given < size → m .erasing ≡ Erasing.Sector (progress s given) → HasSet s flash m (front given) given given
+  going m given h e =
+      let k : given ≡ min given size = omega arith in
+      record { words = ap front k; count = k; going = λ _. e; over = λ q. absurd (omega arith); empty = λ q. absurd (omega arith) }
+
+  over : (m : Node) (given : ℕ) → size ≤ given → m .erasing ≡ Erasing.Nothing → HasSet s flash m (front size) given size
+  over m given h e =
+      let k : size ≡ min given size = omega arith in
+      record { words = ap front k; count = k; going = λ q. absurd (omega arith); over = λ _. e; empty = λ _. all-empty }
+
+  -- a step of it
+  module _ (m : Node) (given budget : ℕ) (less : given < size) (erasing : m .erasing ≡ Erasing.Sector (progress s given)) where
+    abbrev count : ℕ
+    count = min budget (size - given)
+
+    unit : unitOf (front given) ≡ u
+    unit =
+        let r = length-replicate {A = ℕ} given 0xFFFF in
+        ap (λ (k : ℕ). k / 16) (length-laid flash (startOf u s) (blanks given) (omega (arith, sector-fits u s)))
+
+    set-more : erased (front given) (m .erasing) budget ≡ front (given + count)
+    set-more =
+        let r = length-replicate {A = ℕ} given 0xFFFF in
+        let at : startOf u s + given ≡ startOf u s + length (blanks given) = omega arith in
+        ap (λ (e : Erasing). erased (front given) e budget) erasing
+        ∙ erased-laid (front given) (progress s given) budget
+        ∙ ap (λ (k : ℕ). laid (front given) (startOf k s + given) (blanks (min budget (restOf k (progress s given))))) unit
+        ∙ ap (λ (k : ℕ). laid (front given) k (blanks count)) at
+        ∙ laid-laid flash (startOf u s) (blanks given) (blanks count) (omega (arith, sector-fits u s))
+        ∙ ap (laid flash (startOf u s)) (replicate-append-replicate given count 0xFFFF)
+
+    counted : eraseCount (unitOf (front given)) (m .erasing) budget ≡ count
+    counted = (λ i. eraseCount (unit i) (erasing i) budget) ∙ count-is u (progress s given) budget
+
+    next : erasingAfter (unitOf (front given)) (m .erasing) budget ≡ pick (leb (size - given) budget) Erasing.Nothing (Erasing.Sector (progress s (given + budget)))
+    unfolding erasingAfter
+    next = λ i. erasingAfter (unit i) (erasing i) budget
+
+    step-has : (after : Node) → after .erasing ≡ erasingAfter (unitOf (front given)) (m .erasing) budget → HasSet s flash after (front (given + count)) (given + budget) (given + count)
+    step-has after e = by (leb (size - given) budget) refl
+      where
+        by : (t : Bool) → leb (size - given) budget ≡ t → HasSet s flash after (front (given + count)) (given + budget) (given + count)
+        by true q =
+            let l = leb-true (size - given) budget q in
+            let k : size ≡ given + count = omega arith in
+            subst (λ (x : ℕ). HasSet s flash after (front x) (given + budget) x) k
+            (over after (given + budget) (omega arith) (e ∙ next ∙ sym (yes _ q refl)))
+        by false q =
+            let l = leb-false (size - given) budget q in
+            let k : given + budget ≡ given + count = omega arith in
+            subst (λ (x : ℕ). HasSet s flash after (front x) (given + budget) x) k
+            (going after (given + budget) (omega arith) (e ∙ next ∙ sym (no _ q refl)))
+
+    -- as the call makes it
+    erase-stage : (counted′ : ℕ) → counted′ ≡ given → Valid m (front given)
+        → Stage (eraseOf m budget (front given) .turn .node) (eraseOf m budget (front given) .after .flash) (given + budget) (counted′ + countOf (eraseOf m budget (front given) .turn .answer))
+    erase-stage counted′ z w =
+        subst (λ (o : Outcome). Stage (o .turn .node) (o .after .flash) (given + budget) (counted′ + countOf (o .turn .answer))) (sym (erase-taken m (front given) budget w))
+        (record {
+          valid = step-valid m (front given) budget w;
+          has =
+              subst (λ (x : List ℕ). HasSet s flash taken x (given + budget) (counted′ + eraseCount (unitOf (front given)) (m .erasing) budget)) (sym set-more)
+              (subst (λ (x : ℕ). HasSet s flash taken (front (given + count)) (given + budget) x) (sym (λ i. z i + counted i)) (step-has taken refl));
+        })
+      where
+        taken : Node
+        taken = nodeAfter m (front given) (eraseEffect m budget (front given))
+
+  -- a call that leaves it
+  left-stage : (c : Call) (m : Node) (now : List ℕ) (given counted : ℕ) → given < size → Lends16 c → Stage m now given counted → Leaves c m now
+      → Stage (stateAfter logodwen c m now) (flashOf logodwen c m now) (given + 0) (counted + countOf (turnOf logodwen c m now .answer))
+  left-stage c m now given counted less b stage l =
+      let z = l .count in
+      let k = stage .has .count in
+      let same : given ≡ given + 0 = omega arith in
       record {
-        words = set-words;
-        count = all .sums ∙ ap (λ (e : Erasing). countedBy u e budgets) begun ∙ counted-from-start u s budgets;
-        going = λ k. left-is ∙ erasing-by u (progress s 0) budgets (omega arith)
-            ∙ sym (no _ (lt-leb (restOf u (progress s 0)) (sum budgets) (omega arith)) refl)
-            ∙ ap (λ (x : ℕ). Erasing.Sector (progress s x)) (zero-add (sum budgets));
-        over = λ k. left-is ∙ ended-from-start u s budgets h k;
-        empty = set-empty;
+        valid = call-valid c m now b (stage .valid);
+        has = record {
+          words = l .words ∙ stage .has .words ∙ ap (λ (x : ℕ). front (min x size)) same;
+          count = omega arith;
+          going = λ _. l .erasing ∙ stage .has .going less ∙ ap (λ (x : ℕ). Erasing.Sector (progress s x)) same;
+          over = λ q. absurd (omega arith);
+          empty = λ q. absurd (omega arith);
+        };
       }
 
--- an Erase answered END began an erasure
-record Began (n : Node) (packet : List ℕ) (d : Did) : Type 0 where
-  sector : ℕ
-  named : toErase n (getD packet 1 0) ≡ Found.At sector
-  is : d ≡ changes (Change.Begun sector)
+  made-stage : (c : Call) (m : Node) (now : List ℕ) (given counted : ℕ) → given < size → isStart c ≡ false → Lends16 c → Stage m now given counted
+      → Stage (stateAfter logodwen c m now) (flashOf logodwen c m now) (given + budgetOf c) (counted + countOf (turnOf logodwen c m now .answer))
+  made-stage (Call.Start kind ports subdetector program version tests clock) m now given counted less q b stage = absurd (false≢true (sym q))
+  made-stage (Call.Request clock link bc errors packet memories reply) m now given counted less q b stage =
+      left-stage (Call.Request clock link bc errors packet memories reply) m now given counted less b stage
+      (request-leaves m now (ap isErasing (stage .has .going less)) clock link bc errors packet memories reply)
+  made-stage (Call.Reply clock slave bc errors status address words reply) m now given counted less q b stage =
+      left-stage (Call.Reply clock slave bc errors status address words reply) m now given counted less b stage
+      (reply-leaves m now (ap isErasing (stage .has .going less)) clock slave bc errors status address words reply)
+  made-stage (Call.Poll clock reply) m now given counted less q b stage =
+      left-stage (Call.Poll clock reply) m now given counted less b stage (poll-leaves m now (ap isErasing (stage .has .going less)) clock reply)
+  made-stage (Call.Erase budget) m now given counted less q b stage =
+      let k : min given size ≡ given = omega arith in
+      let e = stage .has .words ∙ ap front k in
+      subst (λ (x : List ℕ). Stage (eraseOf m budget x .turn .node) (eraseOf m budget x .after .flash) (given + budget) (counted + countOf (eraseOf m budget x .turn .answer))) (sym e)
+      (erase-stage m given budget less (stage .has .going less) counted (stage .has .count ∙ k) (subst (Valid m) e (stage .valid)))
 
-began : (n : Node) (clock link : ℕ) (packet : List ℕ) (l : Lent) → ownOf 0x47 n clock link packet l .reply .bc ≡ 3 → Began n packet (ownOf 0x47 n clock link packet l)
-unfolding ownOf filesOf eraseStartOf
-began n clock link packet l =
-    let P : Did → Type 0 = λ d. d .reply .bc ≡ 3 → Began n packet d in
-    pick-case P (isErasing (n .erasing)) (λ _. not-end 2 refl)
-    (λ _. pick-case P (eqb (length packet) 2) (λ _. by (toErase n (getD packet 1 0)) refl) (λ _. not-end 2 refl))
-  where
-    by : (f : Found) → toErase n (getD packet 1 0) ≡ f → eraseAt f .reply .bc ≡ 3 → Began n packet (eraseAt f)
-    by Found.Nothing e = not-end 2 refl
-    by (Found.At s) e = λ _. record { sector = s; named = e; is = refl }
+  -- whatever calls are made
+  course-stage : {m : Node} {after : List ℕ} {given counted : ℕ} → Course logodwen size n flash m after given counted → Stage m after given counted
+  course-stage Course.Begun =
+      record { valid = v; has = subst (λ (x : List ℕ). HasSet s flash n x 0 0) (sym (laid-none flash (startOf u s))) (going n 0 some begun) }
+  course-stage (Course.Then {m = m} {now = now} {given = given} {counted = counted} r less (Step.Made c b) q) = made-stage c m now given counted less q b (course-stage r)
+  course-stage (Course.Then {m = m} {now = now} {given = given} {counted = counted} r less (Step.OtherFlash c other h) q) =
+      subst (λ (x : Node). Stage x now (given + 0) (counted + 0)) (sym (refused-same c m other h)) (subst (λ (k : ℕ). Stage m now k (counted + 0)) (sym (add-zero given)) (subst (Stage m now given) (sym (add-zero counted)) (course-stage r)))
+  course-stage (Course.Then {m = m} {now = now} {given = given} {counted = counted} r less (Step.OtherState c other h) q) =
+      subst (λ (x : List ℕ). Stage m x (given + 0) (counted + 0)) (sym (refused-flash c other now h)) (subst (λ (k : ℕ). Stage m now k (counted + 0)) (sym (add-zero given)) (subst (Stage m now given) (sym (add-zero counted)) (course-stage r)))
 
 -- the state in which an erasure has begun is valid
 begun-valid : (n : Node) (l : Lent) (s : ℕ) → Fit n (length (l .flash)) → isSector s ≡ true → Valid (nodeAfter n (l .flash) (owns n l (changes (Change.Begun s)))) (l .flash)
@@ -149,29 +269,33 @@ begun-valid n l s fit sector =
       size = fit .size;
     }
 
-erase-begins : (n : Node) (clock link bc : ℕ) (errors : Bool) (packet : List ℕ) (l : Lent) → isCommand 0x47 packet ≡ true
-    → requestOf n clock link bc errors packet l .turn .answer ≡ Answer.Reply (zeroReply ZeroLength.End) → Begins logodwen n (l .flash) packet (requestOf n clock link bc errors packet l)
-erase-begins n clock link bc errors packet l c h =
-    let ended = ended-own n clock link bc errors packet l 0x47 c h in
-    let own = ended .0 in
-    let b = began n clock link packet l (ended .1) in
-    let fit = request-fine n link _ _ _ _ _ _ (own .fine) .fits in
-    let sector = erase-sector n l packet (getD packet 1 0) (b .sector) (b .named) in
-    subst (λ (o : Outcome). Begins logodwen n (l .flash) packet o) (sym (own .is ∙ ap (ownOutcome n l) (b .is)))
-    (record {
-      sector = b .sector;
-      named = b .named;
-      kept = refl;
-      sets = sets (nodeAfter n (l .flash) (owns n l (changes (Change.Begun (b .sector))))) (l .flash) (b .sector) (begun-valid n l (b .sector) fit sector) sector refl;
-    })
+erase-sets : (n : Node) (clock link bc : ℕ) (errors : Bool) (packet : List ℕ) (l : Lent) (s : ℕ) → isCommand 0x47 packet ≡ true
+    → requestOf n clock link bc errors packet l .turn .answer ≡ end → toErase n (getD packet 1 0) ≡ Found.At s
+    → (m : Node) (after : List ℕ) (given counted : ℕ) → Course logodwen (sizeOf (unitOf (l .flash)) s) (requestOf n clock link bc errors packet l .turn .node) (l .flash) m after given counted
+    → HasSet s (l .flash) m after given counted
+erase-sets n clock link bc errors packet l s c h named m after given counted course =
+    let own = ended-own n clock link bc errors packet l 0x47 c h .0 in
+    let b = began n clock link packet l (ended-own n clock link bc errors packet l 0x47 c h .1) in
+    let third : b .sector ≡ s = found-same (sym (b .named) ∙ named) in
+    let o = own .is ∙ ap (ownOutcome n l) (b .is ∙ ap (λ (x : ℕ). changes (Change.Begun x)) third) in
+    let sector = erase-sector n l packet (getD packet 1 0) s named in
+    course-stage (nodeAfter n (l .flash) (owns n l (changes (Change.Begun s)))) (l .flash) s (begun-valid n l s (request-fine n link _ _ _ _ _ _ (own .fine) .fits) sector) sector refl
+    (subst (λ (x : Node). Course logodwen (sizeOf (unitOf (l .flash)) s) x (l .flash) m after given counted) (ap (λ (x : Outcome). x .turn .node) o) course) .has
+  where
+    sectorIn : Found → ℕ
+    sectorIn Found.Nothing = 0
+    sectorIn (Found.At x) = x
+
+    found-same : {x y : ℕ} → Found.At x ≡ Found.At y → x ≡ y
+    found-same e = ap sectorIn e
 
 erase-starts : (n : Node) (clock link bc : ℕ) (errors : Bool) (packet : List ℕ) (l : Lent) (s : ℕ) → isCommand 0x47 packet ≡ true
     → Delivered logodwen n clock link bc errors packet l → length packet ≡ 2 → n .erasing ≡ Erasing.Nothing → toErase n (getD packet 1 0) ≡ Found.At s
-    → requestOf n clock link bc errors packet l .turn .answer ≡ Answer.Reply (zeroReply ZeroLength.End)
+    → requestOf n clock link bc errors packet l .turn .answer ≡ end
 unfolding ownOf filesOf eraseStartOf
 erase-starts n clock link bc errors packet l s c d h idle named =
     ap (λ (o : Outcome). o .turn .answer) (delivered-own n clock link bc errors packet l 0x47 c d .is)
     ∙ ap (λ (x : Did). Answer.Reply (x .reply)) (sym (no _ (ap isErasing idle) (yes _ (eq-eqb (length packet) 2 h) (ap eraseAt (sym named)))))
 
 pub erases : Erases logodwen
-erases = record { begins = erase-begins; starts = erase-starts }
+erases = record { starts = erase-starts; begins = erase-begins; sets = erase-sets }

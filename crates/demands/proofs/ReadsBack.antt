@@ -1,64 +1,108 @@
 -- What File Write stored reads back: it is held over every call that spares it, and a directory that is fresh leads to it.
 -- Assumes nothing.
-use Prim.Native.Nat.{ℕ, _≤_}
+use Prim.Native.Nat.{ℕ, _+_, _≤_}
 use mathlib.Core.Path.{_≡_, refl, sym, ap, _∙_, subst}
-use mathlib.Core.Bool.{Bool, true, false}
+use mathlib.Core.Logic.{_⊎_, inl, inr, ⊎-elim}
+use mathlib.Core.Bool.{Bool, true, false, _&&_, false≢true}
 use mathlib.Core.List.{List}
 use native.Mathlib.Omega.{arith}
 use lib.ListN.{length, getD, take, drop}
-use borrow.Author.Tests.{eq-eqb, le-leb}
+use lib.Dec.{eqb, leb}
 use Rattle.base.specs.Pick.{pick}
 use Rattle.base.specs.Words.{Below}
-use Rattle.base.proofs.Pick.{yes, no}
+use Rattle.base.proofs.Pick.{pick-case, pick-first, and-left}
 use Rattle.image.specs.Header.{nameOf}
-use Rattle.flash.specs.Geometry.{sectorOf}
-use Rattle.flash.specs.Status.{isErasing as isErasingAt}
-use Rattle.flash.specs.Directory.{directoryOf, keptStatus}
-use Rattle.flash.specs.Search.{isNamed, namedAt, searchOf, targetBy, targetOf}
+use Rattle.image.specs.File.{fileEnd}
+use Rattle.flash.specs.Geometry.{unitOf, entryPlace}
+use Rattle.flash.specs.Directory.{directoryOf, entryFor}
+use Rattle.flash.specs.Search.{isNamed, namedAt, searchOf, targetBy, targetOf, placeOf}
+use Rattle.flash.specs.Status.{progress}
+use Rattle.flash.specs.Change.{restOf, erasingAfter}
 use Rattle.flash.specs.declared.Erasing.{Erasing}
 use Rattle.flash.specs.declared.Found.{Found}
-use Rattle.flash.specs.declared.Status.{Status}
 use Rattle.flash.specs.declared.Target.{Target}
-use Rattle.flash.proofs.Statuses.{status-quiet, status-good}
-use Rattle.flash.proofs.Kept.{kept-true}
+use Rattle.flash.proofs.Kept.{missing-tells}
+use Rattle.flash.proofs.Entries.{directory-word}
 use Rattle.flash.proofs.Searches.{found-told}
 use Rattle.memory.specs.Segment.{Memories}
-use Rattle.group.specs.declared.ZeroLength.{ZeroLength}
-use Rattle.node.specs.Effect.{Lent, lent, says, answers, Outcome, ownOutcome}
-use Rattle.node.specs.Settings.{statusIn}
-use Rattle.node.specs.Files.{isErasing, namedBy, seen, readBy, readAt, readOf, placedFor, writeAt, writeOf}
-use Rattle.node.specs.Own.{filesOf, ownOf}
+use Rattle.node.specs.Effect.{Lent, lent, Did, Outcome, ownOutcome}
+use Rattle.node.specs.Files.{namedBy, isExact, isMissing, placedFor}
+use Rattle.node.specs.Own.{ownOf}
 use Rattle.node.specs.Refusals.{eraseVerdict}
-use Rattle.node.specs.Calls.{judged, lentFlash, requestOf, eraseEffect, eraseOf}
+use Rattle.node.specs.Calls.{judged, lentFlash, startOf, requestOf, eraseEffect, eraseOf}
 use Rattle.node.specs.declared.Node.{Node}
 use Rattle.node.specs.declared.Verdict.{Verdict}
-use Rattle.node.proofs.Why.{request-why, placed-tells}
-use Rattle.demands.specs.Machine.{Call, logodwen, flashOf}
+use Rattle.node.proofs.Why.{request-why, placed-tells, Written as WhyWritten}
+use Rattle.demands.specs.Machine.{Call, logodwen, turnOf, flashOf, isRefused}
 use Rattle.demands.specs.Requests.{end, isCommand}
+use Rattle.demands.specs.Reached.{Lends16, stateAfter, Step}
 use Rattle.demands.specs.Flash.{erasingSite}
-use Rattle.demands.specs.Files.{fileName, setsAttribute, Runs, ReadsBack}
+use Rattle.demands.specs.Files.{fileName, setsAttribute, Spares, SparesIn, Runs, Differs, Names, Written, ReadsBack}
 use Rattle.demands.proofs.Taken.{verdictOn, requestEffect}
-use Rattle.demands.proofs.Commands.{command-told, not-end, ended-own, delivered-own}
-use Rattle.demands.proofs.Sound.{Sound, call-keeps, refused-same, reached-sound}
-use Rattle.demands.proofs.NoStaleRecord.{data-front}
-use Rattle.demands.proofs.Held.{named-own, entry-first, Held, held-header, held-file, held-first, why-held, step-held, stored-held}
-use Rattle.demands.proofs.Writes.{write-did}
+use Rattle.demands.proofs.Commands.{command-told, not-end, ended-own, Own}
+use Rattle.demands.proofs.Sound.{Sound, call-keeps, refused-same, refused-flash, reached-sound}
+use Rattle.demands.proofs.Follows.{erasure-follows}
+use Rattle.demands.proofs.Lays.{stored-laid, Placed, write-did, flash-follows}
+use Rattle.demands.proofs.Held.{named-own, entry-first, Held, held-header, held-first, why-held, step-held, stored-held}
+use Rattle.demands.proofs.Writes.{placed-lowest}
+use Rattle.demands.proofs.NeverCorrupted.{good-is-served}
 
--- a call that spares the file keeps it
-call-held : (c : Call) (n : Node) (flash : List ℕ) (s : ℕ) (file : List ℕ) → Sound n flash → (erasingSite (n .erasing) ≡ Found.At s → ⊥) → setsAttribute (fileName file) c ≡ false
+no-site : {A : Type 0} (s : ℕ) → Found.Nothing ≡ Found.At s → A
+no-site s e = let z : _≡_ {A = ℕ} 0 1 = cc in absurd (omega arith)
+
+-- a call that spares the file begins no erasure of its sector
+after-site : (u : ℕ) (e : Erasing) (budget s : ℕ) → erasingSite (erasingAfter u e budget) ≡ Found.At s → erasingSite e ≡ Found.At s
+unfolding erasingAfter
+after-site u Erasing.Nothing budget s h = h
+after-site u (Erasing.Sector p) budget s h = by (leb (restOf u p) budget) h
+  where
+    by : (t : Bool) → erasingSite (pick t Erasing.Nothing (Erasing.Sector (progress (p .sector) (p .done + budget)))) ≡ Found.At s → Found.At (p .sector) ≡ Found.At s
+    by true q = no-site s q
+    by false q = q
+
+call-spared : (c : Call) (n : Node) (flash : List ℕ) (s name : ℕ) → Spares logodwen s name c n flash → (erasingSite (n .erasing) ≡ Found.At s → ⊥)
+    → erasingSite (stateAfter logodwen c n flash .erasing) ≡ Found.At s → ⊥
+call-spared (Call.Start kind ports subdetector program version tests clock) n flash s name p o e =
+    pick-case (λ (m : Node). erasingSite (m .erasing) ≡ Found.At s → ⊥) (isRefused (startOf kind ports subdetector program version tests clock flash .answer)) (λ _. o)
+    (λ _ q. no-site s (sym (ap erasingSite (erasure-follows .start kind ports subdetector program version tests clock flash)) ∙ q)) e
+call-spared (Call.Request clock link bc errors packet m reply) n flash s name p o e =
+    ⊎-elim (λ q. o (ap erasingSite (sym q) ∙ e)) (λ b. p .erase (b .command, b .named ∙ sym (ap erasingSite (b .begun)) ∙ e) (b .answer))
+    (erasure-follows .request n clock link bc errors packet (lent flash m reply))
+call-spared (Call.Reply clock slave bc errors status address words reply) n flash s name p o e =
+    o (ap erasingSite (sym (erasure-follows .reply n clock slave bc errors status address words reply)) ∙ e)
+call-spared (Call.Poll clock reply) n flash s name p o e = o (ap erasingSite (sym (erasure-follows .poll n clock reply)) ∙ e)
+call-spared (Call.Erase budget) n flash s name p o e = by (isRefused (eraseOf n budget flash .turn .answer)) refl
+  where
+    by : (t : Bool) → isRefused (eraseOf n budget flash .turn .answer) ≡ t → ⊥
+    by true q = o (ap (λ (m : Node). erasingSite (m .erasing)) (sym (refused-same (Call.Erase budget) n flash q)) ∙ e)
+    by false q = o (after-site (unitOf flash) (n .erasing) budget s (ap erasingSite (sym (erasure-follows .erase n budget flash q .erasing)) ∙ e))
+
+-- and keeps it
+call-held : (c : Call) (n : Node) (flash : List ℕ) (s : ℕ) (file : List ℕ) → Sound n flash → (erasingSite (n .erasing) ≡ Found.At s → ⊥) → Spares logodwen s (fileName file) c n flash
     → Held s file flash → Held s file (flashOf logodwen c n flash)
 unfolding requestOf eraseOf
-call-held (Call.Start kind ports subdetector program version tests clock) n flash s file sound o a h = h
-call-held (Call.Request clock link bc errors packet m reply) n flash s file sound o a h = by (verdictOn n link packet (lent flash m reply))
+call-held (Call.Start kind ports subdetector program version tests clock) n flash s file sound o p h = h
+call-held (Call.Request clock link bc errors packet m reply) n flash s file sound o p h = attribute (isCommand 0x48 packet && eqb (nameOf (getD packet 1 0)) (fileName file)) refl
   where
-    by : (v : Verdict) → Held s file (judged v n (lent flash m reply) (requestEffect n clock link bc errors packet (lent flash m reply)) .after .flash)
-    by Verdict.Fine =
+    by : (isCommand 0x48 packet && eqb (nameOf (getD packet 1 0)) (fileName file)) ≡ false
+        → (v : Verdict) → Held s file (judged v n (lent flash m reply) (requestEffect n clock link bc errors packet (lent flash m reply)) .after .flash)
+    by a Verdict.Fine =
         why-held s file flash h (requestEffect n clock link bc errors packet (lent flash m reply) .change) n packet (sound .fresh .summary)
         (request-why n (lent flash m reply) packet clock link bc errors .0) a
-    by (Verdict.No r) = h
-call-held (Call.Reply clock slave bc errors status address words reply) n flash s file sound o a h = h
-call-held (Call.Poll clock reply) n flash s file sound o a h = h
-call-held (Call.Erase budget) n flash s file sound o a h = by (eraseVerdict n (length flash))
+    by a (Verdict.No r) = h
+
+    same : isCommand 0x48 packet ≡ true → setsAttribute (fileName file) (Call.Request clock link bc errors packet m reply) ≡ true → flashOf logodwen (Call.Request clock link bc errors packet m reply) n flash ≡ flash
+    same c a =
+        ⊎-elim (λ e. e)
+        (⊎-elim (λ w. absurd (omega (arith, command-told 0x45 packet (w .command) .number, command-told 0x48 packet c .number))) (λ w. p .attribute a (w .lays .answer)))
+        (flash-follows n clock link bc errors packet (lent flash m reply))
+
+    attribute : (t : Bool) → (isCommand 0x48 packet && eqb (nameOf (getD packet 1 0)) (fileName file)) ≡ t → Held s file (flashOf logodwen (Call.Request clock link bc errors packet m reply) n flash)
+    attribute true a = subst (Held s file) (sym (same (and-left (isCommand 0x48 packet) (eqb (nameOf (getD packet 1 0)) (fileName file)) a) a)) h
+    attribute false a = by a (verdictOn n link packet (lent flash m reply))
+call-held (Call.Reply clock slave bc errors status address words reply) n flash s file sound o p h = h
+call-held (Call.Poll clock reply) n flash s file sound o p h = h
+call-held (Call.Erase budget) n flash s file sound o p h = by (eraseVerdict n (length flash))
   where
     by : (v : Verdict) → Held s file (judged v n (lentFlash flash) (eraseEffect n budget flash) .after .flash)
     by Verdict.Fine = step-held s file flash h (n .erasing) budget (sound .fresh .blank) o
@@ -70,13 +114,20 @@ record Stays (s : ℕ) (file : List ℕ) (n : Node) (flash : List ℕ) : Type 0 
   spared : erasingSite (n .erasing) ≡ Found.At s → ⊥
   held : Held s file flash
 
+step-stays : {s : ℕ} (file : List ℕ) {n : Node} {flash : List ℕ} {next : Node} {after : List ℕ} (step : Step logodwen n flash next after) → SparesIn s (fileName file) step
+    → Stays s file n flash → Stays s file next after
+step-stays {s} file {n} {flash} (Step.Made c b) p k =
+    record {
+      sound = call-keeps c n flash b (k .sound);
+      spared = call-spared c n flash s (fileName file) p (k .spared);
+      held = call-held c n flash s file (k .sound) (k .spared) p (k .held);
+    }
+step-stays {s} file {n} {flash} (Step.OtherFlash c other h) p k = subst (λ (x : Node). Stays s file x flash) (sym (refused-same c n other h)) k
+step-stays {s} file {n} {flash} (Step.OtherState c other h) p k = subst (Stays s file n) (sym (refused-flash c other flash h)) k
+
 run-stays : {s : ℕ} (file : List ℕ) {n : Node} {flash : List ℕ} {m : Node} {after : List ℕ} → Runs logodwen s (fileName file) n flash m after → Stays s file n flash → Stays s file m after
 run-stays file Runs.Here k = k
-run-stays {s} file (Runs.Then {m = m} {after = after} r c b p) k =
-    let q = run-stays file r k in
-    record { sound = call-keeps c m after b (q .sound); spared = p .erasure; held = call-held c m after s file (q .sound) (q .spared) (p .attribute) (q .held) }
-run-stays {s} file (Runs.Refused {m = m} {after = after} r c other h) k =
-    subst (λ (x : Node). Stays s file x after) (sym (refused-same c m other h)) (run-stays file r k)
+run-stays {s} file (Runs.Then r step p) k = step-stays {s = s} file step p (run-stays file r k)
 
 -- the name leads to its sector, which is good
 module _ (n : Node) (flash : List ℕ) (s : ℕ) (file : List ℕ) (fresh : n .directory ≡ directoryOf flash (n .erasing)) (held : Held s file flash) where
@@ -93,60 +144,50 @@ module _ (n : Node) (flash : List ℕ) (s : ℕ) (file : List ℕ) (fresh : n .d
         before = λ j p l. ap (isNamed (fileName file)) (entry-first n flash fresh j p) ∙ held .alone j p (λ q. absurd (omega arith));
       }))
 
-  held-seen : n .erasing ≡ Erasing.Nothing → seen n flash s ≡ Status.Good (length file)
-  held-seen idle =
-      ap (λ (d : List ℕ). keptStatus d flash (n .erasing) s) fresh
-      ∙ kept-true flash (n .erasing) s (held .sector)
-      ∙ status-quiet (n .erasing) s (sectorOf flash s) (ap (λ (e : Erasing). isErasingAt e s) idle)
-      ∙ status-good (sectorOf flash s) (length file) (held-file s file flash held)
+  held-names : (packet : List ℕ) → nameOf (getD packet 1 0) ≡ fileName file → n .erasing ≡ Erasing.Nothing → Names n flash packet s file
+  held-names packet e idle =
+      record {
+        idle = idle;
+        named = held-found (getD packet 1 0) e;
+        valid = held .valid;
+        stands = held .words;
+        same = λ d. d .differs (ap (λ (x : List ℕ). getD x (entryPlace s + d .word) 0) fresh ∙ directory-word flash (n .erasing) s (d .word) (held .sector) (d .below));
+      }
 
-  read-did : (clock link : ℕ) (packet : List ℕ) (l : Lent) → l .flash ≡ flash → n .erasing ≡ Erasing.Nothing → length packet ≡ 2 → nameOf (getD packet 1 0) ≡ fileName file → length file ≤ 12286
-      → ownOf 0x05 n clock link packet l ≡ answers (statusIn n) file
-  unfolding ownOf filesOf readOf
-  read-did clock link packet l f idle two name short =
-      let good : readBy (statusIn n) (sectorOf flash s) (Status.Good (length file)) ≡ answers (statusIn n) file =
-      sym (yes _ (le-leb (length file) 12286 short) (ap (answers (statusIn n)) (sym (held .words)))) in
-      sym (no _ (ap isErasing idle) (yes _ (eq-eqb (length packet) 2 two) refl))
-      ∙ (λ i. readAt n (f i) (held-found (getD packet 1 0) name i))
-      ∙ ap (readBy (statusIn n) (sectorOf flash s)) (held-seen idle)
-      ∙ good
+-- the sector that a placed file has is the one that the placing rule finds
+placed-at : (n : Node) (flash file : List ℕ) (s : ℕ) → placedFor n flash file ≡ Found.At s → placeOf (n .directory) flash (n .erasing) (length file) ≡ Found.At s
+placed-at n flash file s h =
+    pick-first (isMissing (namedBy n (getD file 0 0))) (no-site s) (pick-first (isExact (fileEnd file) (length file)) (no-site s) h .1) .1
 
--- a File Write answered END was not kept by an erasure
-write-idle : (n : Node) (clock link : ℕ) (packet : List ℕ) (l : Lent) → ownOf 0x45 n clock link packet l .reply .bc ≡ 3 → n .erasing ≡ Erasing.Nothing
-unfolding ownOf filesOf writeOf
-write-idle n clock link packet l h = by (n .erasing) refl h
-  where
-    by : (e : Erasing) → n .erasing ≡ e → pick (isErasing e) (says ZeroLength.Abort) (writeAt (drop 1 packet) (placedFor n (l .flash) (drop 1 packet))) .reply .bc ≡ 3 → n .erasing ≡ Erasing.Nothing
-    by Erasing.Nothing q k = q
-    by (Erasing.Sector p) q k = not-end 2 refl k
-
--- after it the file is held
-written-stays : (n : Node) (flash : List ℕ) → Sound n flash → (clock link bc : ℕ) (errors : Bool) (packet : List ℕ) (m : Memories) (reply : List ℕ) (s : ℕ) → Below 65536 packet
-    → isCommand 0x45 packet ≡ true → placedFor n flash (drop 1 packet) ≡ Found.At s → requestOf n clock link bc errors packet (lent flash m reply) .turn .answer ≡ end
-    → Stays s (drop 1 packet) (requestOf n clock link bc errors packet (lent flash m reply) .turn .node) (requestOf n clock link bc errors packet (lent flash m reply) .after .flash)
-written-stays n flash sound clock link bc errors packet m reply s b c placed h =
+-- a File Write answered END
+pub reads-back : ReadsBack logodwen
+reads-back n flash r clock link bc errors packet m reply b c h =
     let l : Lent = lent flash m reply in
     let own = ended-own n clock link bc errors packet l 0x45 c h in
-    let idle = write-idle n clock link packet l (own .1) in
-    let o = own .0 .is ∙ ap (ownOutcome n l) (write-did n clock link packet l s idle placed) in
-    let w = placed-tells n l packet (drop 1 packet) s (command-told 0x45 packet c) idle refl placed in
-    record {
-      sound = call-keeps (Call.Request clock link bc errors packet m reply) n flash b sound;
-      spared = λ e. no-site (sym (ap (λ (x : Outcome). erasingSite (x .turn .node .erasing)) o ∙ ap erasingSite idle) ∙ e);
-      held = subst (λ (x : Outcome). Held s (drop 1 packet) (x .after .flash)) (sym o) (stored-held s (drop 1 packet) n flash packet (sound .fresh .summary) w);
-    }
+    ⊎-elim (λ e. not-end 2 refl (sym (ap (λ (d : Did). d .reply .bc) e) ∙ own .1)) (written (own .0)) (write-did n clock link packet l)
   where
-    no-site : Found.Nothing ≡ Found.At s → ⊥
-    no-site e = let z : _≡_ {A = ℕ} 0 1 = cc in omega arith
-
-pub reads-back : ReadsBack logodwen
-reads-back n flash r clock link bc errors packet m reply s b c placed short h n′ flash′ run idle clock′ link′ bc′ errors′ packet′ m′ reply′ c′ two name d =
-    let file : List ℕ = drop 1 packet in
-    let l : Lent = lent flash′ m′ reply′ in
-    let k = run-stays file run (written-stays n flash (reached-sound r) clock link bc errors packet m reply s b c placed h) in
-    let o =
-    delivered-own n′ clock′ link′ bc′ errors′ packet′ l 0x05 c′ d .is
-    ∙ ap (ownOutcome n′ l) (read-did n′ flash′ s file (k .sound .fresh .summary) (k .held) clock′ link′ packet′ l refl idle two name short) in (
-      ap (λ (x : Outcome). x .turn .answer) o,
-      ap (λ (x : Outcome). take (length file) (x .after .reply)) o ∙ data-front reply′ (statusIn n′) file (length file) refl,
-    )
+    written : Own n clock link bc errors packet (lent flash m reply) 0x45 c → Placed n clock link packet (lent flash m reply) (ownOf 0x45 n clock link packet (lent flash m reply))
+        → Written logodwen flash (drop 1 packet) (requestOf n clock link bc errors packet (lent flash m reply))
+    written own p =
+        let l : Lent = lent flash m reply in
+        let sound = reached-sound r in
+        let w = placed-tells n l packet (drop 1 packet) (p .sector) (command-told 0x45 packet c) (p .idle) refl (p .placed) in
+        let o = own .is ∙ ap (ownOutcome n l) (p .is) in
+        let stays : Stays (p .sector) (drop 1 packet) (requestOf n clock link bc errors packet l .turn .node) (requestOf n clock link bc errors packet l .after .flash) =
+        record {
+          sound = call-keeps (Call.Request clock link bc errors packet m reply) n flash b sound;
+          spared = λ e. no-site (p .sector) (sym (ap (λ (x : Outcome). erasingSite (x .turn .node .erasing)) o ∙ ap erasingSite (p .idle)) ∙ e);
+          held = subst (λ (x : Outcome). Held (p .sector) (drop 1 packet) (x .after .flash)) (sym o) (stored-held (p .sector) (drop 1 packet) n flash packet (sound .fresh .summary) w);
+        } in
+        record {
+          valid = w .valid;
+          unused = λ t q. ap (isNamed (fileName (drop 1 packet))) (sym (entry-first n flash (sound .fresh .summary) t q)) ∙ missing-tells (n .directory) (fileName (drop 1 packet)) (w .unused) t q;
+          sector = p .sector;
+          takes = record { sector = w .place .sector; empty = w .place .empty; room = w .place .room };
+          lowest = placed-lowest n flash (sound .fresh .summary) (p .idle) (length (drop 1 packet)) (p .sector) (placed-at n flash (drop 1 packet) (p .sector) (p .placed));
+          stands = ap (λ (x : Outcome). x .after .flash) o ∙ stored-laid flash (p .sector) (drop 1 packet) (w .place .room);
+          reads = λ n′ later run idle short clock′ link′ bc′ errors′ packet′ m′ reply′ c′ two name d.
+              let k = run-stays (drop 1 packet) run stays in
+              good-is-served .read n′ clock′ link′ bc′ errors′ packet′ (lent later m′ reply′) (p .sector) (drop 1 packet) c′ d two
+              (held-names n′ later (p .sector) (drop 1 packet) (k .sound .fresh .summary) (k .held) packet′ name idle) short;
+        }

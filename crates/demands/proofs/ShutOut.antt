@@ -1,20 +1,23 @@
 -- Each wrong node fails: the refusing one where ours takes a call, the others on the closed run, on a blank flash that is written to,
 -- or on a flash of zeros of which a sector is erased. Assumes nothing.
-use Prim.Native.Nat.{ℕ, zero, suc, _+_, _<_, min}
+use Prim.Native.Nat.{ℕ, zero, suc, _+_, _≤_, _<_}
 use mathlib.Core.Path.{_≡_, refl, sym, ap, _∙_, subst}
-use mathlib.Core.Bool.{true, false}
+use mathlib.Core.Logic.{inr, ⊎-elim}
+use mathlib.Core.Bool.{true, false, false≢true}
 use mathlib.Core.List.{List, [], _∷_}
+use native.Mathlib.Nat.{add-zero}
 use native.Mathlib.Omega.{arith}
-use lib.ListN.{length, getD, take, replicate, length-replicate, getD-replicate}
-use lib.Seq.{getD-take}
+use lib.ListN.{length, getD, replicate, length-replicate, getD-replicate}
 use borrow.Author.Tests.{leb-true, ltb-true, eqb-false}
 use Rattle.base.specs.Words.{laid, blanks, Below}
 use Rattle.base.proofs.Part.{getD-part}
+use Rattle.base.proofs.Laid.{getD-laid-in}
 use Rattle.base.proofs.Pick.{pick-case, yes}
 use Rattle.fcs.specs.Fcs.{fcsBit, fcsBits, fcsWord, fcsFrom}
 use Rattle.image.specs.Header.{headerOk}
 use Rattle.image.specs.Segment.{memoryOf, pageOf, lengthOk, pageOk, spanOf, bodyOk, segmentOk, segmentEnd}
 use Rattle.image.specs.File.{walk, fileEnd}
+use Rattle.image.specs.declared.End.{End}
 use Rattle.flash.specs.Geometry.{isSector, bySector, unitOf, sizeOf, startOf as sectorStart, sectorOf}
 use Rattle.flash.specs.Status.{isEmpty, firstOf, statusOf, statusIn, fourthWord}
 use Rattle.flash.specs.Directory.{entryOf, entryFor, entriesFrom, directoryOf, entered, entrySays, entryIs, keptStatus}
@@ -22,16 +25,18 @@ use Rattle.flash.specs.Search.{firstFrom, countFrom, isNamed, searchOf, targetO
 use Rattle.flash.specs.Change.{stored, eraseCount, erased}
 use Rattle.flash.specs.declared.Erasing.{Erasing}
 use Rattle.flash.specs.declared.Found.{Found}
+use Rattle.flash.specs.declared.Progress.{Progress}
 use Rattle.flash.proofs.Geometry.{sector-fits, length-sector}
-use Rattle.flash.proofs.Statuses.{first-word, empty-word}
-use Rattle.memory.specs.Segment.{memories}
+use Rattle.flash.proofs.Statuses.{first-word}
+use Rattle.memory.specs.Segment.{Memories, memories}
 use Rattle.group.specs.declared.Reply.{Reply}
 use Rattle.node.specs.State.{refusalNumber}
 use Rattle.node.specs.Valid.{masksOk, stateOk}
 use Rattle.node.specs.Refusals.{startVerdict, requestVerdict, eraseVerdict}
 use Rattle.node.specs.Route.{addressed, routeOf}
-use Rattle.node.specs.Files.{writeOf, eraseStartOf}
-use Rattle.node.specs.Own.{filesOf, ownOf}
+use Rattle.node.specs.Files.{writeOf, loadOf, toErase, eraseStartOf}
+use Rattle.node.specs.Settings.{modeReadOf}
+use Rattle.node.specs.Own.{settingsOf, filesOf, ownOf}
 use Rattle.node.specs.Calls.{startOf, requestOf, eraseOf}
 use Rattle.node.specs.Effect.{Outcome}
 use Rattle.node.specs.declared.Answer.{Answer}
@@ -39,15 +44,15 @@ use Rattle.node.specs.declared.Node.{Node}
 use Rattle.node.specs.declared.Refusal.{Refusal}
 use Rattle.node.specs.declared.Turn.{Turn}
 use Rattle.node.proofs.Directories.{some-words}
-use Rattle.demands.specs.Machine.{Machine, logodwen, isRefused, Call}
-use Rattle.demands.specs.Requests.{end}
-use Rattle.demands.specs.Reached.{Reached, NoStaleRecord}
+use Rattle.demands.specs.Machine.{Machine, logodwen, isRefused, Call, turnOf, flashOf}
+use Rattle.demands.specs.Requests.{end, abort}
+use Rattle.demands.specs.Reached.{stateAfter, Step, Reached, NoStaleRecord}
 use Rattle.demands.specs.Refusals.{numberOf, RefusedExactly}
 use Rattle.demands.specs.Anchors.{blank, file}
-use Rattle.demands.specs.Files.{fileName, Unused, Takes, Wrote, Writes, IsFile}
+use Rattle.demands.specs.Files.{fileName, Unused, Takes, IsFile, Writes, ReadsBack, NeverCorrupted, FlashFollows}
 use Rattle.demands.specs.ClosedRun.{with, started, written, ClosedRun}
-use Rattle.demands.specs.ShutOut.{refusing, aborting, constant, idle, hasty, boasting, scanning, ShutOut}
-use Rattle.demands.specs.Flash.{rowOf, Begins, Erases}
+use Rattle.demands.specs.ShutOut.{refusing, unstarted, aborting, constant, idle, lying, denying, loader, hasty, boasting, dropping, rogue, scanning, ShutOut}
+use Rattle.demands.specs.Flash.{countOf, Course, HasSet, ErasureFollows, Erases}
 use Rattle.demands.proofs.Refusals.{refused-exactly}
 use Rattle.demands.proofs.Held.{named-blank}
 use Rattle.demands.proofs.ClosedRun.{closed-run}
@@ -106,94 +111,19 @@ not-erasing : started logodwen .node .erasing ≡ Erasing.Nothing
 unfolding startVerdict startOf
 not-erasing = refl
 
--- so a machine that starts as ours does, takes the File Write and does what `Writes` says has written
-first-write : (M : Machine) → started M ≡ started logodwen → isRefused (written M .turn .answer) ≡ false → Writes M → Wrote blank file (written M)
+-- so a machine that starts as ours does, takes the File Write and does what `Writes` says has answered END
+first : (M : Machine) → started M ≡ started logodwen → Reached M (started M .node) blank
+first M e = Reached.First 2 4 0 0 0 0 0 blank (ap (λ (x : Turn). isRefused (x .answer)) e ∙ ap isRefused (closed-run .begins))
+
+first-write : (M : Machine) → started M ≡ started logodwen → isRefused (written M .turn .answer) ≡ false → Writes M → written M .turn .answer ≡ end
 first-write M e t w =
-    w (started M .node) blank (Reached.First 2 4 0 0 0 0 0 blank (ap (λ (x : Turn). isRefused (x .answer)) e ∙ ap isRefused (closed-run .begins)))
-    (ap (λ (x : Turn). x .node .erasing) e ∙ not-erasing) 0 0 3 false (0x452E ∷ file) (memories [] [] []) (replicate 12288 0) refl
+    w (started M .node) blank (first M e) (ap (λ (x : Turn). x .node .erasing) e ∙ not-erasing) 0 0 3 false (0x452E ∷ file) (memories [] [] []) (replicate 12288 0) refl
     (record { taken = t; clean = refl; least = leb-true 1 6 refl; most = leb-true 6 8192 refl; whole = refl })
     file-valid (blank-unused (fileName file)) 3 blank-takes
 
 aborts : Writes aborting → ⊥
-aborts w = eqb-false 2 3 refl (ap bcIn (first-write aborting refl refl w .answer))
+aborts w = eqb-false 2 3 refl (ap bcIn (first-write aborting refl refl w))
 
--- a sector that is empty does not start with the file
-changes-nothing : Writes idle → ⊥
-changes-nothing w =
-    let o = first-write idle refl (ap isRefused (closed-run .writes)) w in
-    let s : ℕ = o .sector in
-    let first : getD (sectorOf blank s) 0 0 ≡ 0xFFFF = empty-word (sectorOf blank s) 0 (o .takes .empty) (omega (arith, length-sector blank s, o .takes .room)) in
-    let same : getD (take 5 (sectorOf blank s)) 0 0 ≡ 0x7421 = ap (λ (x : List ℕ). getD x 0 0) (o .stands) in
-    omega (arith, first, same, getD-take 5 (sectorOf blank s) 0 0 (omega arith))
-
--- its state and flash stay as start left them
-Fresh : List ℕ → Node → Type 0
-Fresh flash n = n .directory ≡ directoryOf flash (n .erasing)
-
-true-directory : NoStaleRecord idle
-unfolding Fresh
-true-directory n flash r = by r
-  where
-    by : {m : Node} {f : List ℕ} → Reached idle m f → Fresh f m
-    by (Reached.First kind ports subdetector program version tests clock f h) =
-        no-stale-record _ f (Reached.First kind ports subdetector program version tests clock f h)
-    by (Reached.Then {flash = f} q (Call.Start kind ports subdetector program version tests clock) b) =
-        pick-case (Fresh f) (isRefused (startOf kind ports subdetector program version tests clock f .answer)) (λ _. by q)
-        (λ h. no-stale-record _ f (Reached.First kind ports subdetector program version tests clock f h))
-    by (Reached.Then q (Call.Request clock link bc errors packet m reply) b) = by q
-    by (Reached.Then q (Call.Reply clock slave bc errors status address words reply) b) = by q
-    by (Reached.Then q (Call.Poll clock reply) b) = by q
-    by (Reached.Then q (Call.Erase budget) b) = by q
-    by (Reached.Refused {flash = f} q (Call.Start kind ports subdetector program version tests clock) other h) = subst (Fresh f) (yes _ h refl) (by q)
-    by (Reached.Refused q (Call.Request clock link bc errors packet m reply) other h) = by q
-    by (Reached.Refused q (Call.Reply clock slave bc errors status address words reply) other h) = by q
-    by (Reached.Refused q (Call.Poll clock reply) other h) = by q
-    by (Reached.Refused q (Call.Erase budget) other h) = by q
-
--- a node started on a flash of zeros, and the erasure of sector 3 begun by its address
-zeros : List ℕ
-zeros = replicate 32768 0
-
-first : Node
-first = startOf 2 4 0 0 0 0 0 zeros .node
-
-packet : List ℕ
-packet = 0x472E ∷ 0x0200 ∷ []
-
-begun : Outcome
-begun = requestOf first 0 0 3 false packet (with zeros)
-
-begun-end : begun .turn .answer ≡ end
-unfolding zeros first packet begun laid headerOk fileEnd isSector bySector sectorOf isEmpty statusOf statusIn fourthWord entryOf entryFor entriesFrom directoryOf entered firstFrom masksOk stateOk startVerdict requestVerdict addressed routeOf sectorAt eraseStartOf filesOf ownOf startOf requestOf
-begun-end = refl
-
--- of what is said of any budgets: after one word, sector 3 starts with one word FFFF
-one-word : (M : Machine) → Begins M first zeros packet begun → rowOf M (1 ∷ []) (begun .turn .node) zeros .flash ≡ laid zeros 2048 (blanks 1)
-unfolding zeros first packet isSector bySector firstFrom sectorAt
-one-word M b =
-    let third : 3 ≡ b .sector = ap sectorIn (b .named) in
-    b .sets (1 ∷ []) .words ∙ ap (λ (s : ℕ). laid zeros (sectorStart (unitOf zeros) s) (blanks (min 1 (sizeOf (unitOf zeros) s)))) (sym third)
-  where
-    sectorIn : Found → ℕ
-    sectorIn Found.Nothing = 0
-    sectorIn (Found.At s) = s
-
-erases-all : (says : ℕ → ℕ) → Erases (hasty says) → ⊥
-unfolding zeros first packet begun laid headerOk fileEnd isSector bySector sectorOf isEmpty statusOf statusIn fourthWord entryOf entryFor entriesFrom directoryOf entered firstFrom eraseCount erased masksOk stateOk startVerdict requestVerdict eraseVerdict addressed routeOf sectorAt eraseStartOf filesOf ownOf startOf requestOf eraseOf rowOf
-erases-all says w =
-    let b = w .begins first 0 0 3 false packet (with zeros) refl begun-end in
-    eqb-false 0xFFFF 0 refl (sym (ap (λ (x : List ℕ). getD x 2049 0) set-all) ∙ ap (λ (x : List ℕ). getD x 2049 0) (one-word (hasty says) b))
-  where
-    set-all : rowOf (hasty says) (1 ∷ []) (begun .turn .node) zeros .flash ≡ laid zeros 2048 (blanks 2048)
-    set-all = refl
-
-sets-nothing : Erases boasting → ⊥
-unfolding zeros packet begun laid rowOf
-sets-nothing w =
-    let b = w .begins first 0 0 3 false packet (with zeros) refl begun-end in
-    eqb-false 0 0xFFFF refl (ap (λ (x : List ℕ). getD x 2048 0) (one-word boasting b))
-
--- the file that was written stands in the flash, and not in the directory
 words-16 : Below 65536 (0x452E ∷ file)
 words-16 zero = ltb-true 0x452E 65536 refl
 words-16 (suc zero) = ltb-true 0x7421 65536 refl
@@ -203,10 +133,173 @@ words-16 (suc (suc (suc (suc zero)))) = ltb-true 0x1234 65536 refl
 words-16 (suc (suc (suc (suc (suc zero))))) = ltb-true 0x0EC9 65536 refl
 words-16 (suc (suc (suc (suc (suc (suc i)))))) = ltb-true 0 65536 refl
 
+-- a blank flash does not have the file laid in a sector
+changes-nothing : ReadsBack idle → ⊥
+changes-nothing w =
+    let o = w (started idle .node) blank (first idle refl) 0 0 3 false (0x452E ∷ file) (memories [] [] []) (replicate 12288 0) words-16 refl (closed-run .writes) in
+    let at : ℕ = sectorStart (unitOf blank) (o .sector) in
+    let size : length blank ≡ 32768 = length-replicate {A = ℕ} 32768 0xFFFF in
+    let fits = sector-fits (unitOf blank) (o .sector) in
+    let room : 5 ≤ sizeOf (unitOf blank) (o .sector) = o .takes .room in
+    let before : getD blank at 0 ≡ 0xFFFF = getD-replicate 32768 at 0xFFFF 0 (omega (arith, size, fits, room)) in
+    let there : getD (laid blank at file) at 0 ≡ 0x7421 = file-laid blank at (omega (arith, size, fits, room)) in
+    eqb-false 0xFFFF 0x7421 refl (sym before ∙ ap (λ (x : List ℕ). getD x at 0) (o .stands) ∙ there)
+  where
+    file-laid : (f : List ℕ) (at : ℕ) → at + 5 ≤ length f → getD (laid f at file) at 0 ≡ 0x7421
+    file-laid f at h = ap (λ (i : ℕ). getD (laid f at file) i 0) (sym (add-zero at)) ∙ getD-laid-in f at file h 0 (leb-true 1 5 refl)
+
+word-16 : Below 65536 (0x452E ∷ [])
+word-16 zero = ltb-true 0x452E 65536 refl
+word-16 (suc i) = ltb-true 0 65536 refl
+
+-- a File Write of no file is ABORT, and nothing is stored
+stores-nothing : ReadsBack lying → ⊥
+unfolding laid headerOk fileEnd masksOk stateOk startVerdict requestVerdict addressed routeOf writeOf filesOf ownOf startOf requestOf
+stores-nothing w =
+    no-file (w (started lying .node) blank (first lying refl) 0 0 3 false (0x452E ∷ []) (memories [] [] []) (replicate 12288 0) word-16 refl refl .valid)
+  where
+    no-file : End.Invalid ≡ End.At 0 → ⊥
+    no-file e = let z : _≡_ {A = ℕ} 0 1 = cc in omega arith
+
+-- its state and flash stay as start left them
+Fresh : List ℕ → Node → Type 0
+Fresh flash n = n .directory ≡ directoryOf flash (n .erasing)
+
+true-directory : NoStaleRecord idle
+unfolding Fresh
+true-directory n flash r = by r
+  where
+    made : (c : Call) (m : Node) (f : List ℕ) → Fresh f m → Fresh (flashOf idle c m f) (stateAfter idle c m f)
+    made (Call.Start kind ports subdetector program version tests clock) m f k =
+        pick-case (Fresh f) (isRefused (startOf kind ports subdetector program version tests clock f .answer)) (λ _. k)
+        (λ h. no-stale-record _ f (Reached.First kind ports subdetector program version tests clock f h))
+    made (Call.Request clock link bc errors packet x reply) m f k = k
+    made (Call.Reply clock slave bc errors status address words reply) m f k = k
+    made (Call.Poll clock reply) m f k = k
+    made (Call.Erase budget) m f k = k
+
+    stray : (c : Call) (m : Node) (f other : List ℕ) → isRefused (turnOf idle c m other .answer) ≡ true → Fresh f m → Fresh f (stateAfter idle c m other)
+    stray (Call.Start kind ports subdetector program version tests clock) m f other h k = subst (Fresh f) (yes _ h refl) k
+    stray (Call.Request clock link bc errors packet x reply) m f other h k = k
+    stray (Call.Reply clock slave bc errors status address words reply) m f other h k = k
+    stray (Call.Poll clock reply) m f other h k = k
+    stray (Call.Erase budget) m f other h k = k
+
+    kept : (c : Call) (m : Node) (f : List ℕ) (other : Node) → Fresh f m → Fresh (flashOf idle c other f) m
+    kept (Call.Start kind ports subdetector program version tests clock) m f other k = k
+    kept (Call.Request clock link bc errors packet x reply) m f other k = k
+    kept (Call.Reply clock slave bc errors status address words reply) m f other k = k
+    kept (Call.Poll clock reply) m f other k = k
+    kept (Call.Erase budget) m f other k = k
+
+    by : {m : Node} {f : List ℕ} → Reached idle m f → Fresh f m
+    by (Reached.First kind ports subdetector program version tests clock f h) =
+        no-stale-record _ f (Reached.First kind ports subdetector program version tests clock f h)
+    by (Reached.Then {n = m} {flash = f} q (Step.Made c b)) = made c m f (by q)
+    by (Reached.Then {n = m} {flash = f} q (Step.OtherFlash c other h)) = stray c m f other h (by q)
+    by (Reached.Then {n = m} {flash = f} q (Step.OtherState c other h)) = kept c m f other (by q)
+
+-- a node started on a flash of zeros, and the erasure of sector 3 begun by its address
+zeros : List ℕ
+zeros = replicate 32768 0
+
+zeroed : Node
+zeroed = startOf 2 4 0 0 0 0 0 zeros .node
+
+packet : List ℕ
+packet = 0x472E ∷ 0x0200 ∷ []
+
+begun : Outcome
+begun = requestOf zeroed 0 0 3 false packet (with zeros)
+
+begun-end : begun .turn .answer ≡ end
+unfolding zeros zeroed packet begun laid headerOk fileEnd isSector bySector sectorOf isEmpty statusOf statusIn fourthWord entryOf entryFor entriesFrom directoryOf entered firstFrom masksOk stateOk startVerdict requestVerdict addressed routeOf sectorAt eraseStartOf filesOf ownOf startOf requestOf
+begun-end = refl
+
+some-size : 0 < sizeOf (unitOf zeros) 3
+unfolding zeros isSector bySector
+some-size = ltb-true 0 2048 refl
+
+third : toErase zeroed 0x0200 ≡ Found.At 3
+unfolding zeros zeroed isSector bySector firstFrom sectorAt
+third = refl
+
+-- a step of one word is what an erasure of sector 3 sets after it
+one-word : (M : Machine) (begins : M .request zeroed 0 0 3 false packet (with zeros) ≡ begun) → Erases M
+    → HasSet 3 zeros (M .erase (begun .turn .node) 1 zeros .turn .node) (M .erase (begun .turn .node) 1 zeros .after .flash) (0 + 1) (0 + countOf (M .erase (begun .turn .node) 1 zeros .turn .answer))
+unfolding zeros packet
+one-word M e w =
+    w .sets zeroed 0 0 3 false packet (with zeros) 3 refl (ap (λ (o : Outcome). o .turn .answer) e ∙ begun-end) third _ _ _ _
+    (Course.Then (subst (λ (o : Outcome). Course M (sizeOf (unitOf zeros) 3) (o .turn .node) zeros (begun .turn .node) zeros 0 0) (sym e) Course.Begun) some-size (Step.Made (Call.Erase 1) tt) refl)
+
+erases-all : (says : ℕ → ℕ) → Erases (hasty says) → ⊥
+unfolding zeros zeroed packet begun laid headerOk fileEnd isSector bySector sectorOf isEmpty statusOf statusIn fourthWord entryOf entryFor entriesFrom directoryOf entered firstFrom eraseCount erased masksOk stateOk startVerdict requestVerdict eraseVerdict addressed routeOf sectorAt eraseStartOf filesOf ownOf startOf requestOf eraseOf
+erases-all says w = eqb-false 0xFFFF 0 refl (sym (ap (λ (x : List ℕ). getD x 2049 0) set-all) ∙ ap (λ (x : List ℕ). getD x 2049 0) (one-word (hasty says) refl w .words))
+  where
+    set-all : hasty says .erase (begun .turn .node) 1 zeros .after .flash ≡ laid zeros 2048 (blanks 2048)
+    set-all = refl
+
+sets-nothing : Erases boasting → ⊥
+unfolding zeros packet begun laid isSector bySector
+sets-nothing w = eqb-false 0 0xFFFF refl (ap (λ (x : List ℕ). getD x 2048 0) (one-word boasting refl w .words))
+
+-- a Mode Read between, and the erasure goes on
+modeRead : List ℕ
+modeRead = 0x122E ∷ []
+
+mode-16 : Below 65536 modeRead
+unfolding modeRead
+mode-16 zero = ltb-true 0x122E 65536 refl
+mode-16 (suc i) = ltb-true 0 65536 refl
+
+drops-erasure : Erases dropping → ⊥
+unfolding zeros zeroed packet modeRead begun laid headerOk fileEnd isSector bySector sectorOf isEmpty statusOf statusIn fourthWord entryOf entryFor entriesFrom directoryOf entered firstFrom masksOk stateOk startVerdict requestVerdict addressed routeOf sectorAt eraseStartOf filesOf ownOf startOf requestOf
+drops-erasure w =
+    not-erased (w .sets zeroed 0 0 3 false packet (with zeros) 3 refl refl third _ _ _ _
+    (Course.Then Course.Begun some-size (Step.Made (Call.Request 0 0 3 false modeRead (memories [] [] []) (replicate 12288 0)) mode-16) refl) .going some-size)
+  where
+    not-erased : {p : Progress} → Erasing.Nothing ≡ Erasing.Sector p → ⊥
+    not-erased e = let z : _≡_ {A = ℕ} 0 1 = cc in omega arith
+
+-- Mode Read has words, and is no Erase
+erases-unasked : ErasureFollows rogue → ⊥
+unfolding modeRead masksOk stateOk startVerdict requestVerdict addressed routeOf modeReadOf settingsOf ownOf startOf requestOf
+erases-unasked w = ⊎-elim not-same (λ b. false≢true (b .command)) (w .request (started logodwen .node) 0 0 3 false modeRead (with blank))
+  where
+    not-same : {p : Progress} → Erasing.Sector p ≡ Erasing.Nothing → ⊥
+    not-same e = let z : _≡_ {A = ℕ} 0 1 = cc in omega arith
+
+-- a Load while the erasure is in progress
+loads-half : NeverCorrupted loader → ⊥
+unfolding zeros zeroed packet begun laid headerOk fileEnd isSector bySector sectorOf isEmpty statusOf statusIn fourthWord entryOf entryFor entriesFrom directoryOf entered firstFrom masksOk stateOk startVerdict requestVerdict addressed routeOf sectorAt eraseStartOf loadOf filesOf ownOf startOf requestOf
+loads-half w =
+    not-idle (w .loads (begun .turn .node) 0 0 3 false (0x462E ∷ 0x0420 ∷ []) (with zeros) refl (inr (λ e. eqb-false 2048 0 refl (ap (λ (m : Memories). length (m .pm)) e))) .names .idle)
+  where
+    not-idle : {p : Progress} → Erasing.Sector p ≡ Erasing.Nothing → ⊥
+    not-idle e = let z : _≡_ {A = ℕ} 0 1 = cc in omega arith
+
+-- the file stands in the flash of the closed run
+stands : getD (written logodwen .after .flash) 2048 0 ≡ 0x7421
+unfolding laid fcsBit fcsBits fcsWord fcsFrom headerOk memoryOf pageOf lengthOk pageOk spanOf bodyOk segmentOk segmentEnd walk fileEnd isSector bySector sectorOf isEmpty statusOf statusIn fourthWord entryOf entryFor entriesFrom directoryOf entered entrySays entryIs keptStatus firstFrom countFrom isNamed searchOf targetOf takes placeOf stored masksOk stateOk startVerdict requestVerdict addressed routeOf writeOf filesOf ownOf startOf requestOf
+stands = refl
+
+-- and a node that then says ABORT has changed the flash unasked
+stores-silently : FlashFollows denying → ⊥
+stores-silently w =
+    ⊎-elim (λ e. eqb-false 0x7421 0xFFFF refl (sym stands ∙ ap (λ (x : List ℕ). getD x 2048 0) e ∙ getD-replicate 32768 2048 0xFFFF 0 (ltb-true 2048 32768 refl)))
+    (⊎-elim (λ o. not-end (o .lays .answer)) (λ o. not-end (o .lays .answer)))
+    (w (started logodwen .node) 0 0 3 false (0x452E ∷ file) (with blank))
+  where
+    not-end : abort ≡ end → ⊥
+    not-end e = eqb-false 2 3 refl (ap bcIn e)
+
+refuses-start : (r : Refusal) → RefusedExactly (unstarted r) → ⊥
+refuses-start r w = not-done r (w .start 2 4 0 0 0 0 0 blank .0 0 .1 (refused-exactly .start 2 4 0 0 0 0 0 blank .0 0 .0 (ap numberOf (closed-run .begins))))
+
+-- the file that was written stands in the flash, and not in the directory
 reached-written : Reached scanning (written scanning .turn .node) (written scanning .after .flash)
 reached-written =
-    Reached.Then (Reached.First 2 4 0 0 0 0 0 blank (ap isRefused (closed-run .begins)))
-    (Call.Request 0 0 3 false (0x452E ∷ file) (memories [] [] []) (replicate 12288 0)) words-16
+    Reached.Then (first scanning refl) (Step.Made (Call.Request 0 0 3 false (0x452E ∷ file) (memories [] [] []) (replicate 12288 0)) words-16)
 
 scans-once : NoStaleRecord scanning → ⊥
 unfolding laid fcsBit fcsBits fcsWord fcsFrom headerOk memoryOf pageOf lengthOk pageOk spanOf bodyOk segmentOk segmentEnd walk fileEnd isSector bySector sectorOf isEmpty statusOf statusIn fourthWord entryOf entryFor entriesFrom directoryOf entered entrySays entryIs keptStatus firstFrom countFrom isNamed searchOf targetOf takes placeOf stored masksOk stateOk startVerdict requestVerdict addressed routeOf writeOf filesOf ownOf startOf requestOf
@@ -217,11 +310,17 @@ shut-out =
     record {
       refuses = refuses;
       serves-nothing = serves-nothing;
+      refuses-start = refuses-start;
       aborts = aborts;
       replies-alike = replies-alike;
       true-directory = true-directory;
       changes-nothing = changes-nothing;
+      stores-nothing = stores-nothing;
+      stores-silently = stores-silently;
+      loads-half = loads-half;
       erases-all = erases-all;
       sets-nothing = sets-nothing;
+      drops-erasure = drops-erasure;
+      erases-unasked = erases-unasked;
       scans-once = scans-once;
     }

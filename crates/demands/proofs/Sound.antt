@@ -1,7 +1,7 @@
 -- What holds of every state that is reached, with its flash: every part is in its range, the flash is the one of start, and the
 -- directory is fresh. A start gives it and every call keeps it. Assumes nothing.
 use Prim.Native.Nat.{ℕ, _/_, _<_}
-use mathlib.Core.Path.{_≡_, refl, sym, _∙_, subst}
+use mathlib.Core.Path.{_≡_, refl, sym, ap, _∙_, subst}
 use mathlib.Core.Bool.{Bool, true, false, _&&_, false≢true}
 use mathlib.Core.List.{List, [], _∷_}
 use lib.ListN.{length}
@@ -29,7 +29,7 @@ use Rattle.node.proofs.Directories.{Fresh, why-fresh, step-fresh}
 use Rattle.node.proofs.Ranges.{and-both, Ranges, size-some, why-erasing, step-erasing, sets-mode, sets-masks, request-pending, reply-pending, poll-pending}
 use Rattle.node.proofs.Verdicts.{request-fine, reply-fine, poll-fine, start-fine}
 use Rattle.demands.specs.Machine.{Call, logodwen, turnOf, flashOf, isRefused}
-use Rattle.demands.specs.Reached.{Lends16, stateAfter, Reached}
+use Rattle.demands.specs.Reached.{Lends16, stateAfter, Step, Reached}
 use Rattle.demands.proofs.Taken.{verdictOn, requestEffect, request-taken, reply-taken, poll-taken, judged-unchanged}
 
 -- no change changes the size of the flash
@@ -93,23 +93,26 @@ module _ (n : Node) (clock link bc : ℕ) (errors : Bool) (packet : List ℕ) (l
       }
 
 -- a slave's answer, and a poll
-quiet-sound : (n : Node) (flash none : List ℕ) (e : Effect) → Quiet e → pendingOk (n .given .ports) (e .pending) ≡ true → Sound n flash → Sound (nodeAfter n none e) flash
-quiet-sound n flash none e q p s =
-    subst (λ (c : Change). Sound (next c (e .setup)) flash) (sym (q .change)) (subst (λ (u : Setup). Sound (next Change.Kept u) flash) (sym (q .setup)) kept)
+quiet-kept : (P : Node → Type 0) (n : Node) (none : List ℕ) (e : Effect) → Quiet e
+    → P (nodeAfter n none (effect (e .answer) Change.Kept (e .store) Setup.Kept (e .amswire) (e .fault) (e .pending) (e .reply))) → P (nodeAfter n none e)
+quiet-kept P n none e q kept =
+    subst (λ (c : Change). P (next c (e .setup))) (sym (q .change)) (subst (λ (u : Setup). P (next Change.Kept u)) (sym (q .setup)) kept)
   where
     next : Change → Setup → Node
     next c u = nodeAfter n none (effect (e .answer) c (e .store) u (e .amswire) (e .fault) (e .pending) (e .reply))
 
-    kept : Sound (next Change.Kept Setup.Kept) flash
-    kept =
-        let r = s .valid .ranges in
-        record {
-          valid = record {
-            ranges = record { given = r .given; mode = r .mode; masks = r .masks; erasing = r .erasing; pending = p };
-            size = s .valid .size;
-          };
-          fresh = s .fresh;
-        }
+quiet-valid : (n : Node) (flash none : List ℕ) (e : Effect) → Quiet e → pendingOk (n .given .ports) (e .pending) ≡ true → Valid n flash → Valid (nodeAfter n none e) flash
+quiet-valid n flash none e q p v =
+    let r = v .ranges in
+    quiet-kept (λ (m : Node). Valid m flash) n none e q
+    (record { ranges = record { given = r .given; mode = r .mode; masks = r .masks; erasing = r .erasing; pending = p }; size = v .size })
+
+quiet-sound : (n : Node) (flash none : List ℕ) (e : Effect) → Quiet e → pendingOk (n .given .ports) (e .pending) ≡ true → Sound n flash → Sound (nodeAfter n none e) flash
+quiet-sound n flash none e q p s =
+    record {
+      valid = quiet-valid n flash none e q p (s .valid);
+      fresh = quiet-kept (λ (m : Node). Fresh (m .directory) (m .erasing) flash) n none e q (s .fresh);
+    }
 
 -- a step of an erasure
 pub step-valid : (n : Node) (flash : List ℕ) (budget : ℕ) → Valid n flash → Valid (nodeAfter n flash (eraseEffect n budget flash)) (erased flash (n .erasing) budget)
@@ -152,63 +155,78 @@ start-sound kind ports subdetector program version tests clock flash h =
       fresh = record { summary = refl; blank = tt };
     }
 
--- what a call hands on is sound where the state before was: refused, it is the state before
-abbrev Keeps : Call → Node → List ℕ → Type 0
-Keeps c n flash = Sound n flash → Sound (stateAfter logodwen c n flash) (flashOf logodwen c n flash)
+-- what a start gives, and a request, a slave's answer and a step keep, every call keeps: refused, it hands on the state before
+module _ (P : Node → List ℕ → Type 0)
+    (starts : (kind ports subdetector program version tests clock : ℕ) (flash : List ℕ) → startVerdict kind ports subdetector (length flash) ≡ Verdict.Fine → P (started (given kind ports subdetector program version tests clock (length flash)) flash) flash)
+    (requests : (n : Node) (clock link bc : ℕ) (errors : Bool) (packet : List ℕ) (l : Lent) → Below 65536 packet → link < n .given .ports → P n (l .flash)
+    → P (nodeAfter n (l .flash) (requestEffect n clock link bc errors packet l)) (flashAfter (requestEffect n clock link bc errors packet l .change) (n .erasing) (l .flash)))
+    (quiets : (n : Node) (flash none : List ℕ) (e : Effect) → Quiet e → pendingOk (n .given .ports) (e .pending) ≡ true → P n flash → P (nodeAfter n none e) flash)
+    (steps : (n : Node) (flash : List ℕ) (budget : ℕ) → P n flash → P (nodeAfter n flash (eraseEffect n budget flash)) (erased flash (n .erasing) budget))
+    (valid : (n : Node) (flash : List ℕ) → P n flash → Valid n flash) where
+  abbrev Keeps : Call → Node → List ℕ → Type 0
+  Keeps c n flash = P n flash → P (stateAfter logodwen c n flash) (flashOf logodwen c n flash)
 
-start-keeps : (kind ports subdetector program version tests clock : ℕ) (n : Node) (flash : List ℕ) → Keeps (Call.Start kind ports subdetector program version tests clock) n flash
-unfolding startOf
-start-keeps kind ports subdetector program version tests clock n flash s = by (startVerdict kind ports subdetector (length flash)) refl
-  where
-    by : (v : Verdict) → startVerdict kind ports subdetector (length flash) ≡ v
-        → Sound (pick (isRefused (startBy v (given kind ports subdetector program version tests clock (length flash)) flash .answer)) n (startBy v (given kind ports subdetector program version tests clock (length flash)) flash .node)) flash
-    by Verdict.Fine e = start-sound kind ports subdetector program version tests clock flash e
-    by (Verdict.No r) e = s
+  start-keeps : (kind ports subdetector program version tests clock : ℕ) (n : Node) (flash : List ℕ) → Keeps (Call.Start kind ports subdetector program version tests clock) n flash
+  unfolding startOf
+  start-keeps kind ports subdetector program version tests clock n flash s = by (startVerdict kind ports subdetector (length flash)) refl
+    where
+      by : (v : Verdict) → startVerdict kind ports subdetector (length flash) ≡ v
+          → P (pick (isRefused (startBy v (given kind ports subdetector program version tests clock (length flash)) flash .answer)) n (startBy v (given kind ports subdetector program version tests clock (length flash)) flash .node)) flash
+      by Verdict.Fine e = starts kind ports subdetector program version tests clock flash e
+      by (Verdict.No r) e = s
 
-request-keeps : (clock link bc : ℕ) (errors : Bool) (packet : List ℕ) (m : Memories) (reply : List ℕ) (n : Node) (flash : List ℕ) → Below 65536 packet → Keeps (Call.Request clock link bc errors packet m reply) n flash
-unfolding requestOf
-request-keeps clock link bc errors packet m reply n flash b s =
-    by (verdictOn n link packet (lent flash m reply)) refl
-  where
-    by : (v : Verdict) → verdictOn n link packet (lent flash m reply) ≡ v
-        → Sound (judged v n (lent flash m reply) (requestEffect n clock link bc errors packet (lent flash m reply)) .turn .node) (judged v n (lent flash m reply) (requestEffect n clock link bc errors packet (lent flash m reply)) .after .flash)
-    by Verdict.Fine e = request-sound n clock link bc errors packet (lent flash m reply) b (request-fine n link _ _ _ _ _ _ e .below) s
-    by (Verdict.No r) e = s
+  request-keeps : (clock link bc : ℕ) (errors : Bool) (packet : List ℕ) (m : Memories) (reply : List ℕ) (n : Node) (flash : List ℕ) → Below 65536 packet → Keeps (Call.Request clock link bc errors packet m reply) n flash
+  unfolding requestOf
+  request-keeps clock link bc errors packet m reply n flash b s =
+      by (verdictOn n link packet (lent flash m reply)) refl
+    where
+      by : (v : Verdict) → verdictOn n link packet (lent flash m reply) ≡ v
+          → P (judged v n (lent flash m reply) (requestEffect n clock link bc errors packet (lent flash m reply)) .turn .node) (judged v n (lent flash m reply) (requestEffect n clock link bc errors packet (lent flash m reply)) .after .flash)
+      by Verdict.Fine e = requests n clock link bc errors packet (lent flash m reply) b (request-fine n link _ _ _ _ _ _ e .below) s
+      by (Verdict.No r) e = s
 
-reply-keeps : (clock slave bc : ℕ) (errors : Bool) (status address : ℕ) (words reply : List ℕ) (n : Node) (flash : List ℕ) → Keeps (Call.Reply clock slave bc errors status address words reply) n flash
-unfolding replyOf
-reply-keeps clock slave bc errors status address words reply n flash s = by (replyVerdict n slave (length reply)) refl
-  where
-    by : (v : Verdict) → replyVerdict n slave (length reply) ≡ v → Sound (judged v n (lentReply reply) (replyEffect n clock errors status address bc words reply) .turn .node) flash
-    by Verdict.Fine e =
-        quiet-sound n flash [] (replyEffect n clock errors status address bc words reply) (reply-quiet n clock errors status address bc words reply)
-        (reply-pending n (n .given .ports) clock errors status address bc words reply (reply-fine n slave (length reply) e .buffer) (s .valid .ranges .pending)) s
-    by (Verdict.No r) e = s
+  reply-keeps : (clock slave bc : ℕ) (errors : Bool) (status address : ℕ) (words reply : List ℕ) (n : Node) (flash : List ℕ) → Keeps (Call.Reply clock slave bc errors status address words reply) n flash
+  unfolding replyOf
+  reply-keeps clock slave bc errors status address words reply n flash s = by (replyVerdict n slave (length reply)) refl
+    where
+      by : (v : Verdict) → replyVerdict n slave (length reply) ≡ v → P (judged v n (lentReply reply) (replyEffect n clock errors status address bc words reply) .turn .node) flash
+      by Verdict.Fine e =
+          quiets n flash [] (replyEffect n clock errors status address bc words reply) (reply-quiet n clock errors status address bc words reply)
+          (reply-pending n (n .given .ports) clock errors status address bc words reply (reply-fine n slave (length reply) e .buffer) (valid n flash s .ranges .pending)) s
+      by (Verdict.No r) e = s
 
-poll-keeps : (clock : ℕ) (reply : List ℕ) (n : Node) (flash : List ℕ) → Keeps (Call.Poll clock reply) n flash
-unfolding pollOf
-poll-keeps clock reply n flash s = by (pollVerdict n (length reply)) refl
-  where
-    by : (v : Verdict) → pollVerdict n (length reply) ≡ v → Sound (judged v n (lentReply reply) (pollEffect n clock reply) .turn .node) flash
-    by Verdict.Fine e =
-        quiet-sound n flash [] (pollEffect n clock reply) (poll-quiet n clock reply)
-        (poll-pending n (n .given .ports) clock reply (poll-fine n (length reply) e .buffer) (s .valid .ranges .pending)) s
-    by (Verdict.No r) e = s
+  poll-keeps : (clock : ℕ) (reply : List ℕ) (n : Node) (flash : List ℕ) → Keeps (Call.Poll clock reply) n flash
+  unfolding pollOf
+  poll-keeps clock reply n flash s = by (pollVerdict n (length reply)) refl
+    where
+      by : (v : Verdict) → pollVerdict n (length reply) ≡ v → P (judged v n (lentReply reply) (pollEffect n clock reply) .turn .node) flash
+      by Verdict.Fine e =
+          quiets n flash [] (pollEffect n clock reply) (poll-quiet n clock reply)
+          (poll-pending n (n .given .ports) clock reply (poll-fine n (length reply) e .buffer) (valid n flash s .ranges .pending)) s
+      by (Verdict.No r) e = s
 
-erase-keeps : (budget : ℕ) (n : Node) (flash : List ℕ) → Keeps (Call.Erase budget) n flash
-unfolding eraseOf
-erase-keeps budget n flash s = by (eraseVerdict n (length flash))
-  where
-    by : (v : Verdict) → Sound (judged v n (lentFlash flash) (eraseEffect n budget flash) .turn .node) (judged v n (lentFlash flash) (eraseEffect n budget flash) .after .flash)
-    by Verdict.Fine = step-sound n flash budget s
-    by (Verdict.No r) = s
+  erase-keeps : (budget : ℕ) (n : Node) (flash : List ℕ) → Keeps (Call.Erase budget) n flash
+  unfolding eraseOf
+  erase-keeps budget n flash s = by (eraseVerdict n (length flash))
+    where
+      by : (v : Verdict) → P (judged v n (lentFlash flash) (eraseEffect n budget flash) .turn .node) (judged v n (lentFlash flash) (eraseEffect n budget flash) .after .flash)
+      by Verdict.Fine = steps n flash budget s
+      by (Verdict.No r) = s
 
-pub call-keeps : (c : Call) (n : Node) (flash : List ℕ) → Lends16 c → Keeps c n flash
-call-keeps (Call.Start kind ports subdetector program version tests clock) n flash b = start-keeps kind ports subdetector program version tests clock n flash
-call-keeps (Call.Request clock link bc errors packet m reply) n flash b = request-keeps clock link bc errors packet m reply n flash b
-call-keeps (Call.Reply clock slave bc errors status address words reply) n flash b = reply-keeps clock slave bc errors status address words reply n flash
-call-keeps (Call.Poll clock reply) n flash b = poll-keeps clock reply n flash
-call-keeps (Call.Erase budget) n flash b = erase-keeps budget n flash
+  each-keeps : (c : Call) (n : Node) (flash : List ℕ) → Lends16 c → Keeps c n flash
+  each-keeps (Call.Start kind ports subdetector program version tests clock) n flash b = start-keeps kind ports subdetector program version tests clock n flash
+  each-keeps (Call.Request clock link bc errors packet m reply) n flash b = request-keeps clock link bc errors packet m reply n flash b
+  each-keeps (Call.Reply clock slave bc errors status address words reply) n flash b = reply-keeps clock slave bc errors status address words reply n flash
+  each-keeps (Call.Poll clock reply) n flash b = poll-keeps clock reply n flash
+  each-keeps (Call.Erase budget) n flash b = erase-keeps budget n flash
+
+pub call-valid : (c : Call) (n : Node) (flash : List ℕ) → Lends16 c → Valid n flash → Valid (stateAfter logodwen c n flash) (flashOf logodwen c n flash)
+call-valid =
+    each-keeps Valid (λ kind ports subdetector program version tests clock flash h. start-sound kind ports subdetector program version tests clock flash h .valid)
+    request-valid quiet-valid step-valid (λ n flash v. v)
+
+pub call-keeps : (c : Call) (n : Node) (flash : List ℕ) → Lends16 c → Sound n flash → Sound (stateAfter logodwen c n flash) (flashOf logodwen c n flash)
+call-keeps = each-keeps Sound start-sound request-sound quiet-sound step-sound (λ n flash s. s .valid)
 
 -- a refused call leaves the host with the state it had
 pub refused-same : (c : Call) (n : Node) (flash : List ℕ) → isRefused (turnOf logodwen c n flash .answer) ≡ true → stateAfter logodwen c n flash ≡ n
@@ -229,7 +247,25 @@ first-sound kind ports subdetector program version tests clock flash h = by (sta
     by Verdict.Fine e q = start-sound kind ports subdetector program version tests clock flash e
     by (Verdict.No r) e q = absurd (false≢true (sym q))
 
+-- and with the flash it had
+pub refused-flash : (c : Call) (n : Node) (flash : List ℕ) → isRefused (turnOf logodwen c n flash .answer) ≡ true → flashOf logodwen c n flash ≡ flash
+unfolding requestOf eraseOf
+refused-flash (Call.Start kind ports subdetector program version tests clock) n flash h = refl
+refused-flash (Call.Request clock link bc errors packet m reply) n flash h =
+    ap (λ (l : Lent). l .flash)
+    (judged-unchanged (verdictOn n link packet (lent flash m reply)) n (lent flash m reply) (requestEffect n clock link bc errors packet (lent flash m reply)) (request-taken n clock link bc errors packet (lent flash m reply)) h .1)
+refused-flash (Call.Reply clock slave bc errors status address words reply) n flash h = refl
+refused-flash (Call.Poll clock reply) n flash h = refl
+refused-flash (Call.Erase budget) n flash h =
+    ap (λ (l : Lent). l .flash) (judged-unchanged (eraseVerdict n (length flash)) n (lentFlash flash) (eraseEffect n budget flash) refl h .1)
+
+-- a step of the host keeps whatever every call keeps
+pub step-case : (P : Node → List ℕ → Type 0) {n : Node} {flash : List ℕ} {next : Node} {after : List ℕ} → Step logodwen n flash next after → P n flash
+    → ((c : Call) → Lends16 c → P (stateAfter logodwen c n flash) (flashOf logodwen c n flash)) → P next after
+step-case P (Step.Made c b) p made = made c b
+step-case P {n} {flash} (Step.OtherFlash c other h) p made = subst (λ (m : Node). P m flash) (sym (refused-same c n other h)) p
+step-case P {n} {flash} (Step.OtherState c other h) p made = subst (λ (f : List ℕ). P n f) (sym (refused-flash c other flash h)) p
+
 pub reached-sound : {n : Node} {flash : List ℕ} → Reached logodwen n flash → Sound n flash
 reached-sound (Reached.First kind ports subdetector program version tests clock flash h) = first-sound kind ports subdetector program version tests clock flash h
-reached-sound (Reached.Then {n = n} {flash = flash} r c b) = call-keeps c n flash b (reached-sound r)
-reached-sound (Reached.Refused {n = n} {flash = flash} r c other h) = subst (λ (m : Node). Sound m flash) (sym (refused-same c n other h)) (reached-sound r)
+reached-sound (Reached.Then {n = n} {flash = flash} r s) = step-case Sound s (reached-sound r) (λ c b. call-keeps c n flash b (reached-sound r))

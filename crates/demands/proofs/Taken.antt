@@ -12,11 +12,14 @@ use Rattle.group.specs.Fragment.{assembly, taken}
 use Rattle.group.specs.Time.{isLate}
 use Rattle.group.specs.declared.Heard.{Heard}
 use Rattle.group.specs.declared.Next.{Next}
+use Rattle.group.specs.declared.Reply.{Reply}
 use Rattle.node.specs.Effect.{Effect, Lent}
 use Rattle.node.specs.Refusals.{requestVerdict}
 use Rattle.node.specs.Route.{routeOf}
 use Rattle.node.specs.Slaves.{heard, silent, goesOn, hears, askedAt, replyEffect, pollEffect}
 use Rattle.node.specs.Calls.{judged, routed}
+use Rattle.node.specs.declared.Answer.{Answer}
+use Rattle.node.specs.declared.Asking.{Asking}
 use Rattle.node.specs.declared.Node.{Node}
 use Rattle.node.specs.declared.Pending.{Pending}
 use Rattle.node.specs.declared.Verdict.{Verdict}
@@ -42,28 +45,42 @@ pub judged-unchanged : (v : Verdict) (n : Node) (l : Lent) (e : Effect) → isRe
 judged-unchanged Verdict.Fine n l e t h = absurd (false≢true (sym t ∙ h))
 judged-unchanged (Verdict.No r) n l e t h = (refl, refl)
 
--- a call that is taken answers no refusal
-pub request-taken : (n : Node) (clock link bc : ℕ) (errors : Bool) (packet : List ℕ) (l : Lent) → isRefused (requestEffect n clock link bc errors packet l .answer) ≡ false
-request-taken n clock link bc errors packet l =
-    route-case (λ r. isRefused (routed r n clock link packet l .answer) ≡ false) n link bc errors packet refl refl (λ _. refl)
-    (λ id c. refl) (λ s h. refl) (λ set from s named e. refl)
+-- a request, a slave's reply and a poll that are taken answer a reply, an ask or a wait: what holds of these holds of their answer
+module _ (P : Answer → Type 0) (replies : (r : Reply) → P (Answer.Reply r)) (asks : (a : Asking) → P (Answer.Ask a)) where
+  pub request-answer : (n : Node) (clock link bc : ℕ) (errors : Bool) (packet : List ℕ) (l : Lent) → P (requestEffect n clock link bc errors packet l .answer)
+  request-answer n clock link bc errors packet l =
+      route-case (λ r. P (routed r n clock link packet l .answer)) n link bc errors packet (replies _) (replies _) (λ _. replies _)
+      (λ id c. replies _) (λ s h. asks _) (λ set from s named e. asks _)
 
-hears-taken : (p : Pending) (n : Node) (clock : ℕ) (h : Heard) (words reply : List ℕ) → isRefused (hears p n clock h words reply .answer) ≡ false
-hears-taken Pending.Nothing n clock h words reply = refl
-hears-taken (Pending.Slave a) n clock h words reply = refl
-hears-taken (Pending.Group a g) n clock h words reply = by (nextOf (above (g .set) (a .slave)))
-  where
-    by : (next : Next) → isRefused (goesOn n a g clock (taken (assembly reply (g .built)) (length (above (g .set) (a .slave))) (a .slave) (answer h words)) next .answer) ≡ false
-    by Next.Nobody = refl
-    by (Next.Slave s) = refl
+  module _ (waits : P Answer.Waiting) where
+    hears-answer : (p : Pending) (n : Node) (clock : ℕ) (h : Heard) (words reply : List ℕ) → P (hears p n clock h words reply .answer)
+    hears-answer Pending.Nothing n clock h words reply = waits
+    hears-answer (Pending.Slave a) n clock h words reply = replies _
+    hears-answer (Pending.Group a g) n clock h words reply = by (nextOf (above (g .set) (a .slave)))
+      where
+        by : (next : Next) → P (goesOn n a g clock (taken (assembly reply (g .built)) (length (above (g .set) (a .slave))) (a .slave) (answer h words)) next .answer)
+        by Next.Nobody = replies _
+        by (Next.Slave s) = asks _
+
+    pub reply-answer : (n : Node) (clock : ℕ) (errors : Bool) (status address bc : ℕ) (words reply : List ℕ) → P (replyEffect n clock errors status address bc words reply .answer)
+    unfolding replyEffect
+    reply-answer n clock errors status address bc words reply =
+        hears-answer (n .pending) n clock (heard (isLate clock (askedAt (n .pending))) errors status address bc) words reply
+
+    pub poll-answer : (n : Node) (clock : ℕ) (reply : List ℕ) → P (pollEffect n clock reply .answer)
+    unfolding pollEffect
+    poll-answer n clock reply =
+        pick-case (λ (e : Effect). P (e .answer)) (isLate clock (askedAt (n .pending))) (λ _. hears-answer (n .pending) n clock silent [] reply) (λ _. waits)
+
+-- so none of them is a refusal
+abbrev Taken : Answer → Type 0
+Taken a = isRefused a ≡ false
+
+pub request-taken : (n : Node) (clock link bc : ℕ) (errors : Bool) (packet : List ℕ) (l : Lent) → isRefused (requestEffect n clock link bc errors packet l .answer) ≡ false
+request-taken = request-answer Taken (λ _. refl) (λ _. refl)
 
 pub reply-taken : (n : Node) (clock : ℕ) (errors : Bool) (status address bc : ℕ) (words reply : List ℕ) → isRefused (replyEffect n clock errors status address bc words reply .answer) ≡ false
-unfolding replyEffect
-reply-taken n clock errors status address bc words reply =
-    hears-taken (n .pending) n clock (heard (isLate clock (askedAt (n .pending))) errors status address bc) words reply
+reply-taken = reply-answer Taken (λ _. refl) (λ _. refl) refl
 
 pub poll-taken : (n : Node) (clock : ℕ) (reply : List ℕ) → isRefused (pollEffect n clock reply .answer) ≡ false
-unfolding pollEffect
-poll-taken n clock reply =
-    pick-case (λ (e : Effect). isRefused (e .answer) ≡ false) (isLate clock (askedAt (n .pending)))
-    (λ _. hears-taken (n .pending) n clock silent [] reply) (λ _. refl)
+poll-taken = poll-answer Taken (λ _. refl) (λ _. refl) refl

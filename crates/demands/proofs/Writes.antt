@@ -1,9 +1,9 @@
 -- A file that fits is written: in a directory that is fresh the searches find what the flash has. Assumes nothing.
 use Prim.Native.Nat.{ℕ, _<_}
 use mathlib.Core.Path.{_≡_, refl, sym, ap, _∙_}
-use mathlib.Core.Bool.{true, false, _&&_, false≢true}
+use mathlib.Core.Bool.{Bool, true, false, _&&_, false≢true}
 use mathlib.Core.List.{List}
-use lib.ListN.{length, getD, take, drop}
+use lib.ListN.{length, getD, drop}
 use borrow.Author.Tests.{eq-eqb, le-leb}
 use Rattle.base.proofs.Pick.{yes, no}
 use Rattle.image.specs.File.{fileEnd}
@@ -16,24 +16,24 @@ use Rattle.flash.specs.declared.Erasing.{Erasing}
 use Rattle.flash.specs.declared.Found.{Found}
 use Rattle.flash.specs.declared.Target.{Target}
 use Rattle.flash.proofs.Statuses.{status-quiet, status-empty}
-use Rattle.flash.proofs.Kept.{kept-true, place-tells}
+use Rattle.flash.proofs.Kept.{kept-true}
 use Rattle.flash.proofs.Searches.{found-tells, nothing-tells}
-use Rattle.flash.proofs.Storing.{stored-reads-back}
-use Rattle.node.specs.Effect.{Lent, lent, changes, Outcome, ownOutcome, Change}
+use Rattle.node.specs.Effect.{Lent, lent, Did, Outcome}
 use Rattle.node.specs.Files.{isErasing, namedBy, isExact, isMissing, placedFor, writeAt, writeOf}
 use Rattle.node.specs.Own.{filesOf, ownOf}
+use Rattle.node.specs.declared.Answer.{Answer}
 use Rattle.node.specs.declared.Node.{Node}
 use Rattle.demands.specs.Machine.{logodwen}
-use Rattle.demands.specs.Files.{IsFile, fileName, Unused, Takes, Wrote, Writes}
+use Rattle.demands.specs.Requests.{end}
+use Rattle.demands.specs.Files.{IsFile, fileName, Unused, Takes, Writes}
 use Rattle.demands.proofs.Commands.{delivered-own}
 use Rattle.demands.proofs.Sound.{reached-sound}
 use Rattle.demands.proofs.Held.{entry-first}
 
--- a File Write that places its file stores it
-pub write-did : (n : Node) (clock link : ℕ) (packet : List ℕ) (l : Lent) (s : ℕ) → n .erasing ≡ Erasing.Nothing → placedFor n (l .flash) (drop 1 packet) ≡ Found.At s
-    → ownOf 0x45 n clock link packet l ≡ changes (Change.Wrote s (drop 1 packet))
-unfolding ownOf filesOf writeOf
-write-did n clock link packet l s idle placed = sym (no _ (ap isErasing idle) (ap (writeAt (drop 1 packet)) (sym placed)))
+-- a sector was found
+abbrev isSome : Found → Bool
+isSome Found.Nothing = false
+isSome (Found.At s) = true
 
 module _ (n : Node) (flash : List ℕ) (fresh : n .directory ≡ directoryOf flash (n .erasing)) (idle : n .erasing ≡ Erasing.Nothing) where
   -- an unused name is missing
@@ -59,16 +59,15 @@ module _ (n : Node) (flash : List ℕ) (fresh : n .directory ≡ directoryOf fla
       ∙ status-empty (sectorOf flash s) (t .empty) in
       λ i. le-leb words (sizeOf (unitOf flash) s) (t .room) i && isEmptyStatus (status i)
 
-  -- so the placing rule finds the lowest
-  record Placed (file : List ℕ) : Type 0 where
-    sector : ℕ
-    placed : placedFor n flash file ≡ Found.At sector
-    takes : Takes flash (length file) sector
-    lowest : (s : ℕ) → s < sector → Takes flash (length file) s → ⊥
-
-  place-told : (file : List ℕ) → IsFile file → Unused (fileName file) flash → (s : ℕ) → Takes flash (length file) s → Placed file
+  -- so the placing rule finds a sector that takes it, and the lowest
+  pub placed-lowest : (words p : ℕ) → placeOf (n .directory) flash (n .erasing) words ≡ Found.At p → (s : ℕ) → s < p → Takes flash words s → ⊥
   unfolding placeOf
-  place-told file valid unused s t = by (placeOf (n .directory) flash (n .erasing) (length file)) refl
+  placed-lowest words p e s l x =
+      false≢true (sym (found-tells (takes (n .directory) flash (n .erasing) words) p e .before s (x .sector) l) ∙ takes-told words s x)
+
+  place-found : (file : List ℕ) → IsFile file → Unused (fileName file) flash → (s : ℕ) → Takes flash (length file) s → isSome (placedFor n flash file) ≡ true
+  unfolding placeOf
+  place-found file valid unused s t = ap isSome (sym (yes _ exact (yes _ missing refl))) ∙ by (placeOf (n .directory) flash (n .erasing) (length file)) refl
     where
       exact : isExact (fileEnd file) (length file) ≡ true
       exact = ap (λ (e : End). isExact e (length file)) valid ∙ eq-eqb (length file) (length file) refl
@@ -76,30 +75,23 @@ module _ (n : Node) (flash : List ℕ) (fresh : n .directory ≡ directoryOf fla
       missing : isMissing (namedBy n (getD file 0 0)) ≡ true
       missing = ap isMissing (missing-told (fileName file) unused)
 
-      by : (f : Found) → placeOf (n .directory) flash (n .erasing) (length file) ≡ f → Placed file
+      by : (f : Found) → placeOf (n .directory) flash (n .erasing) (length file) ≡ f → isSome f ≡ true
       by Found.Nothing e = absurd (false≢true (sym (nothing-tells (takes (n .directory) flash (n .erasing) (length file)) e s (t .sector)) ∙ takes-told (length file) s t))
-      by (Found.At p) e =
-          let f = found-tells (takes (n .directory) flash (n .erasing) (length file)) p e in
-          let place = place-tells (n .directory) flash (n .erasing) (length file) p e in
-          record {
-            sector = p;
-            placed = sym (yes _ exact (yes _ missing (sym e)));
-            takes = record { sector = place .sector; empty = place .empty; room = place .room };
-            lowest = λ j l x. false≢true (sym (f .before j (x .sector) l) ∙ takes-told (length file) j x);
-          }
+      by (Found.At p) e = refl
+
+-- and a file that is placed is written
+place-ends : (n : Node) (clock link : ℕ) (packet : List ℕ) (l : Lent) → n .erasing ≡ Erasing.Nothing → isSome (placedFor n (l .flash) (drop 1 packet)) ≡ true
+    → Answer.Reply (ownOf 0x45 n clock link packet l .reply) ≡ end
+unfolding ownOf filesOf writeOf
+place-ends n clock link packet l idle some =
+    ap (λ (d : Did). Answer.Reply (d .reply)) (sym (no _ (ap isErasing idle) refl)) ∙ by (placedFor n (l .flash) (drop 1 packet)) some
+  where
+    by : (f : Found) → isSome f ≡ true → Answer.Reply (writeAt (drop 1 packet) f .reply) ≡ end
+    by Found.Nothing h = absurd (false≢true h)
+    by (Found.At s) h = refl
 
 pub writes : Writes logodwen
 writes n flash r idle clock link bc errors packet m reply c d valid unused s t =
-    let file : List ℕ = drop 1 packet in
     let l : Lent = lent flash m reply in
-    let p = place-told n flash (reached-sound r .fresh .summary) idle file valid unused s t in
-    let o = delivered-own n clock link bc errors packet l 0x45 c d .is ∙ ap (ownOutcome n l) (write-did n clock link packet l (p .sector) idle (p .placed)) in
-    record {
-      answer = ap (λ (x : Outcome). x .turn .answer) o;
-      sector = p .sector;
-      takes = p .takes;
-      lowest = p .lowest;
-      stands =
-          ap (λ (x : Outcome). take (length file) (sectorOf (x .after .flash) (p .sector))) o
-          ∙ stored-reads-back flash (p .sector) file (p .takes .sector) (p .takes .room) (p .takes .empty);
-    }
+    ap (λ (x : Outcome). x .turn .answer) (delivered-own n clock link bc errors packet l 0x45 c d .is)
+    ∙ place-ends n clock link packet l idle (place-found n flash (reached-sound r .fresh .summary) idle (drop 1 packet) valid unused s t)

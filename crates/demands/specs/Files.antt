@@ -1,35 +1,36 @@
--- Demand 2, of files: a file that fits is written, what File Write stored reads back, and a corrupted file is never handed out.
--- 01 'Flash' and 'What calls owe'. Assumes nothing.
+-- Demand 2, of files: a file that fits is written, what was written reads back, and a corrupted file is never handed out or loaded. 01
+-- 'Flash' and 'What calls owe'. Assumes nothing.
 use Prim.Native.Nat.{ℕ, _+_, _≤_, _<_}
 use mathlib.Core.Path.{_≡_}
 use mathlib.Core.Logic.{_⊎_}
 use mathlib.Core.Bool.{Bool, true, false, _&&_, _||_}
-use mathlib.Core.List.{List}
+use mathlib.Core.List.{List, [], _∷_}
 use lib.ListN.{length, getD, take, drop}
 use lib.Dec.{eqb}
-use Rattle.base.specs.Words.{Below}
+use Rattle.base.specs.Words.{laid, Below}
 use Rattle.image.specs.Header.{nameOf}
 use Rattle.image.specs.File.{fileEnd}
 use Rattle.image.specs.declared.End.{End}
-use Rattle.flash.specs.Geometry.{isSector, unitOf, sizeOf, sectorOf, entryPlace}
+use Rattle.flash.specs.Geometry.{isSector, unitOf, sizeOf, startOf, sectorOf, entryPlace}
 use Rattle.flash.specs.Status.{isEmpty, firstOf}
 use Rattle.flash.specs.Directory.{entryFor}
 use Rattle.flash.specs.Search.{isNamed}
+use Rattle.flash.specs.Change.{settingOf}
 use Rattle.flash.specs.declared.Erasing.{Erasing}
 use Rattle.flash.specs.declared.Found.{Found}
+use Rattle.flash.specs.declared.Setting.{Setting}
 use Rattle.flash.specs.declared.Target.{Target}
 use Rattle.memory.specs.Segment.{Memories}
-use Rattle.group.specs.Ending.{replied}
+use Rattle.memory.specs.Load.{fileSegments, allFit, allStored}
 use Rattle.group.specs.declared.Reply.{Reply}
 use Rattle.node.specs.State.{turn, faulted}
 use Rattle.node.specs.Effect.{Outcome, outcome, Lent, lent}
-use Rattle.node.specs.Files.{namedBy, placedFor}
+use Rattle.node.specs.Files.{namedBy, placedFor, toErase}
 use Rattle.node.specs.declared.Answer.{Answer}
 use Rattle.node.specs.declared.Node.{Node}
-use Rattle.demands.specs.Machine.{Machine, Call, turnOf, flashOf, isRefused}
-use Rattle.demands.specs.Requests.{end, abort, Delivered, isCommand}
-use Rattle.demands.specs.Reached.{Lends16, stateAfter, Reached}
-use Rattle.demands.specs.Flash.{erasingSite}
+use Rattle.demands.specs.Machine.{Machine, Call, turnOf, flashOf}
+use Rattle.demands.specs.Requests.{end, abort, Delivered, isCommand, handed}
+use Rattle.demands.specs.Reached.{Step, Reached}
 
 -- A valid and exact file.
 abbrev pub IsFile : List ℕ → Type 0
@@ -49,16 +50,8 @@ pub record Takes (flash : List ℕ) (words s : ℕ) : Type 0 where
   pub empty : isEmpty (sectorOf flash s) ≡ true
   pub room : words ≤ sizeOf (unitOf flash) s
 
--- The file is written: END, and it stands at the start of the lowest such sector.
-pub record Wrote (flash file : List ℕ) (o : Outcome) : Type 0 where
-  pub answer : o .turn .answer ≡ end
-  pub sector : ℕ
-  pub takes : Takes flash (length file) sector
-  pub lowest : (s : ℕ) → s < sector → Takes flash (length file) s → ⊥
-  pub stands : take (length file) (sectorOf (o .after .flash) sector) ≡ file
-
 -- In a state reached, with no erasure in progress, a File Write of a valid and exact file whose name is unused, where some sector takes
--- it, is written.
+-- it, is answered END.
 abbrev pub Writes : Machine → Type 0
 Writes M =
     (n : Node) (flash : List ℕ) → Reached M n flash → n .erasing ≡ Erasing.Nothing
@@ -66,9 +59,16 @@ Writes M =
     → isCommand 0x45 packet ≡ true → Delivered M n clock link bc errors packet (lent flash m reply)
     → IsFile (drop 1 packet) → Unused (fileName (drop 1 packet)) flash
     → (s : ℕ) → Takes flash (length (drop 1 packet)) s
-    → Wrote flash (drop 1 packet) (M .request n clock link bc errors packet (lent flash m reply))
+    → M .request n clock link bc errors packet (lent flash m reply) .turn .answer ≡ end
 
--- An Attribute Set of a file of this name.
+-- An Erase that names the sector; an Attribute Set of the name.
+abbrev pub ErasesSector : ℕ → Call → Node → Type 0
+ErasesSector s (Call.Start kind ports subdetector program version tests clock) n = ⊥
+ErasesSector s (Call.Request clock link bc errors packet m reply) n = (isCommand 0x47 packet ≡ true) × (toErase n (getD packet 1 0) ≡ Found.At s)
+ErasesSector s (Call.Reply clock slave bc errors status address words reply) n = ⊥
+ErasesSector s (Call.Poll clock reply) n = ⊥
+ErasesSector s (Call.Erase budget) n = ⊥
+
 abbrev pub setsAttribute : ℕ → Call → Bool
 setsAttribute name (Call.Start kind ports subdetector program version tests clock) = false
 setsAttribute name (Call.Request clock link bc errors packet m reply) = isCommand 0x48 packet && eqb (nameOf (getD packet 1 0)) name
@@ -76,35 +76,49 @@ setsAttribute name (Call.Reply clock slave bc errors status address words reply)
 setsAttribute name (Call.Poll clock reply) = false
 setsAttribute name (Call.Erase budget) = false
 
--- A call that leaves no erasure of the sector in progress, and is no Attribute Set of the name.
+-- A call spares a file of the name in the sector, unless it is one of these, answered END, the Attribute Set with a change.
 pub record Spares (M : Machine) (s name : ℕ) (c : Call) (n : Node) (flash : List ℕ) : Type 0 where
-  pub erasure : erasingSite (stateAfter M c n flash .erasing) ≡ Found.At s → ⊥
-  pub attribute : setsAttribute name c ≡ false
+  pub erase : ErasesSector s c n → turnOf M c n flash .answer ≡ end → ⊥
+  pub attribute : setsAttribute name c ≡ true → turnOf M c n flash .answer ≡ end → flashOf M c n flash ≡ flash
 
--- From one state and flash on, any such calls lead to another: accepted and refused, further starts among them, or refused with
--- whatever flash they were lent.
+abbrev pub SparesIn : {M : Machine} {n : Node} {flash : List ℕ} {next : Node} {after : List ℕ} → ℕ → ℕ → Step M n flash next after → Type 0
+SparesIn {M} {n} {flash} s name (Step.Made c b) = Spares M s name c n flash
+SparesIn s name (Step.OtherFlash c other h) = Unit {0}
+SparesIn s name (Step.OtherState c other h) = Unit {0}
+
+-- From one state and flash on, any calls that spare it lead to another: accepted and refused, further starts and erasures among them.
 pub data Runs (M : Machine) (s name : ℕ) (n : Node) (flash : List ℕ) : Node → List ℕ → Type 0 where
   Here : Runs M s name n flash n flash
-  Then : {m : Node} {after : List ℕ} → Runs M s name n flash m after → (c : Call) → Lends16 c → Spares M s name c m after
-      → Runs M s name n flash (stateAfter M c m after) (flashOf M c m after)
-  Refused : {m : Node} {after : List ℕ} → Runs M s name n flash m after → (c : Call) (other : List ℕ) → isRefused (turnOf M c m other .answer) ≡ true
-      → Runs M s name n flash (stateAfter M c m other) after
+  Then : {m next : Node} {now after : List ℕ} → Runs M s name n flash m now → (step : Step M m now next after) → SparesIn s name step
+      → Runs M s name n flash next after
 
--- In a state reached, a File Write that put its file into sector s and was answered END; then any calls that spare it; then a File Read
--- of its name, with no erasure in progress, answers the very words, of files up to 12,286 words.
+-- Every File Read of its name answers the very words.
+abbrev pub Reads : Machine → List ℕ → Node → List ℕ → Type 0
+Reads M file n flash =
+    (clock link bc : ℕ) (errors : Bool) (packet : List ℕ) (m : Memories) (reply : List ℕ)
+    → isCommand 0x05 packet ≡ true → length packet ≡ 2 → nameOf (getD packet 1 0) ≡ fileName file
+    → Delivered M n clock link bc errors packet (lent flash m reply)
+    → M .request n clock link bc errors packet (lent flash m reply) ≡ handed n (lent flash m reply) file
+
+-- A file that was written: valid, exact and of an unused name, to the lowest sector that takes it; no other word of the flash changed. And
+-- after any calls that spare it, with no erasure in progress, it reads back, if it has up to 12,286 words.
+pub record Written (M : Machine) (flash file : List ℕ) (o : Outcome) : Type 0 where
+  pub valid : IsFile file
+  pub unused : Unused (fileName file) flash
+  pub sector : ℕ
+  pub takes : Takes flash (length file) sector
+  pub lowest : (s : ℕ) → s < sector → Takes flash (length file) s → ⊥
+  pub stands : o .after .flash ≡ laid flash (startOf (unitOf flash) sector) file
+  pub reads : (n : Node) (later : List ℕ) → Runs M sector (fileName file) (o .turn .node) (o .after .flash) n later
+      → n .erasing ≡ Erasing.Nothing → length file ≤ 12286 → Reads M file n later
+
+-- In a state reached, every File Write that is answered END has written its file.
 abbrev pub ReadsBack : Machine → Type 0
 ReadsBack M =
     (n : Node) (flash : List ℕ) → Reached M n flash
-    → (clock link bc : ℕ) (errors : Bool) (packet : List ℕ) (m : Memories) (reply : List ℕ) (s : ℕ)
-    → Below 65536 packet → isCommand 0x45 packet ≡ true → placedFor n flash (drop 1 packet) ≡ Found.At s → length (drop 1 packet) ≤ 12286
-    → let w : Outcome = M .request n clock link bc errors packet (lent flash m reply) in
-    w .turn .answer ≡ end
-    → (n′ : Node) (flash′ : List ℕ) → Runs M s (fileName (drop 1 packet)) (w .turn .node) (w .after .flash) n′ flash′ → n′ .erasing ≡ Erasing.Nothing
-    → (clock′ link′ bc′ : ℕ) (errors′ : Bool) (packet′ : List ℕ) (m′ : Memories) (reply′ : List ℕ)
-    → isCommand 0x05 packet′ ≡ true → length packet′ ≡ 2 → nameOf (getD packet′ 1 0) ≡ fileName (drop 1 packet)
-    → Delivered M n′ clock′ link′ bc′ errors′ packet′ (lent flash′ m′ reply′)
-    → let r : Outcome = M .request n′ clock′ link′ bc′ errors′ packet′ (lent flash′ m′ reply′) in
-    (r .turn .answer ≡ Answer.Reply (replied 3 (length (drop 1 packet) + 2))) × (take (length (drop 1 packet)) (r .after .reply) ≡ drop 1 packet)
+    → (clock link bc : ℕ) (errors : Bool) (packet : List ℕ) (m : Memories) (reply : List ℕ) → Below 65536 packet → isCommand 0x45 packet ≡ true
+    → let o : Outcome = M .request n clock link bc errors packet (lent flash m reply) in
+    o .turn .answer ≡ end → Written M flash (drop 1 packet) o
 
 -- A word of a sector's kept entry isn't the one worked out afresh.
 pub record Differs (n : Node) (flash : List ℕ) (s : ℕ) : Type 0 where
@@ -112,27 +126,78 @@ pub record Differs (n : Node) (flash : List ℕ) (s : ℕ) : Type 0 where
   pub below : word < 4
   pub differs : getD (n .directory) (entryPlace s + word) 0 ≡ getD (entryFor (n .erasing) s (sectorOf flash s)) word 0 → ⊥
 
--- A sector isn't good: no valid file starts it, or its entry differs.
-abbrev pub NotGood : Node → List ℕ → ℕ → Type 0
-NotGood n flash s = ((end : ℕ) → fileEnd (sectorOf flash s) ≡ End.At end → ⊥) ⊎ Differs n flash s
-
--- What File Read hands out: the valid file that stands at the start of the sector of that name, whole.
-pub record HandsOut (n : Node) (flash packet : List ℕ) (r : Reply) (reply : List ℕ) : Type 0 where
-  pub sector : ℕ
-  pub named : namedBy n (getD packet 1 0) ≡ Target.At sector
-  pub file : List ℕ
+-- A command names a good file: no erasure is in progress, this valid file stands at the start of the sector of that name, and the
+-- sector's entry doesn't differ.
+pub record Names (n : Node) (flash packet : List ℕ) (s : ℕ) (file : List ℕ) : Type 0 where
+  pub idle : n .erasing ≡ Erasing.Nothing
+  pub named : namedBy n (getD packet 1 0) ≡ Target.At s
   pub valid : IsFile file
-  pub stands : take (length file) (sectorOf flash sector) ≡ file
-  pub size : r .words ≡ length file + 2
-  pub words : take (length file) reply ≡ file
+  pub stands : take (length file) (sectorOf flash s) ≡ file
+  pub same : Differs n flash s → ⊥
 
--- For any state and flash that pass 1 and 5. Read and Load of a name whose sector isn't good: ABORT, every lent word stays, and one
--- FLASH error is added. And what Read hands out.
+-- Its segments stored in the memories, in file order.
+abbrev pub loaded : Node → Lent → List ℕ → Outcome
+loaded n l file = outcome (turn n end) (lent (l .flash) (allStored (fileSegments file) (l .memories)) (l .reply))
+
+-- What a command that handed out or loaded a file came to: it named a good one, and did so with it.
+pub record Did (does : Node → Lent → List ℕ → Outcome) (n : Node) (packet : List ℕ) (l : Lent) (o : Outcome) : Type 0 where
+  pub sector : ℕ
+  pub file : List ℕ
+  pub names : Names n (l .flash) packet sector file
+  pub is : o ≡ does n l file
+
+-- Any state and flash that pass 1 and 5. Read and Load of a name whose sector has no good file: ABORT, every lent word stays, and one FLASH
+-- error is added. A Read that answers words hands out a good file, whole; a Load that is answered END, or changes a memory, loads one.
+-- Requests other than Load, Perform IO and the Memory Writes change no memory.
 pub record NeverCorrupted (M : Machine) : Type 0 where
   pub aborts : (n : Node) (clock link bc : ℕ) (errors : Bool) (packet : List ℕ) (l : Lent) (s : ℕ) → (isCommand 0x05 packet || isCommand 0x46 packet) ≡ true
-      → Delivered M n clock link bc errors packet l → length packet ≡ 2 → n .erasing ≡ Erasing.Nothing
-      → namedBy n (getD packet 1 0) ≡ Target.At s → NotGood n (l .flash) s
+      → Delivered M n clock link bc errors packet l → length packet ≡ 2 → n .erasing ≡ Erasing.Nothing → namedBy n (getD packet 1 0) ≡ Target.At s
+      → ((file : List ℕ) → Names n (l .flash) packet s file → ⊥)
       → M .request n clock link bc errors packet l ≡ outcome (turn (faulted true n) abort) l
   pub hands-out : (n : Node) (clock link bc : ℕ) (errors : Bool) (packet : List ℕ) (l : Lent) (r : Reply) → isCommand 0x05 packet ≡ true
-      → M .request n clock link bc errors packet l .turn .answer ≡ Answer.Reply r → 0 < r .words
-      → HandsOut n (l .flash) packet r (M .request n clock link bc errors packet l .after .reply)
+      → let o : Outcome = M .request n clock link bc errors packet l in
+      o .turn .answer ≡ Answer.Reply r → 0 < r .words → Did handed n packet l o
+  pub loads : (n : Node) (clock link bc : ℕ) (errors : Bool) (packet : List ℕ) (l : Lent) → isCommand 0x46 packet ≡ true
+      → let o : Outcome = M .request n clock link bc errors packet l in
+      (o .turn .answer ≡ end) ⊎ (o .after .memories ≡ l .memories → ⊥) → Did loaded n packet l o
+  pub leaves : (n : Node) (clock link bc : ℕ) (errors : Bool) (packet : List ℕ) (l : Lent)
+      → (isCommand 0x46 packet || isCommand 0x0F packet || isCommand 0x50 packet || isCommand 0x51 packet) ≡ false
+      → M .request n clock link bc errors packet l .after .memories ≡ l .memories
+
+-- Nor is a good file withheld: Read hands it out, if it has up to 12,286 words, and Load loads it, if every segment fits.
+pub record GoodIsServed (M : Machine) : Type 0 where
+  pub read : (n : Node) (clock link bc : ℕ) (errors : Bool) (packet : List ℕ) (l : Lent) (s : ℕ) (file : List ℕ) → isCommand 0x05 packet ≡ true
+      → Delivered M n clock link bc errors packet l → length packet ≡ 2 → Names n (l .flash) packet s file → length file ≤ 12286
+      → M .request n clock link bc errors packet l ≡ handed n l file
+  pub load : (n : Node) (clock link bc : ℕ) (errors : Bool) (packet : List ℕ) (l : Lent) (s : ℕ) (file : List ℕ) → isCommand 0x46 packet ≡ true
+      → Delivered M n clock link bc errors packet l → length packet ≡ 2 → Names n (l .flash) packet s file
+      → allFit (length (l .memories .pm)) (length (l .memories .dm)) (length (l .memories .io)) (fileSegments file) ≡ true
+      → M .request n clock link bc errors packet l ≡ loaded n l file
+
+-- A File Write has laid its file where the placing rule says, or an Attribute Set another header word, by 01's rule, over that of a good
+-- file; it is answered END.
+pub record Lays (l : Lent) (o : Outcome) (s : ℕ) (words : List ℕ) : Type 0 where
+  pub answer : o .turn .answer ≡ end
+  pub flash : o .after .flash ≡ laid (l .flash) (startOf (unitOf (l .flash)) s) words
+
+pub record LaysFile (n : Node) (packet : List ℕ) (l : Lent) (o : Outcome) : Type 0 where
+  pub command : isCommand 0x45 packet ≡ true
+  pub sector : ℕ
+  pub placed : placedFor n (l .flash) (drop 1 packet) ≡ Found.At sector
+  pub lays : Lays l o sector (drop 1 packet)
+
+pub record LaysHeader (n : Node) (packet : List ℕ) (l : Lent) (o : Outcome) : Type 0 where
+  pub command : isCommand 0x48 packet ≡ true
+  pub sector : ℕ
+  pub file : List ℕ
+  pub names : Names n (l .flash) packet sector file
+  pub header : ℕ
+  pub set : settingOf (getD file 0 0) (getD packet 2 0) ≡ Setting.Header header
+  pub lays : Lays l o sector (header ∷ [])
+
+-- A request changes the flash so, and in no other way. Any state and any flash.
+abbrev pub FlashFollows : Machine → Type 0
+FlashFollows M =
+    (n : Node) (clock link bc : ℕ) (errors : Bool) (packet : List ℕ) (l : Lent)
+    → let o : Outcome = M .request n clock link bc errors packet l in
+    (o .after .flash ≡ l .flash) ⊎ (LaysFile n packet l o ⊎ LaysHeader n packet l o)

@@ -2,22 +2,24 @@
 -- from 0 to 1 but by erasing; and an erasure sets what it counts, all of its sector and nothing else. 01 'Flash'. Assumes nothing.
 use Prim.Native.Nat.{ℕ, min, _+_, _≤_, _<_}
 use mathlib.Core.Path.{_≡_}
-use mathlib.Core.Bool.{Bool, true}
-use mathlib.Core.List.{List, [], _∷_}
+use mathlib.Core.Logic.{_⊎_}
+use mathlib.Core.Bool.{Bool, true, false}
+use mathlib.Core.List.{List}
 use lib.ListN.{length, getD, drop}
 use Rattle.base.specs.Pick.{pick}
 use Rattle.base.specs.Words.{laid, blanks}
-use Rattle.flash.specs.Geometry.{unitOf, sizeOf, startOf, sectorOf}
+use Rattle.flash.specs.Geometry.{isSector, unitOf, sizeOf, startOf, sectorOf}
 use Rattle.flash.specs.Status.{isEmpty, progress}
-use Rattle.flash.specs.Change.{restOf, sum, OnlySector, bitOf}
+use Rattle.flash.specs.Change.{restOf, eraseCount, erased, erasingAfter, OnlySector, bitOf}
 use Rattle.flash.specs.declared.Erasing.{Erasing}
 use Rattle.flash.specs.declared.Found.{Found}
 use Rattle.node.specs.Effect.{Outcome, Lent}
 use Rattle.node.specs.Files.{namedBy, placedFor, foundBy, toErase}
 use Rattle.node.specs.declared.Answer.{Answer}
 use Rattle.node.specs.declared.Node.{Node}
-use Rattle.demands.specs.Machine.{Machine, Call, flashOf}
+use Rattle.demands.specs.Machine.{Machine, Call, turnOf, flashOf, isRefused}
 use Rattle.demands.specs.Requests.{end, Delivered, isCommand}
+use Rattle.demands.specs.Reached.{Step}
 
 -- The sector that a request may change: where File Write places its file, and the one of the name that Attribute Set is given.
 abbrev pub requestSite : Node → List ℕ → List ℕ → Found
@@ -73,15 +75,53 @@ NoBitRises M =
     (c : Call) (n : Node) (flash : List ℕ) (i k : ℕ) → k < 16 → (SetByErasing c n flash i → ⊥)
     → bitOf (getD flash i 0) k ≡ 0 → bitOf (getD (flashOf M c n flash) i 0) k ≡ 0
 
--- A row of erase-progress calls with these budgets, each lent the state and the flash that the one before left: the state and the
--- flash after them, and the sum of the counts that they answer.
-pub record Row : Type 0 where
-  pub node : Node
-  pub flash : List ℕ
-  pub count : ℕ
+-- What an Erase that is answered END has done: nothing was being erased, and the erasure of the sector that it names has begun. It only
+-- begins.
+pub record Begins (n : Node) (flash packet : List ℕ) (o : Outcome) : Type 0 where
+  pub command : isCommand 0x47 packet ≡ true
+  pub answer : o .turn .answer ≡ end
+  pub idle : n .erasing ≡ Erasing.Nothing
+  pub sector : ℕ
+  pub is : isSector sector ≡ true
+  pub named : toErase n (getD packet 1 0) ≡ Found.At sector
+  pub begun : o .turn .node .erasing ≡ Erasing.Sector (progress sector 0)
+  pub kept : o .after .flash ≡ flash
 
-abbrev pub row : Node → List ℕ → ℕ → Row
-row n flash count = record { node = n; flash = flash; count = count }
+-- What erase progress does that is not refused: the erasure goes on, and so many words are set, and counted, as the budget says, or the
+-- rest.
+pub record GoesOn (n : Node) (budget : ℕ) (flash : List ℕ) (o : Outcome) : Type 0 where
+  pub erasing : o .turn .node .erasing ≡ erasingAfter (unitOf flash) (n .erasing) budget
+  pub answer : o .turn .answer ≡ Answer.Erased (eraseCount (unitOf flash) (n .erasing) budget)
+  pub words : o .after .flash ≡ erased flash (n .erasing) budget
+
+-- What is being erased follows the commands, whatever the state and the flash: nothing is after a start; a request leaves it, or is an
+-- Erase that begins it; a slave's reply and a poll leave it; erase progress goes on with it.
+pub record ErasureFollows (M : Machine) : Type 0 where
+  pub start : (kind ports subdetector program version tests clock : ℕ) (flash : List ℕ)
+      → M .start kind ports subdetector program version tests clock flash .node .erasing ≡ Erasing.Nothing
+  pub request : (n : Node) (clock link bc : ℕ) (errors : Bool) (packet : List ℕ) (l : Lent)
+      → let o : Outcome = M .request n clock link bc errors packet l in
+      (o .turn .node .erasing ≡ n .erasing) ⊎ Begins n (l .flash) packet o
+  pub reply : (n : Node) (clock slave bc : ℕ) (errors : Bool) (status address : ℕ) (words reply : List ℕ)
+      → M .reply n clock slave bc errors status address words reply .turn .node .erasing ≡ n .erasing
+  pub poll : (n : Node) (clock : ℕ) (reply : List ℕ) → M .poll n clock reply .turn .node .erasing ≡ n .erasing
+  pub erase : (n : Node) (budget : ℕ) (flash : List ℕ) → isRefused (M .erase n budget flash .turn .answer) ≡ false
+      → GoesOn n budget flash (M .erase n budget flash)
+
+-- Of a step that a host makes: whether it starts the node again, the words that it is given to erase, and the words that it counts.
+abbrev pub isStart : Call → Bool
+isStart (Call.Start kind ports subdetector program version tests clock) = true
+isStart (Call.Request clock link bc errors packet m reply) = false
+isStart (Call.Reply clock slave bc errors status address words reply) = false
+isStart (Call.Poll clock reply) = false
+isStart (Call.Erase budget) = false
+
+abbrev pub budgetOf : Call → ℕ
+budgetOf (Call.Start kind ports subdetector program version tests clock) = 0
+budgetOf (Call.Request clock link bc errors packet m reply) = 0
+budgetOf (Call.Reply clock slave bc errors status address words reply) = 0
+budgetOf (Call.Poll clock reply) = 0
+budgetOf (Call.Erase budget) = budget
 
 abbrev pub countOf : Answer → ℕ
 countOf (Answer.Refused r) = 0
@@ -91,36 +131,48 @@ countOf (Answer.Ask a) = 0
 countOf Answer.Waiting = 0
 countOf (Answer.Erased count) = count
 
-abbrev pub counting : Answer → Row → Row
-counting a r = row (r .node) (r .flash) (countOf a + r .count)
+abbrev pub isRestart : {M : Machine} {n : Node} {flash : List ℕ} {next : Node} {after : List ℕ} → Step M n flash next after → Bool
+isRestart (Step.Made c b) = isStart c
+isRestart (Step.OtherFlash c other h) = false
+isRestart (Step.OtherState c other h) = false
 
-unfoldable pub rowOf : Machine → List ℕ → Node → List ℕ → Row
-rowOf M [] n flash = row n flash 0
-rowOf M (b ∷ budgets) n flash =
-    counting (M .erase n b flash .turn .answer) (rowOf M budgets (M .erase n b flash .turn .node) (M .erase n b flash .after .flash))
+abbrev pub budgetIn : {M : Machine} {n : Node} {flash : List ℕ} {next : Node} {after : List ℕ} → Step M n flash next after → ℕ
+budgetIn (Step.Made c b) = budgetOf c
+budgetIn (Step.OtherFlash c other h) = 0
+budgetIn (Step.OtherState c other h) = 0
 
--- An erasure of a sector just begun, and any budgets from then on: the words set are FFFF, from the low end, as many as the budgets sum
--- to or the sector has, and the rest is as before; the counts sum to them; while words are left it goes on; then the sector is empty
--- and the erasure over.
-pub record Sets (M : Machine) (n : Node) (flash : List ℕ) (s : ℕ) (budgets : List ℕ) : Type 0 where
-  pub words : rowOf M budgets n flash .flash ≡ laid flash (startOf (unitOf flash) s) (blanks (min (sum budgets) (sizeOf (unitOf flash) s)))
-  pub count : rowOf M budgets n flash .count ≡ min (sum budgets) (sizeOf (unitOf flash) s)
-  pub going : sum budgets < sizeOf (unitOf flash) s → rowOf M budgets n flash .node .erasing ≡ Erasing.Sector (progress s (sum budgets))
-  pub over : sizeOf (unitOf flash) s ≤ sum budgets → rowOf M budgets n flash .node .erasing ≡ Erasing.Nothing
-  pub empty : sizeOf (unitOf flash) s ≤ sum budgets → isEmpty (sectorOf (rowOf M budgets n flash .flash) s) ≡ true
+abbrev pub countIn : {M : Machine} {n : Node} {flash : List ℕ} {next : Node} {after : List ℕ} → Step M n flash next after → ℕ
+countIn {M} {n} {flash} (Step.Made c b) = countOf (turnOf M c n flash .answer)
+countIn (Step.OtherFlash c other h) = 0
+countIn (Step.OtherState c other h) = 0
 
--- What an Erase answered END has begun: it names a sector, leaves the flash, and the erasure sets all of it.
-pub record Begins (M : Machine) (n : Node) (flash packet : List ℕ) (o : Outcome) : Type 0 where
-  pub sector : ℕ
-  pub named : toErase n (getD packet 1 0) ≡ Found.At sector
-  pub kept : o .after .flash ≡ flash
-  pub sets : (budgets : List ℕ) → Sets M (o .turn .node) flash sector budgets
+-- The course of an erasure: from the state and the flash that an Erase left to others, by any calls but an accepted start, as long as the
+-- budgets given are below the sector's size; with the sums of the budgets and of the counts.
+pub data Course (M : Machine) (size : ℕ) (n : Node) (flash : List ℕ) : Node → List ℕ → ℕ → ℕ → Type 0 where
+  Begun : Course M size n flash n flash 0 0
+  Then : {m next : Node} {now after : List ℕ} {given counted : ℕ} → Course M size n flash m now given counted → given < size
+      → (s : Step M m now next after) → isRestart s ≡ false
+      → Course M size n flash next after (given + budgetIn s) (counted + countIn s)
 
--- Any Erase answered END, on any state and flash; and one that names a sector is answered END, unless an erasure is in progress.
+-- Where it has come: the words set are FFFF, from the low end, as many as the budgets sum to or the sector has, and all else is as before;
+-- the counts sum to them; while words are left it goes on; then the sector is empty and the erasure over.
+pub record HasSet (s : ℕ) (flash : List ℕ) (m : Node) (after : List ℕ) (given counted : ℕ) : Type 0 where
+  pub words : after ≡ laid flash (startOf (unitOf flash) s) (blanks (min given (sizeOf (unitOf flash) s)))
+  pub count : counted ≡ min given (sizeOf (unitOf flash) s)
+  pub going : given < sizeOf (unitOf flash) s → m .erasing ≡ Erasing.Sector (progress s given)
+  pub over : sizeOf (unitOf flash) s ≤ given → m .erasing ≡ Erasing.Nothing
+  pub empty : sizeOf (unitOf flash) s ≤ given → isEmpty (sectorOf after s) ≡ true
+
+-- Any state and flash. An Erase that names a sector is answered END, unless an erasure is in progress; one that is answered END has begun
+-- the erasure of that sector; and whatever calls follow, it sets what its erase progress is given.
 pub record Erases (M : Machine) : Type 0 where
-  pub begins : (n : Node) (clock link bc : ℕ) (errors : Bool) (packet : List ℕ) (l : Lent) → isCommand 0x47 packet ≡ true
-      → M .request n clock link bc errors packet l .turn .answer ≡ end
-      → Begins M n (l .flash) packet (M .request n clock link bc errors packet l)
   pub starts : (n : Node) (clock link bc : ℕ) (errors : Bool) (packet : List ℕ) (l : Lent) (s : ℕ) → isCommand 0x47 packet ≡ true
       → Delivered M n clock link bc errors packet l → length packet ≡ 2 → n .erasing ≡ Erasing.Nothing → toErase n (getD packet 1 0) ≡ Found.At s
       → M .request n clock link bc errors packet l .turn .answer ≡ end
+  pub begins : (n : Node) (clock link bc : ℕ) (errors : Bool) (packet : List ℕ) (l : Lent) → isCommand 0x47 packet ≡ true
+      → M .request n clock link bc errors packet l .turn .answer ≡ end → Begins n (l .flash) packet (M .request n clock link bc errors packet l)
+  pub sets : (n : Node) (clock link bc : ℕ) (errors : Bool) (packet : List ℕ) (l : Lent) (s : ℕ) → isCommand 0x47 packet ≡ true
+      → let o : Outcome = M .request n clock link bc errors packet l in
+      o .turn .answer ≡ end → toErase n (getD packet 1 0) ≡ Found.At s
+      → (m : Node) (after : List ℕ) (given counted : ℕ) → Course M (sizeOf (unitOf (l .flash)) s) (o .turn .node) (l .flash) m after given counted
+      → HasSet s (l .flash) m after given counted

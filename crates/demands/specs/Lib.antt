@@ -8,6 +8,7 @@ pub mod Events
 pub mod Groups
 pub mod Anchors
 pub mod ClosedRun
+pub mod Demands
 pub mod Examples
 pub mod Settled
 pub mod ShutOut

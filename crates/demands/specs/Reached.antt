@@ -4,17 +4,15 @@ use Prim.Native.Nat.{ℕ}
 use mathlib.Core.Path.{_≡_}
 use mathlib.Core.Bool.{Bool, true, false}
 use mathlib.Core.List.{List}
-use lib.ListN.{length, take}
+use lib.ListN.{length}
 use Rattle.base.specs.Pick.{pick}
 use Rattle.base.specs.Words.{Below}
 use Rattle.flash.specs.Directory.{directoryOf}
 use Rattle.memory.specs.Segment.{Memories}
-use Rattle.group.specs.Ending.{replied}
-use Rattle.node.specs.Effect.{Outcome, lent}
-use Rattle.node.specs.declared.Answer.{Answer}
+use Rattle.node.specs.Effect.{lent}
 use Rattle.node.specs.declared.Node.{Node}
 use Rattle.demands.specs.Machine.{Machine, Call, turnOf, flashOf, isRefused}
-use Rattle.demands.specs.Requests.{Delivered, isCommand}
+use Rattle.demands.specs.Requests.{Delivered, isCommand, handed}
 
 -- A packet is lent as 16-bit words.
 abbrev pub Lends16 : Call → Type 0
@@ -37,28 +35,29 @@ stateAfter M (Call.Reply clock slave bc errors status address words reply) n fla
 stateAfter M (Call.Poll clock reply) n flash = turnOf M (Call.Poll clock reply) n flash .node
 stateAfter M (Call.Erase budget) n flash = turnOf M (Call.Erase budget) n flash .node
 
--- The states reached, each with the flash that it is kept with. Memories, reply buffer, clock and packet are fresh at every call.
+-- One call of a host that keeps a state and a flash, and what it keeps after it. The call is lent both, and accepted or refused; or it is
+-- refused, lent that state with whatever flash, or that flash with whatever state. Memories, reply buffer, clock and packet are fresh at
+-- every call.
+pub data Step (M : Machine) (n : Node) (flash : List ℕ) : Node → List ℕ → Type 0 where
+  Made : (c : Call) → Lends16 c → Step M n flash (stateAfter M c n flash) (flashOf M c n flash)
+  OtherFlash : (c : Call) (other : List ℕ) → isRefused (turnOf M c n other .answer) ≡ true → Step M n flash (stateAfter M c n other) flash
+  OtherState : (c : Call) (other : Node) → isRefused (turnOf M c other flash .answer) ≡ true → Step M n flash n (flashOf M c other flash)
+
+-- The states reached, each with the flash that it is kept with: an accepted start on any flash, then any calls.
 pub data Reached (M : Machine) : Node → List ℕ → Type 0 where
-  -- an accepted start, on any flash
   First : (kind ports subdetector program version tests clock : ℕ) (flash : List ℕ)
       → isRefused (M .start kind ports subdetector program version tests clock flash .answer) ≡ false
       → Reached M (M .start kind ports subdetector program version tests clock flash .node) flash
-  -- then any call, lent that state and that flash, accepted or refused
-  Then : {n : Node} {flash : List ℕ} → Reached M n flash → (c : Call) → Lends16 c
-      → Reached M (stateAfter M c n flash) (flashOf M c n flash)
-  -- or a call refused, whatever flash it was lent
-  Refused : {n : Node} {flash : List ℕ} → Reached M n flash → (c : Call) (other : List ℕ) → isRefused (turnOf M c n other .answer) ≡ true
-      → Reached M (stateAfter M c n other) flash
+  Then : {n next : Node} {flash after : List ℕ} → Reached M n flash → Step M n flash next after → Reached M next after
 
 -- No stale record: the directory kept is the one worked out afresh.
 abbrev pub NoStaleRecord : Machine → Type 0
 NoStaleRecord M = (n : Node) (flash : List ℕ) → Reached M n flash → n .directory ≡ directoryOf flash (n .erasing)
 
--- So is what Flash Summary answers: 34 words, of which the first 32 are that directory.
+-- So is what Flash Summary answers.
 abbrev pub SummaryIsTrue : Machine → Type 0
 SummaryIsTrue M =
     (n : Node) (flash : List ℕ) → Reached M n flash
     → (clock link bc : ℕ) (errors : Bool) (packet : List ℕ) (m : Memories) (reply : List ℕ)
     → Delivered M n clock link bc errors packet (lent flash m reply) → isCommand 0x07 packet ≡ true → length packet ≡ 1
-    → let o : Outcome = M .request n clock link bc errors packet (lent flash m reply) in
-    (o .turn .answer ≡ Answer.Reply (replied 3 34)) × (take 32 (o .after .reply) ≡ directoryOf flash (n .erasing))
+    → M .request n clock link bc errors packet (lent flash m reply) ≡ handed n (lent flash m reply) (directoryOf flash (n .erasing))

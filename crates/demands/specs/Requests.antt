@@ -1,14 +1,17 @@
--- Requests that come to a command, the condition under which the demands speak of one, and the answers END and ABORT. 01 'Requests'.
+-- Requests that come to a command, the condition under which the demands speak of one, and the answers END, ABORT and data. 01 'Requests'.
 -- Assumes nothing.
-use Prim.Native.Nat.{ℕ, _%_, _≤_}
+use Prim.Native.Nat.{ℕ, _+_, _%_, _≤_}
 use mathlib.Core.Path.{_≡_}
 use mathlib.Core.Bool.{Bool, false, _&&_}
 use mathlib.Core.List.{List}
 use lib.ListN.{length, getD}
 use lib.Dec.{eqb}
-use Rattle.group.specs.Ending.{zeroReply}
+use Rattle.base.specs.Words.{laid}
+use Rattle.group.specs.Ending.{zeroReply, replied}
 use Rattle.group.specs.declared.ZeroLength.{ZeroLength}
-use Rattle.node.specs.Effect.{Lent}
+use Rattle.node.specs.State.{turn}
+use Rattle.node.specs.Settings.{statusIn}
+use Rattle.node.specs.Effect.{Lent, lent, Outcome, outcome, sealedWords}
 use Rattle.node.specs.Route.{firstByte, secondByte}
 use Rattle.node.specs.declared.Answer.{Answer}
 use Rattle.node.specs.declared.Node.{Node}
@@ -32,3 +35,9 @@ pub record Delivered (M : Machine) (n : Node) (clock link bc : ℕ) (errors : Bo
 -- Step 4: the node's own command of an ID, which is less than 256.
 abbrev pub isCommand : ℕ → List ℕ → Bool
 isCommand id packet = eqb (firstByte (getD packet 0 0)) 0x2E && eqb (secondByte (getD packet 0 0)) id
+
+-- A read reply: data, reply status and FCS from word 0 of the reply buffer on, its other words as they were, and so the state, the flash
+-- and the memories.
+abbrev pub handed : Node → Lent → List ℕ → Outcome
+handed n l ws =
+    outcome (turn n (Answer.Reply (replied 3 (length ws + 2)))) (lent (l .flash) (l .memories) (laid (l .reply) 0 (sealedWords (statusIn n) ws)))

@@ -1,22 +1,30 @@
--- The wrong nodes that 01 names under 'What calls owe', each a machine of its own, and for each the statement that it fails. A call of
--- which nothing is said is ours. Assumes nothing.
+-- Wrong nodes, those that 01 names under 'What calls owe' and others, each a machine of its own, and for each the demand that it fails, by
+-- its name in `Demands`. A call of which nothing is said is ours. Assumes nothing.
 use Prim.Native.Nat.{ℕ}
-use mathlib.Core.List.{List}
+use mathlib.Core.List.{List, []}
 use lib.ListN.{length}
+use lib.Dec.{eqb}
+use Rattle.base.specs.Pick.{pick}
 use Rattle.base.specs.Words.{laid}
+use Rattle.flash.specs.Geometry.{sectorOf}
+use Rattle.flash.specs.Status.{progress}
+use Rattle.flash.specs.Directory.{refreshed, directoryOf}
+use Rattle.flash.specs.declared.Erasing.{Erasing}
+use Rattle.flash.specs.declared.Status.{Status}
+use Rattle.memory.specs.Segment.{memories}
 use Rattle.group.specs.declared.Reply.{Reply}
 use Rattle.node.specs.State.{turn, withFlash}
 use Rattle.node.specs.Effect.{Lent, lent, Outcome, outcome}
-use Rattle.node.specs.Calls.{lentReply, lentFlash, startOf, requestOf, replyOf, pollOf, eraseOf}
+use Rattle.node.specs.Calls.{lentReply, lentFlash, nobody, startOf, requestOf, replyOf, pollOf, eraseOf}
 use Rattle.node.specs.declared.Answer.{Answer}
 use Rattle.node.specs.declared.Node.{Node}
 use Rattle.node.specs.declared.Refusal.{Refusal}
 use Rattle.demands.specs.Machine.{Machine}
-use Rattle.demands.specs.Requests.{abort}
+use Rattle.demands.specs.Requests.{end, abort, isCommand}
 use Rattle.demands.specs.Reached.{NoStaleRecord}
 use Rattle.demands.specs.Refusals.{RefusedExactly}
-use Rattle.demands.specs.Flash.{Erases}
-use Rattle.demands.specs.Files.{Writes}
+use Rattle.demands.specs.Flash.{ErasureFollows, Erases}
+use Rattle.demands.specs.Files.{Writes, ReadsBack, NeverCorrupted, FlashFollows}
 use Rattle.demands.specs.ClosedRun.{ClosedRun}
 
 -- Once started, always refuses.
@@ -111,21 +119,135 @@ scanning =
       erase = λ n budget flash. stale n (eraseOf n budget flash);
     }
 
+-- Refuses start too.
+abbrev pub unstarted : Refusal → Machine
+unstarted r =
+    record {
+      start = λ kind ports subdetector program version tests clock flash. turn nobody (Answer.Refused r);
+      request = requestOf;
+      reply = replyOf;
+      poll = pollOf;
+      erase = eraseOf;
+    }
+
+-- Begins to erase sector 3 of its own accord, with every reply that has words, where nothing is being erased; its directory tells it.
+abbrev pub begins : Erasing → Node → List ℕ → Node
+begins Erasing.Nothing n flash = withFlash n (refreshed (n .directory) flash 3 Status.Erasing) (Erasing.Sector (progress 3 0))
+begins (Erasing.Sector p) n flash = n
+
+abbrev pub withReply : Answer → Node → List ℕ → Node
+withReply (Answer.Refused r) n flash = n
+withReply Answer.Started n flash = n
+withReply (Answer.Reply r) n flash = pick (eqb (r .words) 0) n (begins (n .erasing) n flash)
+withReply (Answer.Ask a) n flash = n
+withReply Answer.Waiting n flash = n
+withReply (Answer.Erased count) n flash = n
+
+abbrev pub willing : Outcome → Outcome
+willing o = outcome (turn (withReply (o .turn .answer) (o .turn .node) (o .after .flash)) (o .turn .answer)) (o .after)
+
+abbrev pub rogue : Machine
+rogue =
+    record {
+      start = startOf;
+      request = λ n clock link bc errors packet l. willing (requestOf n clock link bc errors packet l);
+      reply = replyOf;
+      poll = pollOf;
+      erase = eraseOf;
+    }
+
+-- Drops an erasure in progress when a request comes; its directory is worked out afresh.
+abbrev pub drops : Erasing → Outcome → Outcome
+drops Erasing.Nothing o = o
+drops (Erasing.Sector p) o =
+    outcome (turn (withFlash (o .turn .node) (directoryOf (o .after .flash) Erasing.Nothing) Erasing.Nothing) (o .turn .answer)) (o .after)
+
+abbrev pub dropping : Machine
+dropping =
+    record {
+      start = startOf;
+      request = λ n clock link bc errors packet l. drops (n .erasing) (requestOf n clock link bc errors packet l);
+      reply = replyOf;
+      poll = pollOf;
+      erase = eraseOf;
+    }
+
+-- Loads from a half-erased sector: during an erasure it answers Load as it should, and puts that sector's words into PM.
+abbrev pub loadsHalf : Erasing → List ℕ → Outcome → Outcome
+loadsHalf Erasing.Nothing packet o = o
+loadsHalf (Erasing.Sector p) packet o =
+    pick (isCommand 0x46 packet) (outcome (o .turn) (lent (o .after .flash) (memories (sectorOf (o .after .flash) (p .sector)) [] []) (o .after .reply))) o
+
+abbrev pub loader : Machine
+loader =
+    record {
+      start = startOf;
+      request = λ n clock link bc errors packet l. loadsHalf (n .erasing) packet (requestOf n clock link bc errors packet l);
+      reply = replyOf;
+      poll = pollOf;
+      erase = eraseOf;
+    }
+
+-- Says END to a File Write that it answers ABORT, and stores nothing.
+abbrev pub lies : Answer → Answer
+lies (Answer.Refused r) = Answer.Refused r
+lies Answer.Started = Answer.Started
+lies (Answer.Reply r) = end
+lies (Answer.Ask a) = Answer.Ask a
+lies Answer.Waiting = Answer.Waiting
+lies (Answer.Erased count) = Answer.Erased count
+
+abbrev pub lying : Machine
+lying =
+    record {
+      start = startOf;
+      request = λ n clock link bc errors packet l.
+          let o : Outcome = requestOf n clock link bc errors packet l in
+          pick (isCommand 0x45 packet) (outcome (turn (o .turn .node) (lies (o .turn .answer))) (o .after)) o;
+      reply = replyOf;
+      poll = pollOf;
+      erase = eraseOf;
+    }
+
+-- Stores a file, but says ABORT.
+abbrev pub denying : Machine
+denying =
+    record {
+      start = startOf;
+      request = λ n clock link bc errors packet l.
+          let o : Outcome = requestOf n clock link bc errors packet l in
+          pick (isCommand 0x45 packet) (outcome (turn (o .turn .node) abort) (o .after)) o;
+      reply = replyOf;
+      poll = pollOf;
+      erase = eraseOf;
+    }
+
 -- Each fails a demand.
 pub record ShutOut : Type 0 where
   -- always refuses, by whichever number
   pub refuses : (r : Refusal) → RefusedExactly (refusing r) → ⊥
   pub serves-nothing : (r : Refusal) → ClosedRun (refusing r) → ⊥
+  -- refuses start too
+  pub refuses-start : (r : Refusal) → RefusedExactly (unstarted r) → ⊥
   -- always says ABORT
   pub aborts : Writes aborting → ⊥
   -- a constant reply
   pub replies-alike : (r : Reply) (ws : List ℕ) → ClosedRun (constant r ws) → ⊥
   -- changes nothing but keeps a true directory
   pub true-directory : NoStaleRecord idle
-  pub changes-nothing : Writes idle → ⊥
+  pub changes-nothing : ReadsBack idle → ⊥
+  -- says END and stores nothing; stores and says ABORT
+  pub stores-nothing : ReadsBack lying → ⊥
+  pub stores-silently : FlashFollows denying → ⊥
+  -- loads from a half-erased sector
+  pub loads-half : NeverCorrupted loader → ⊥
   -- erases all at the first progress call
   pub erases-all : (says : ℕ → ℕ) → Erases (hasty says) → ⊥
   -- reports words it did not set
   pub sets-nothing : Erases boasting → ⊥
+  -- drops an erasure when a request comes between
+  pub drops-erasure : Erases dropping → ⊥
+  -- erases of its own accord
+  pub erases-unasked : ErasureFollows rogue → ⊥
   -- scans at start only
   pub scans-once : NoStaleRecord scanning → ⊥

@@ -1,0 +1,41 @@
+-- The node meets all that the house was promised. Assumes nothing.
+use Rattle.demands.specs.Machine.{logodwen}
+use Rattle.demands.specs.Demands.{Demands}
+use Rattle.demands.proofs.Refusals.{refused-exactly, never-refused-by-5, zeros-refused}
+use Rattle.demands.proofs.NoStaleRecord.{no-stale-record, summary-is-true}
+use Rattle.demands.proofs.Flash.{one-sector, no-bit-rises}
+use Rattle.demands.proofs.Follows.{erasure-follows}
+use Rattle.demands.proofs.Erases.{erases}
+use Rattle.demands.proofs.NeverCorrupted.{never-corrupted, good-is-served}
+use Rattle.demands.proofs.Lays.{flash-follows}
+use Rattle.demands.proofs.Writes.{writes}
+use Rattle.demands.proofs.ReadsBack.{reads-back}
+use Rattle.demands.proofs.Asks.{group-is-asked}
+use Rattle.demands.proofs.Groups.{group-is-its-fragments, asked-in-order, each-asked-once, fragments-stand, nothing-past-the-words}
+use Rattle.demands.proofs.ClosedRun.{closed-run}
+
+pub demands : Demands logodwen
+demands =
+    record {
+      refused-exactly = refused-exactly;
+      never-refused-by-5 = never-refused-by-5;
+      zeros-refused = zeros-refused;
+      writes = writes;
+      reads-back = reads-back;
+      never-corrupted = never-corrupted;
+      good-is-served = good-is-served;
+      erases = erases;
+      group-is-asked = group-is-asked;
+      group-is-its-fragments = group-is-its-fragments;
+      asked-in-order = asked-in-order;
+      each-asked-once = each-asked-once;
+      fragments-stand = fragments-stand;
+      nothing-past-the-words = nothing-past-the-words;
+      closed-run = closed-run;
+      no-stale-record = no-stale-record;
+      summary-is-true = summary-is-true;
+      erasure-follows = erasure-follows;
+      flash-follows = flash-follows;
+      one-sector = one-sector;
+      no-bit-rises = no-bit-rises;
+    }

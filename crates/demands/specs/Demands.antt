@@ -1,0 +1,46 @@
+-- What the house was promised of a node, on one page: the sentences of the three demands in their order, and beneath each the statements
+-- that stand for it. That any packet, slave reply, clock reading, node state and lent memory gets an answer is the contract of the five
+-- calls, which has no condition; and that replies, status words, check sequences, next states, flash and memories are those of 01 is that
+-- the machine is `logodwen`, its five definitions. Here is what holds of them. Assumes nothing.
+use Rattle.demands.specs.Machine.{Machine}
+use Rattle.demands.specs.Refusals.{RefusedExactly, NeverRefusedBy5, ZerosRefused}
+use Rattle.demands.specs.Reached.{NoStaleRecord, SummaryIsTrue}
+use Rattle.demands.specs.Flash.{ErasureFollows, Erases, OneSector, NoBitRises}
+use Rattle.demands.specs.Files.{Writes, ReadsBack, NeverCorrupted, GoodIsServed, FlashFollows}
+use Rattle.demands.specs.Groups.{GroupIsAsked, GroupIsItsFragments, AskedInOrder, EachAskedOnce, FragmentsStand, NothingPastTheWords}
+use Rattle.demands.specs.ClosedRun.{ClosedRun}
+
+pub record Demands (M : Machine) : Type 0 where
+  -- 1 Conduct. Refusals come for their listed causes and no other, and change nothing.
+  pub refused-exactly : RefusedExactly M
+  -- No state reached from an accepted start is refused by 5. What a refused start hands back is no state: every call refuses it.
+  pub never-refused-by-5 : NeverRefusedBy5 M
+  pub zeros-refused : ZerosRefused M
+  -- 2 Fidelity. What is written reads back: a file that fits is answered END; whatever is answered END stands in the flash, and reads back
+  -- until it is erased or its attribute set.
+  pub writes : Writes M
+  pub reads-back : ReadsBack M
+  -- A corrupted file is never handed out or loaded; a good one is.
+  pub never-corrupted : NeverCorrupted M
+  pub good-is-served : GoodIsServed M
+  -- An erasure sets the words that its progress is given, from the low end, and counts them, whatever calls come between.
+  pub erases : Erases M
+  -- A group reply is its slaves' fragments in order, each slave of the set asked once; meanwhile no word is stored past those built.
+  pub group-is-asked : GroupIsAsked M
+  pub group-is-its-fragments : GroupIsItsFragments M
+  pub asked-in-order : AskedInOrder M
+  pub each-asked-once : EachAskedOnce M
+  pub fragments-stand : FragmentsStand M
+  pub nothing-past-the-words : NothingPastTheWords M
+  -- One run, worked out: start, File Write, File Read.
+  pub closed-run : ClosedRun M
+  -- 3 No stale record. After any sequence of calls, refused ones and half-done erasures included, the directory kept is the one worked out
+  -- afresh from the flash and the erasure in progress; and so is what Flash Summary answers.
+  pub no-stale-record : NoStaleRecord M
+  pub summary-is-true : SummaryIsTrue M
+  -- What is being erased, and what is written to the flash, follows the commands.
+  pub erasure-follows : ErasureFollows M
+  pub flash-follows : FlashFollows M
+  -- A call changes flash in one file sector at most; no bit goes from 0 to 1 but by erasing.
+  pub one-sector : OneSector M
+  pub no-bit-rises : NoBitRises M
