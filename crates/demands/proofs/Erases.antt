@@ -4,9 +4,8 @@ use Prim.Native.Nat.{ℕ, min, _+_, _-_, _/_, _≤_, _<_}
 use mathlib.Core.Path.{_≡_, refl, sym, ap, _∙_, subst}
 use mathlib.Core.Logic.{⊎-elim}
 use mathlib.Core.Bool.{Bool, true, false, _||_, not, false≢true}
-use mathlib.Core.List.{List, []}
+use mathlib.Core.List.{List}
 use native.Mathlib.Nat.{add-zero}
-use native.Mathlib.Decide.{decLt}
 use native.Mathlib.Omega.{arith}
 use lib.ListN.{length, getD, length-replicate, replicate-append-replicate}
 use lib.Dec.{eqb, leb}
@@ -41,7 +40,7 @@ use Rattle.node.proofs.Verdicts.{Fit, request-fine}
 use Rattle.demands.specs.Machine.{Call, logodwen, turnOf, flashOf}
 use Rattle.demands.specs.Requests.{end, Delivered, isCommand}
 use Rattle.demands.specs.Reached.{Lends16, stateAfter, Step}
-use Rattle.demands.specs.Flash.{Begins, isStart, budgetOf, countOf, Course, HasSet, Erases}
+use Rattle.demands.specs.Flash.{isStart, budgetOf, countOf, Course, HasSet, Erases}
 use Rattle.demands.proofs.Taken.{verdictOn, requestEffect, request-answer, reply-answer, poll-answer}
 use Rattle.demands.proofs.Commands.{ended-own, delivered-own}
 use Rattle.demands.proofs.Sound.{Valid, step-valid, call-valid, given-size, some-unit, refused-same, refused-flash}

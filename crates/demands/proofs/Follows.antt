@@ -25,7 +25,7 @@ use Rattle.demands.specs.Machine.{logodwen, isRefused}
 use Rattle.demands.specs.Requests.{end, isCommand}
 use Rattle.demands.specs.Flash.{Begins, GoesOn, ErasureFollows}
 use Rattle.demands.proofs.Taken.{verdictOn, requestEffect}
-use Rattle.demands.proofs.Commands.{not-end, ended-own, own-or-not, Own, Unserved}
+use Rattle.demands.proofs.Commands.{not-end, ended-own, own-or-not, Own}
 use Rattle.demands.proofs.Flash.{command-is}
 
 -- nothing is being erased

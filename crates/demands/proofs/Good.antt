@@ -2,7 +2,7 @@
 use Prim.Native.Nat.{ℕ, zero, suc, _+_, _≤_, _<_}
 use mathlib.Core.Path.{_≡_, refl, sym, ap, _∙_}
 use mathlib.Core.Bool.{true, _&&_}
-use mathlib.Core.List.{List, []}
+use mathlib.Core.List.{List}
 use native.Mathlib.Nat.{add-zero}
 use native.Mathlib.Decide.{ℕ-discrete}
 use native.Mathlib.Omega.{arith}
@@ -26,7 +26,7 @@ use Rattle.image.specs.Header.{nameOf}
 use Rattle.node.specs.Files.{namedBy, seen}
 use Rattle.node.specs.declared.Node.{Node}
 use Rattle.node.proofs.Ranges.{and-both}
-use Rattle.demands.specs.Files.{IsFile, Differs, Names}
+use Rattle.demands.specs.Files.{Names}
 
 -- an entry that is as worked out afresh is so in each of its four words
 entry-same : (directory : List ℕ) (erasing : Erasing) (s : ℕ) (words : List ℕ) → entryIs directory s (firstOf words) (statusIn erasing s words) ≡ true

@@ -2,14 +2,13 @@
 use Prim.Native.Nat.{ℕ, _≤_}
 use mathlib.Core.Path.{_≡_, refl, sym, ap, _∙_, subst}
 use mathlib.Core.Logic.{_⊎_, inl, inr, ⊎-elim}
-use mathlib.Core.Bool.{Bool, true, false, false≢true}
+use mathlib.Core.Bool.{Bool, true, false}
 use mathlib.Core.List.{List, [], _∷_}
 use native.Mathlib.Omega.{arith}
 use lib.ListN.{length, getD, take, drop, length-take}
 use lib.Seq.{getD-take}
 use lib.Dec.{eqb}
 use borrow.Author.Tests.{le-leb}
-use Rattle.base.specs.Pick.{pick}
 use Rattle.base.specs.Words.{laid}
 use Rattle.base.proofs.Pick.{yes, no, pick-case}
 use Rattle.image.proofs.File.{file-tells}
@@ -31,7 +30,7 @@ use Rattle.node.proofs.Why.{placed-tells}
 use Rattle.demands.specs.Machine.{Call, logodwen}
 use Rattle.demands.specs.Requests.{isCommand}
 use Rattle.demands.specs.Flash.{requestSite, Within}
-use Rattle.demands.specs.Files.{Names, Lays, LaysFile, LaysHeader, FlashFollows}
+use Rattle.demands.specs.Files.{Names, LaysFile, LaysHeader, FlashFollows}
 use Rattle.demands.proofs.Commands.{command-told, own-or-not, Own}
 use Rattle.demands.proofs.Flash.{one-sector}
 use Rattle.demands.proofs.Follows.{idle-tells}

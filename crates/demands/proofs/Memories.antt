@@ -1,7 +1,7 @@
 -- Which requests change a memory: of the own commands, Load, Perform IO and the Memory Writes alone. Assumes nothing.
 use Prim.Native.Nat.{ℕ}
 use mathlib.Core.Path.{_≡_, refl, sym, ap, _∙_}
-use mathlib.Core.Bool.{Bool, true, false, _&&_, _||_, false≢true}
+use mathlib.Core.Bool.{Bool, true, false, _||_, false≢true}
 use mathlib.Core.List.{List}
 use lib.ListN.{length, getD, drop}
 use lib.Dec.{leb, ltb, eqb}
@@ -14,7 +14,7 @@ use Rattle.flash.specs.declared.Setting.{Setting}
 use Rattle.flash.specs.declared.Status.{Status}
 use Rattle.flash.specs.declared.Target.{Target}
 use Rattle.memory.specs.Command.{readable}
-use Rattle.node.specs.Effect.{Did, Store, memoriesAfter, Lent, Outcome, Effect}
+use Rattle.node.specs.Effect.{Did, Store, memoriesAfter, Lent}
 use Rattle.node.specs.Settings.{statusIn as ownStatus, statusOf, pingOf, modeReadOf, modeWriteOf, maskReadOf, maskWriteOf}
 use Rattle.node.specs.Files.{isErasing, namedBy, seen, readBy, readAt, readOf, placedFor, writeAt, writeOf, testAt, testOf, toErase, eraseAt, eraseStartOf, setTo, attributeBy, attributeAt, attributeSetOf, summaryOf}
 use Rattle.node.specs.Memories.{dataRoom, memoryReadOf}

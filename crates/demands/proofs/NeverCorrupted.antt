@@ -1,16 +1,16 @@
 -- What Read hands out and Load loads is a good file, which they name, and no good file that can be is withheld; a file that isn't good is
 -- ABORT; and no other request changes a memory, but those that bring its words. Assumes nothing.
-use Prim.Native.Nat.{ℕ, zero, suc, _+_, _-_, _≤_, _<_}
+use Prim.Native.Nat.{ℕ, _-_, _≤_, _<_}
 use mathlib.Core.Path.{_≡_, refl, sym, ap, _∙_, subst}
 use mathlib.Core.Logic.{_⊎_, inl, inr, ⊎-elim}
-use mathlib.Core.Bool.{Bool, true, false, _&&_, _||_, false≢true}
-use mathlib.Core.List.{List, [], _∷_}
+use mathlib.Core.Bool.{Bool, true, false, _||_}
+use mathlib.Core.List.{List}
 use native.Mathlib.Omega.{arith}
 use lib.ListN.{length, getD, take}
 use lib.Dec.{leb, eqb}
-use borrow.Author.Tests.{eq-eqb, eqb-true, le-leb}
+use borrow.Author.Tests.{eq-eqb, le-leb}
 use Rattle.base.specs.Pick.{pick}
-use Rattle.base.proofs.Pick.{yes, no, pick-case, and-left, and-right}
+use Rattle.base.proofs.Pick.{yes, no, pick-case}
 use Rattle.flash.specs.Geometry.{sectorOf}
 use Rattle.flash.specs.declared.Erasing.{Erasing}
 use Rattle.flash.specs.declared.Status.{Status}
@@ -20,7 +20,6 @@ use Rattle.group.specs.declared.Reply.{Reply}
 use Rattle.group.specs.declared.ZeroLength.{ZeroLength}
 use Rattle.memory.specs.Segment.{Memories}
 use Rattle.memory.specs.Load.{fileSegments, allFit, allStored, loadable, isAt}
-use Rattle.memory.proofs.Loading.{loadable-tells}
 use Rattle.image.specs.File.{fileEnd}
 use Rattle.image.specs.declared.End.{End}
 use Rattle.node.specs.State.{turn, faulted}
@@ -35,7 +34,7 @@ use Rattle.node.proofs.Ranges.{and-both}
 use Rattle.node.proofs.Outcomes.{zero-told, says-told}
 use Rattle.demands.specs.Machine.{logodwen, isRefused}
 use Rattle.demands.specs.Requests.{end, abort, Delivered, isCommand, handed}
-use Rattle.demands.specs.Files.{IsFile, Names, loaded, Did, NeverCorrupted, GoodIsServed}
+use Rattle.demands.specs.Files.{Names, loaded, Did, NeverCorrupted, GoodIsServed}
 use Rattle.demands.proofs.Commands.{replyIn, bcIn, not-end, answered-own, delivered-own, own-or-not}
 use Rattle.demands.proofs.Follows.{idle-tells}
 use Rattle.demands.proofs.Memories.{memories-left}

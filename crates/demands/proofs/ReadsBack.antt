@@ -1,20 +1,19 @@
 -- What File Write stored reads back: it is held over every call that spares it, and a directory that is fresh leads to it.
 -- Assumes nothing.
-use Prim.Native.Nat.{ℕ, _+_, _≤_}
+use Prim.Native.Nat.{ℕ, _+_}
 use mathlib.Core.Path.{_≡_, refl, sym, ap, _∙_, subst}
-use mathlib.Core.Logic.{_⊎_, inl, inr, ⊎-elim}
-use mathlib.Core.Bool.{Bool, true, false, _&&_, false≢true}
+use mathlib.Core.Logic.{_⊎_, ⊎-elim}
+use mathlib.Core.Bool.{Bool, true, false, _&&_}
 use mathlib.Core.List.{List}
 use native.Mathlib.Omega.{arith}
-use lib.ListN.{length, getD, take, drop}
+use lib.ListN.{length, getD, drop}
 use lib.Dec.{eqb, leb}
 use Rattle.base.specs.Pick.{pick}
-use Rattle.base.specs.Words.{Below}
 use Rattle.base.proofs.Pick.{pick-case, pick-first, and-left}
 use Rattle.image.specs.Header.{nameOf}
 use Rattle.image.specs.File.{fileEnd}
 use Rattle.flash.specs.Geometry.{unitOf, entryPlace}
-use Rattle.flash.specs.Directory.{directoryOf, entryFor}
+use Rattle.flash.specs.Directory.{directoryOf}
 use Rattle.flash.specs.Search.{isNamed, namedAt, searchOf, targetBy, targetOf, placeOf}
 use Rattle.flash.specs.Status.{progress}
 use Rattle.flash.specs.Change.{restOf, erasingAfter}
@@ -24,7 +23,6 @@ use Rattle.flash.specs.declared.Target.{Target}
 use Rattle.flash.proofs.Kept.{missing-tells}
 use Rattle.flash.proofs.Entries.{directory-word}
 use Rattle.flash.proofs.Searches.{found-told}
-use Rattle.memory.specs.Segment.{Memories}
 use Rattle.node.specs.Effect.{Lent, lent, Did, Outcome, ownOutcome}
 use Rattle.node.specs.Files.{namedBy, isExact, isMissing, placedFor}
 use Rattle.node.specs.Own.{ownOf}
@@ -32,12 +30,12 @@ use Rattle.node.specs.Refusals.{eraseVerdict}
 use Rattle.node.specs.Calls.{judged, lentFlash, startOf, requestOf, eraseEffect, eraseOf}
 use Rattle.node.specs.declared.Node.{Node}
 use Rattle.node.specs.declared.Verdict.{Verdict}
-use Rattle.node.proofs.Why.{request-why, placed-tells, Written as WhyWritten}
-use Rattle.demands.specs.Machine.{Call, logodwen, turnOf, flashOf, isRefused}
-use Rattle.demands.specs.Requests.{end, isCommand}
-use Rattle.demands.specs.Reached.{Lends16, stateAfter, Step}
+use Rattle.node.proofs.Why.{request-why, placed-tells}
+use Rattle.demands.specs.Machine.{Call, logodwen, flashOf, isRefused}
+use Rattle.demands.specs.Requests.{isCommand}
+use Rattle.demands.specs.Reached.{stateAfter, Step}
 use Rattle.demands.specs.Flash.{erasingSite}
-use Rattle.demands.specs.Files.{fileName, setsAttribute, Spares, SparesIn, Runs, Differs, Names, Written, ReadsBack}
+use Rattle.demands.specs.Files.{fileName, setsAttribute, Spares, SparesIn, Runs, Names, Written, ReadsBack}
 use Rattle.demands.proofs.Taken.{verdictOn, requestEffect}
 use Rattle.demands.proofs.Commands.{command-told, not-end, ended-own, Own}
 use Rattle.demands.proofs.Sound.{Sound, call-keeps, refused-same, refused-flash, reached-sound}

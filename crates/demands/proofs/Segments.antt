@@ -1,9 +1,9 @@
 -- The segments of a file are those of any run that starts with it. Assumes nothing.
-use Prim.Native.Nat.{ℕ, zero, suc, _+_, _-_}
+use Prim.Native.Nat.{ℕ, zero, suc, _-_}
 use mathlib.Core.Path.{_≡_, refl, sym, ap, _∙_}
 use mathlib.Core.List.{List, _∷_, map}
 use native.Mathlib.Omega.{arith}
-use lib.ListN.{length, getD, take}
+use lib.ListN.{getD, take}
 use lib.Seq.{length-take-le, getD-take}
 use Rattle.base.specs.Words.{part, Same}
 use Rattle.base.proofs.Part.{same-within, same-part}
