@@ -17,7 +17,7 @@ use Rattle.group.specs.Kind.{answer, Answer as SlaveAnswer}
 use Rattle.group.specs.Slaves.{hasSlave, slavesUp, above, nextOf}
 use Rattle.group.specs.Fragment.{Assembly, assembly, taken}
 use Rattle.group.specs.Time.{isLate}
-use Rattle.group.specs.Ending.{Sent, zeroReply, groupStatus, sealed, endBy, endOf}
+use Rattle.group.specs.Ending.{Sent, replied, zeroReply, groupStatus, sealed, endBy, endOf}
 use Rattle.group.specs.Single.{passedOn}
 use Rattle.group.specs.declared.Heard.{Heard}
 use Rattle.group.specs.declared.Next.{Next}
@@ -39,6 +39,7 @@ use Rattle.node.specs.declared.Verdict.{Verdict}
 use Rattle.node.proofs.Routes.{Named, route-case}
 use Rattle.node.proofs.Ranges.{ranges-tell}
 use Rattle.demands.specs.Machine.{isRefused}
+use Rattle.demands.specs.Requests.{end}
 use Rattle.demands.proofs.Taken.{verdictOn, requestEffect}
 use Rattle.logodwen.specs.Bytes.{wordsOf}
 use Rattle.logodwen.specs.StateBytes.{nodeIn, areState}
@@ -48,8 +49,8 @@ use Rattle.logodwen.proofs.Runs.{length-words, length-words-of}
 use Rattle.logodwen.proofs.Entering.{reply-fine, poll-fine, erase-fine}
 use Rattle.logodwen.proofs.Small.{size-most}
 use Rattle.border.specs.Exactly.{entries}
-use Rattle.border.specs.Host.{Entry, isDone}
-use Rattle.border.specs.Answers.{InBits, Says, Bounds, answerIn, NothingCut}
+use Rattle.border.specs.Host.{Entry, numberAfter, isDone}
+use Rattle.border.specs.Answers.{InBits, Says, Bounds, answerIn, NothingCut, endNumber}
 use Rattle.border.proofs.Fine.{state-sound}
 use Rattle.border.proofs.Steps.{Made, start-begins, done-made, done-taken}
 use Rattle.border.proofs.Replies.{Short, own-replied}
@@ -231,3 +232,18 @@ nothing-cut e state flash h =
     let a = answerIn e state flash in
     let b = entry-bounds e state flash m (done-taken a (ap isDone (sym (m .number)) ∙ h)) in
     (subst (λ (x : ℕ). Says x a) (sym (m .number)) (bounds-say a b), b)
+
+-- a number that is END's says that the answer is END
+pub ended-answer : (e : Entry) (state flash : List ℕ) → numberAfter entries e state flash ≡ endNumber → answerIn e state flash ≡ end
+ended-answer e state flash h = by (answerIn e state flash) refl (nothing-cut e state flash (ap isDone h) .0)
+  where
+    by : (a : Answer) → answerIn e state flash ≡ a → Says (numberAfter entries e state flash) a → a ≡ end
+    by (Answer.Refused r) q s = absurd s
+    by Answer.Started q s = absurd (omega (arith, h, s .kind))
+    by (Answer.Reply r) q s =
+        let bc : r .bc ≡ 3 = omega (arith, h, s .who) in
+        let words : r .words ≡ 0 = omega (arith, h, s .words) in
+        λ i. Answer.Reply (replied (bc i) (words i))
+    by (Answer.Ask a) q s = absurd (omega (arith, h, s .kind))
+    by Answer.Waiting q s = absurd (omega (arith, h, s .kind))
+    by (Answer.Erased count) q s = absurd (omega (arith, h, s .kind))

@@ -1,25 +1,54 @@
--- A request that is done, without receive errors and with BC 11, is delivered to the node; and the words that the node answers to any
--- request that is done are the first bytes of the reply run. Assumes nothing.
-use Prim.Native.Nat.{ℕ, _*_, _/_, _%_, _≤_}
+-- A request that is done, without receive errors and with BC 11, is delivered to the node; and what the node then hands out stands in the
+-- bytes of the reply run. Assumes nothing.
+use Prim.Native.Nat.{ℕ, _+_, _/_, _%_, _≤_}
 use native.Mathlib.Omega.{arith}
 use mathlib.Core.Path.{_≡_, sym, ap, _∙_}
 use mathlib.Core.Bool.{true, false}
-use mathlib.Core.List.{List}
-use lib.ListN.{length, take, length-take}
-use Rattle.memory.specs.Segment.{Memories}
-use Rattle.node.specs.Effect.{Lent, lent, Outcome}
+use mathlib.Core.List.{List, _++_}
+use lib.ListN.{length, take, drop, length-append, take-append-drop}
+use lib.Seq.{length-take-le}
+use Rattle.base.specs.Words.{laid}
+use Rattle.base.proofs.Part.{below-take}
+use Rattle.base.proofs.Laid.{length-laid, laid-append-left}
+use Rattle.group.specs.Ending.{trailer}
+use Rattle.memory.specs.Segment.{Memories, memories}
+use Rattle.node.specs.Effect.{Lent, lent, Outcome, sealedWords}
+use Rattle.node.specs.Settings.{statusIn}
 use Rattle.node.specs.Calls.{requestOf}
 use Rattle.demands.specs.Machine.{logodwen}
-use Rattle.demands.specs.Requests.{Delivered}
-use Rattle.logodwen.specs.Bytes.{wordsOf, bytesOf}
+use Rattle.demands.specs.Requests.{Delivered, handed as handedWords}
+use Rattle.logodwen.specs.Bytes.{wordsOf, bytesOf, storeWords}
 use Rattle.logodwen.specs.StateBytes.{nodeIn}
 use Rattle.logodwen.specs.Number.{answerNumber}
-use Rattle.logodwen.specs.Entry.{Answered, memoryWords, replyWords, isSet}
-use Rattle.logodwen.proofs.Runs.{length-words-of}
+use Rattle.logodwen.specs.Entry.{answered, memoryWords, memoriesLeft, replyWords, inBytes, told, isSet}
+use Rattle.logodwen.proofs.Runs.{length-bytes, length-words-of}
+use Rattle.logodwen.proofs.Entering.{request-fine}
+use Rattle.logodwen.proofs.ThereAndBack.{encoded-decoded, bytes-kept}
 use Rattle.border.specs.Exactly.{entries}
-use Rattle.border.specs.Host.{Entry, answerOf, numberAfter, isDone}
-use Rattle.border.proofs.Runs.{store-front}
+use Rattle.border.specs.Host.{Entry, InC, U8s, answerOf, numberAfter, isDone}
+use Rattle.border.specs.Answers.{wholeNumber, handed}
+use Rattle.border.proofs.Runs.{store-laid}
 use Rattle.border.proofs.Steps.{Made, done-made, done-taken}
+
+-- the bytes of memories, and of a reply buffer with words laid at its front
+pub memories-kept : (m : Memories) → U8s (m .pm) → U8s (m .dm) → U8s (m .io) → memoriesLeft (memoryWords m) m ≡ m
+memories-kept m p d o i = memories (bytes-kept 4 (m .pm) p i) (bytes-kept 2 (m .dm) d i) (bytes-kept 2 (m .io) o i)
+
+pub reply-laid : (reply ws : List ℕ) → U8s reply → 12288 ≤ length reply / 2 → length ws ≤ 12288 → storeWords 2 (laid (replyWords reply) 0 ws) reply ≡ laid reply 0 (bytesOf 2 ws)
+reply-laid reply ws b long short =
+    let front : List ℕ = take 24576 reply in
+    let rest : List ℕ = drop 24576 reply in
+    let size : length front ≡ 24576 = length-take-le 24576 reply (omega arith) in
+    let count = length-words-of 2 front in
+    let all = length-laid (wordsOf 2 front) 0 ws (omega arith) in
+    let k = length-bytes 2 (laid (wordsOf 2 front) 0 ws) in
+    let j = length-bytes 2 ws in
+    let split : front ++ rest ≡ reply = take-append-drop 24576 reply in
+    ap (λ (x : List ℕ). laid x 0 (bytesOf 2 (laid (wordsOf 2 front) 0 ws))) (sym split)
+    ∙ laid-append-left front rest 0 (bytesOf 2 (laid (wordsOf 2 front) 0 ws)) (omega arith)
+    ∙ ap (λ (x : List ℕ). x ++ rest) (store-laid front 0 ws (below-take 24576 reply b) (omega arith))
+    ∙ sym (laid-append-left front rest 0 (bytesOf 2 ws) (omega arith))
+    ∙ ap (λ (x : List ℕ). laid x 0 (bytesOf 2 ws)) split
 
 module _ (clock link bc errors : ℕ) (packet : List ℕ) (m : Memories) (reply state flash : List ℕ) where
   abbrev asked : Entry
@@ -51,10 +80,14 @@ module _ (clock link bc errors : ℕ) (packet : List ℕ) (m : Memories) (reply 
           whole = whole;
         }
 
-    pub reply-bytes : (k : ℕ) (ws : List ℕ) → length ws ≡ k → take k (does .after .reply) ≡ ws
-        → take (k * 2) (answerOf entries asked state flash .runs .reply) ≡ bytesOf 2 ws
-    reply-bytes k ws n e =
-        let front : k ≤ length (does .after .reply) = omega (arith, length-take k (does .after .reply), ap length e) in
-        ap (λ (a : Answered). take (k * 2) (a .runs .reply)) (made .does)
-        ∙ store-front (does .after .reply) reply k front
-        ∙ ap (bytesOf 2) e
+    -- what was read is handed out, in bytes: every other byte stays
+    pub handed-bytes : InC asked → U8s flash → (ws : List ℕ) → length ws ≤ 12286 → does ≡ handedWords (nodeIn state) l ws
+        → answerOf entries asked state flash ≡ handed state (lent flash m reply) ws
+    handed-bytes c b ws short e =
+        let fine = request-fine link _ state _ _ _ _ _ (made .fine) in
+        let ws′ : List ℕ = sealedWords (statusIn (nodeIn state)) ws in
+        let n = length-append ws (trailer ws (statusIn (nodeIn state))) in
+        made .does
+        ∙ ap (λ (o : Outcome). told (inBytes o (lent flash m reply))) e
+        ∙ (λ i. answered (wholeNumber (length ws + 2)) (encoded-decoded state (fine .bytes) i)
+        (lent (bytes-kept 2 flash b i) (memories-kept m (c .5) (c .6) (c .7) i) (reply-laid reply ws′ (c .8) (fine .buffer) (omega arith) i)))

@@ -8,13 +8,15 @@ use mathlib.Core.List.{List, [], _∷_, _++_, append-assoc}
 use lib.ListN.{length, drop, length-append}
 use lib.Seq.{drop-at}
 use Rattle.flash.specs.Directory.{directoryOf}
+use Rattle.flash.specs.declared.Erasing.{Erasing}
 use Rattle.flash.proofs.Entries.{length-directory}
+use Rattle.node.specs.Effect.{lent}
 use Rattle.node.specs.declared.Node.{Node}
+use Rattle.demands.specs.Requests.{handed}
 use Rattle.demands.proofs.NoStaleRecord.{no-stale-record as word-record, summary-is-true as word-summary}
 use Rattle.logodwen.specs.Bytes.{valueOf, wordsIn, wordsOf, bytesOf}
 use Rattle.logodwen.specs.Places.{packed}
 use Rattle.logodwen.specs.StateBytes.{sizes, numbersOf, encodeOf, nodeIn}
-use Rattle.logodwen.specs.Number.{answerNumber}
 use Rattle.logodwen.specs.Kept.{Typed}
 use Rattle.logodwen.specs.Entry.{memoryWords, replyWords}
 use Rattle.logodwen.proofs.Runs.{length-bytes}
@@ -23,7 +25,7 @@ use Rattle.logodwen.proofs.ThereAndBack.{encoded-decoded}
 use Rattle.border.specs.Exactly.{entries}
 use Rattle.border.specs.Kept.{erasingIn, AlwaysState, NoStaleRecord, SummaryIsTrue}
 use Rattle.border.proofs.Stands.{stands-typed, hosted-stands}
-use Rattle.border.proofs.Delivered.{number-is, delivered, reply-bytes}
+use Rattle.border.proofs.Delivered.{delivered, handed-bytes}
 
 -- the bytes that say what is erasing
 pub erasing-is : (state : List ℕ) → nodeIn state .erasing ≡ erasingIn state
@@ -53,15 +55,13 @@ no-stale-record state flash h =
 
 pub summary-is-true : SummaryIsTrue entries
 unfolding wordsOf wordsIn valueOf
-summary-is-true state flash h clock link bc m reply whole done =
+summary-is-true state flash h clock link bc m reply c whole done =
     let s = hosted-stands h in
     let packet : List ℕ = 0x2E ∷ 0x07 ∷ [] in
     let words : List ℕ = wordsOf 2 flash in
     let d = delivered clock link bc 0 packet m reply state flash done refl whole (omega arith) (omega arith) in
     let r =
-    word-summary (nodeIn state) words (s .reached) clock link bc false (wordsOf 2 packet) (memoryWords m) (replyWords reply) d refl refl in
-    let fresh = r .1 ∙ ap (directoryOf words) (erasing-is state) in (
-      number-is clock link bc 0 packet m reply state flash done ∙ ap answerNumber (r .0),
-      reply-bytes clock link bc 0 packet m reply state flash done 32 (directoryOf words (erasingIn state))
-          (length-directory words (erasingIn state)) fresh,
-    )
+    word-summary (nodeIn state) words (s .reached) clock link bc false (wordsOf 2 packet) (memoryWords m) (replyWords reply) d refl refl
+    ∙ ap (λ (e : Erasing). handed (nodeIn state) (lent words (memoryWords m) (replyWords reply)) (directoryOf words e)) (erasing-is state) in
+    let size = length-directory words (erasingIn state) in
+    handed-bytes clock link bc 0 packet m reply state flash done c (s .below) (directoryOf words (erasingIn state)) (omega arith) r

@@ -1,84 +1,62 @@
--- A corrupted file is never handed out over bytes: by the node's theorem, which the entries come to. Assumes nothing.
+-- A corrupted file is never handed out or loaded over bytes: by the node's theorem, which the entries come to. Assumes nothing.
 use Prim.Native.Nat.{ℕ, _+_, _*_, _/_, _%_, _^_, _≤_, _<_}
 use native.Mathlib.Omega.{arith}
 use mathlib.Core.Path.{_≡_, refl, sym, ap, _∙_, subst}
-use mathlib.Core.Logic.{_⊎_, inl, inr}
-use mathlib.Core.Bool.{true, false, _||_}
-use mathlib.Core.List.{List, _∷_, _++_}
-use lib.ListN.{length, getD, take, drop, length-take, length-drop}
-use lib.Seq.{take-append-le, drop-append-le, getD-drop}
-use borrow.Author.Tests.{eq-eqb}
-use Rattle.base.specs.Words.{part, laid, Below}
+use mathlib.Core.Logic.{_⊎_, inl, inr, ⊎-elim}
+use mathlib.Core.Bool.{Bool, true, false, _||_, false≢true}
+use mathlib.Core.List.{List, [], _∷_}
+use lib.ListN.{length, getD, take, drop}
+use lib.Seq.{getD-drop}
+use lib.Dec.{eqb}
+use borrow.Author.Tests.{eqb-true, eq-eqb, eqb-false}
+use Rattle.base.specs.Pick.{pick}
+use Rattle.base.specs.Words.{laid, Below}
+use Rattle.base.proofs.Laid.{laid-none}
 use Rattle.base.proofs.Part.{below-take}
 use Rattle.image.specs.Header.{nameOf}
-use Rattle.image.specs.File.{fileEnd}
-use Rattle.flash.specs.Geometry.{unitOf, sizeOf, startOf, sectorOf, entryPlace}
+use Rattle.flash.specs.Geometry.{sectorOf, entryPlace}
 use Rattle.flash.specs.Directory.{entryFor}
 use Rattle.flash.specs.Search.{targetOf}
+use Rattle.flash.specs.declared.Erasing.{Erasing}
 use Rattle.flash.specs.declared.Target.{Target}
-use Rattle.flash.proofs.Geometry.{sector-fits}
 use Rattle.group.specs.declared.Reply.{Reply}
-use Rattle.memory.specs.Segment.{Memories, memories}
+use Rattle.memory.specs.Segment.{Memories}
+use Rattle.memory.specs.Load.{fileSegments, allStored}
 use Rattle.report.specs.Status.{counted}
 use Rattle.node.specs.State.{faulted}
 use Rattle.node.specs.Effect.{Lent, lent, Outcome}
 use Rattle.node.specs.Calls.{requestOf}
 use Rattle.node.specs.declared.Answer.{Answer}
 use Rattle.node.specs.declared.Node.{Node}
-use Rattle.demands.specs.Requests.{isCommand}
-use Rattle.demands.specs.Files.{IsFile, NotGood as WordsNotGood, HandsOut as WordsOut}
+use Rattle.demands.specs.Requests.{end, isCommand, handed as handedWords}
+use Rattle.demands.specs.Files.{IsFile, Names as WordsNames, loaded as loadedWords, Did as WordsDid}
+use Rattle.demands.proofs.Commands.{replyIn}
 use Rattle.demands.proofs.NeverCorrupted.{never-corrupted as words-never}
 use Rattle.logodwen.specs.Bytes.{valueOf, digitsOf, numberAt, wordsIn, wordsOf, bytesOf, storeWords}
 use Rattle.logodwen.specs.Places.{packed}
-use Rattle.logodwen.specs.StateBytes.{encodeOf, nodeIn, areState}
-use Rattle.logodwen.specs.Entry.{answered, inBytes, told, replyWords, runWords, runsLeft, isSet}
-use Rattle.logodwen.proofs.Runs.{length-bytes, length-words-of, words-take, store-words}
-use Rattle.logodwen.proofs.Entering.{request-fine}
+use Rattle.logodwen.specs.StateBytes.{encodeOf, nodeIn, progressIn, areState}
+use Rattle.logodwen.specs.Entry.{Answered, answered, memoryWords, memoriesLeft, inBytes, told, replyWords, runWords, isSet}
+use Rattle.logodwen.proofs.Runs.{length-bytes, length-words-of}
+use Rattle.logodwen.proofs.Entering.{RequestFine, request-fine}
 use Rattle.logodwen.proofs.ThereAndBack.{encoded-decoded, words-read, bytes-kept}
 use Rattle.border.specs.Exactly.{entries}
-use Rattle.border.specs.Host.{Entry, InC, answerOf, numberAfter, isDone}
+use Rattle.border.specs.Host.{Entry, InC, U8s, answerOf, numberAfter, isDone}
 use Rattle.border.specs.Kept.{erasingIn}
-use Rattle.border.specs.ReadsBack.{fileRead, sectorIn}
-use Rattle.border.specs.Answers.{InBits, Says, answerIn}
-use Rattle.border.specs.NeverCorrupted.{fileLoad, inSector, namedIn, NotGood, abortNumber, withFault, HandsOut, NeverCorrupted}
-use Rattle.border.proofs.Runs.{words-of-below, words-two, bytes-take, bytes-drop, laid-front}
+use Rattle.border.specs.Answers.{InBits, Says, Bounds, answerIn, endNumber, abortNumber, handed}
+use Rattle.border.specs.Files.{fileRead, fileLoad, sectorIn, inSector}
+use Rattle.border.specs.NeverCorrupted.{namedIn, Names, withFault, loaded, Did, NeverCorrupted}
+use Rattle.border.proofs.Runs.{words-of-below, words-two, bytes-take}
+use Rattle.border.proofs.Sectors.{sector-bytes, sector-words}
+use Rattle.border.proofs.Exactly.{refused-exactly}
 use Rattle.border.proofs.OfState.{below-encoded, typed-in}
 use Rattle.border.proofs.Flash.{sector-below}
 use Rattle.border.proofs.Steps.{Made, done-made}
-use Rattle.border.proofs.Delivered.{delivered, reply-bytes}
+use Rattle.border.proofs.Delivered.{memories-kept, reply-laid, delivered, handed-bytes}
 use Rattle.border.proofs.Kept.{erasing-is, directory-bytes}
 use Rattle.border.proofs.Follows.{no-erasing}
 use Rattle.border.proofs.ReadsBack.{read-words}
 use Rattle.border.proofs.OneSector.{byte-of}
-use Rattle.border.proofs.Answers.{nothing-cut}
-
--- the bytes of a sector are those of its words
-module _ (flash : List ℕ) (b : Below 256 flash) (bench : length flash / 2 ≡ 32768) where
-  abbrev words : List ℕ
-  words = wordsOf 2 flash
-
-  pub sector-bytes : (s : ℕ) → inSector flash s ≡ bytesOf 2 (sectorOf words s)
-  unfolding sectorOf
-  sector-bytes s =
-      let all : List ℕ = bytesOf 2 words in
-      let rest : List ℕ = drop (0 + length all) flash in
-      let start : ℕ = startOf 2048 s in
-      let size : ℕ = sizeOf 2048 s in
-      let long = length-bytes 2 words in
-      let count = length-words-of 2 flash in
-      let fits = sector-fits 2048 s in
-      let unit : unitOf words ≡ 2048 = ap (λ (n : ℕ). n / 16) (count ∙ bench) in
-      let whole : all ++ rest ≡ flash = sym (laid-front flash all) ∙ bytes-kept 2 flash b in
-      let behind = length-drop (start * 2) all in
-      sym (ap (λ (x : List ℕ). part x (start * 2) (size * 2)) whole)
-      ∙ ap (take (size * 2)) (drop-append-le (start * 2) all rest (omega arith))
-      ∙ take-append-le (size * 2) (drop (start * 2) all) rest (omega arith)
-      ∙ sym (bytes-take size (drop start words) ∙ ap (take (size * 2)) (bytes-drop start words))
-      ∙ ap (λ (u : ℕ). bytesOf 2 (part words (startOf u s) (sizeOf u s))) (sym unit)
-
-  pub sector-words : (s : ℕ) → wordsOf 2 (inSector flash s) ≡ sectorOf words s
-  sector-words s =
-      ap (wordsOf 2) (sector-bytes s) ∙ words-read 2 (omega arith) (sectorOf words s) (sector-below words s (words-of-below flash b))
+use Rattle.border.proofs.Answers.{nothing-cut, ended-answer}
 
 -- what stands in the state bytes
 
@@ -106,46 +84,65 @@ fault-bytes state h =
     let e = encoded-decoded state h in
     fault-laid (nodeIn state) ∙ (λ i. laid (e i) 12 (digitsOf 2 (counted true (errors-are state i))))
 
--- a sector that isn't good by its bytes isn't by its words
+-- where no sector is being erased the byte is 0
+idle-byte : (state : List ℕ) → nodeIn state .erasing ≡ Erasing.Nothing → sectorIn state ≡ 0
+idle-byte state h = by (eqb (sectorIn state) 0) refl (sym (erasing-is state) ∙ h)
+  where
+    by : (t : Bool) → eqb (sectorIn state) 0 ≡ t → pick t Erasing.Nothing (Erasing.Sector (progressIn state)) ≡ Erasing.Nothing → sectorIn state ≡ 0
+    by true e q = eqb-true (sectorIn state) 0 e
+    by false e q = let z : _≡_ {A = ℕ} 0 1 = cc in absurd (omega arith)
+
+-- what the node's name search is given
+named-by : (state packet header : List ℕ) (word : ℕ) → wordsOf 2 packet ≡ word ∷ wordsOf 2 header
+    → targetOf (nodeIn state .directory) (nameOf (getD (wordsOf 2 packet) 1 0)) ≡ namedIn state header
+named-by state packet header word e i = targetOf (directory-is state i) (nameOf (getD (e i) 1 0))
+
+-- a good file that a command names by words, it names by bytes
 module _ (state flash : List ℕ) (h : areState state ≡ true) (b : Below 256 flash) (bench : length flash / 2 ≡ 32768) (s : ℕ) where
   fresh-is : entryFor (nodeIn state .erasing) s (sectorOf (wordsOf 2 flash) s) ≡ entryFor (erasingIn state) s (wordsOf 2 (inSector flash s))
   fresh-is = λ i. entryFor (erasing-is state i) s (sym (sector-words flash b bench s) i)
 
-  word-differs : NotGood state flash s → WordsNotGood (nodeIn state) (wordsOf 2 flash) s
-  word-differs (inl bad) = inl (λ end e. bad end (ap fileEnd (sector-words flash b bench s) ∙ e))
-  word-differs (inr d) =
-      inr (record { word = d .byte / 2; below = omega (arith, d .below); differs = λ e. d .differs (same (d .byte) e) })
-    where
-      same : (i : ℕ)
-          → getD (nodeIn state .directory) (entryPlace s + i / 2) 0
-          ≡ getD (entryFor (nodeIn state .erasing) s (sectorOf (wordsOf 2 flash) s)) (i / 2) 0
-          → getD state (108 + (entryPlace s * 2 + i)) 0 ≡ getD (bytesOf 2 (entryFor (erasingIn state) s (wordsOf 2 (inSector flash s)))) i 0
-      same i e =
-          let at : ℕ = entryPlace s * 2 + i in
-          let place : at / 2 ≡ entryPlace s + i / 2 = omega arith in
-          let parity : at % 2 ≡ i % 2 = omega arith in
-          sym (getD-drop 108 state at 0)
-          ∙ ap (λ (x : List ℕ). getD x at 0) (kept-bytes state h)
-          ∙ byte-of (nodeIn state .directory) at
-          ∙ (λ j. getD (nodeIn state .directory) (place j) 0 / 2 ^ (parity j * 8) % 256)
-          ∙ ap (λ (x : ℕ). x / 2 ^ (i % 2 * 8) % 256) e
-          ∙ sym (byte-of (entryFor (nodeIn state .erasing) s (sectorOf (wordsOf 2 flash) s)) i)
-          ∙ ap (λ (x : List ℕ). getD (bytesOf 2 x) i 0) fresh-is
+  byte-same : (i : ℕ)
+      → getD (nodeIn state .directory) (entryPlace s + i / 2) 0
+      ≡ getD (entryFor (nodeIn state .erasing) s (sectorOf (wordsOf 2 flash) s)) (i / 2) 0
+      → getD state (108 + (entryPlace s * 2 + i)) 0 ≡ getD (bytesOf 2 (entryFor (erasingIn state) s (wordsOf 2 (inSector flash s)))) i 0
+  byte-same i e =
+      let at : ℕ = entryPlace s * 2 + i in
+      let place : at / 2 ≡ entryPlace s + i / 2 = omega arith in
+      let parity : at % 2 ≡ i % 2 = omega arith in
+      sym (getD-drop 108 state at 0)
+      ∙ ap (λ (x : List ℕ). getD x at 0) (kept-bytes state h)
+      ∙ byte-of (nodeIn state .directory) at
+      ∙ (λ j. getD (nodeIn state .directory) (place j) 0 / 2 ^ (parity j * 8) % 256)
+      ∙ ap (λ (x : ℕ). x / 2 ^ (i % 2 * 8) % 256) e
+      ∙ sym (byte-of (entryFor (nodeIn state .erasing) s (sectorOf (wordsOf 2 flash) s)) i)
+      ∙ ap (λ (x : List ℕ). getD (bytesOf 2 x) i 0) fresh-is
 
--- words stored back where nothing changed leave every run
+  module _ (packet header : List ℕ) (word : ℕ) (p : wordsOf 2 packet ≡ word ∷ wordsOf 2 header) (file : List ℕ)
+      (names : WordsNames (nodeIn state) (wordsOf 2 flash) (wordsOf 2 packet) s file) where
+    small : Below 65536 file
+    small =
+        subst (λ (x : List ℕ). Below 65536 x) (names .stands)
+        (below-take (length file) (sectorOf (wordsOf 2 flash) s) (sector-below (wordsOf 2 flash) s (words-of-below flash b)))
 
-reply-kept : (reply : List ℕ) → Below 256 reply → 12288 ≤ length reply / 2 → storeWords 2 (replyWords reply) reply ≡ reply
-unfolding wordsOf
-reply-kept reply b h =
-    let long : length (take 24576 reply) / 2 ≡ 12288 = omega (arith, length-take 24576 reply) in
-    ap (λ (x : List ℕ). storeWords 2 x reply) (ap (λ (n : ℕ). wordsIn 2 n (take 24576 reply)) long ∙ words-take 2 12288 reply)
-    ∙ store-words 2 12288 reply (omega arith) b
+    file-is : wordsOf 2 (bytesOf 2 file) ≡ file
+    file-is = words-read 2 (omega arith) file small
 
-runs-kept : (flash : List ℕ) (m : Memories) (reply : List ℕ) → Below 256 flash → Below 256 (m .pm) → Below 256 (m .dm) → Below 256 (m .io)
-    → Below 256 reply → 12288 ≤ length reply / 2 → runsLeft (runWords (lent flash m reply)) (lent flash m reply) ≡ lent flash m reply
-runs-kept flash m reply f p d o r h i =
-    lent (bytes-kept 2 flash f i) (memories (bytes-kept 4 (m .pm) p i) (bytes-kept 2 (m .dm) d i) (bytes-kept 2 (m .io) o i))
-    (reply-kept reply r h i)
+    names-bytes : Names state flash header s (bytesOf 2 file)
+    names-bytes =
+        let long : length (bytesOf 2 file) ≡ length file * 2 = length-bytes 2 file in
+        record {
+          idle = idle-byte state (names .idle);
+          named = sym (named-by state packet header word p) ∙ names .named;
+          whole = omega (arith, long);
+          valid = subst IsFile (sym file-is) (names .valid);
+          stands =
+              ap (λ (k : ℕ). take k (inSector flash s)) long
+              ∙ ap (take (length file * 2)) (sector-bytes flash b bench s)
+              ∙ sym (bytes-take (length file) (sectorOf (wordsOf 2 flash) s))
+              ∙ ap (bytesOf 2) (names .stands);
+          same = λ d. names .same (record { word = d .byte / 2; below = omega (arith, d .below); differs = λ e. d .differs (byte-same (d .byte) e) });
+        }
 
 -- the words of the two packets
 load-words : (header : List ℕ) → wordsOf 2 (fileLoad header) ≡ 0x462E ∷ wordsOf 2 header
@@ -166,102 +163,157 @@ asked-is {packet} {header} (inr e) =
     let k = ap length e in
     record { word = 0x462E; words = ap (wordsOf 2) e ∙ load-words header; command = refl; size = omega arith }
 
--- what the node's name search is given
-named-by : (state packet header : List ℕ) (word : ℕ) → wordsOf 2 packet ≡ word ∷ wordsOf 2 header
-    → targetOf (nodeIn state .directory) (nameOf (getD (wordsOf 2 packet) 1 0)) ≡ namedIn state header
-named-by state packet header word e i = targetOf (directory-is state i) (nameOf (getD (e i) 1 0))
+-- a request that is done, on a flash of bench size
+module _ (clock link bc errors : ℕ) (packet state flash : List ℕ) (m : Memories) (reply : List ℕ) where
+  abbrev asks : Entry
+  asks = Entry.Request clock link bc errors packet m reply
+
+  fine : Made asks state flash → RequestFine state (length flash / 2) (length (m .pm) / 4) (length (m .dm) / 2) (length (m .io) / 2) (length reply / 2)
+  fine made = request-fine link _ state _ _ _ _ _ (made .fine)
+
+  -- nothing laid leaves the reply
+  reply-stays : U8s reply → 12288 ≤ length reply / 2 → storeWords 2 (replyWords reply) reply ≡ reply
+  unfolding bytesOf
+  reply-stays b long =
+      ap (λ (x : List ℕ). storeWords 2 x reply) (laid-none (replyWords reply) 0) ∙ reply-laid reply [] b long (omega arith) ∙ sym (laid-none reply 0)
 
 aborts : (clock link bc : ℕ) (packet header state flash : List ℕ) (m : Memories) (reply : List ℕ) (s : ℕ)
     → let asked : Entry = Entry.Request clock link bc 0 packet m reply in
-    InC asked → Below 256 flash → (packet ≡ fileRead header) ⊎ (packet ≡ fileLoad header) → length header / 2 ≡ 1 → bc % 4 ≡ 3
+    InC asked → U8s flash → (packet ≡ fileRead header) ⊎ (packet ≡ fileLoad header) → length header / 2 ≡ 1 → bc % 4 ≡ 3
     → isDone (numberAfter entries asked state flash) ≡ true → sectorIn state ≡ 0 → namedIn state header ≡ Target.At s
-    → NotGood state flash s
+    → ((file : List ℕ) → Names state flash header s file → ⊥)
     → answerOf entries asked state flash ≡ answered abortNumber (withFault state) (lent flash m reply)
 aborts clock link bc packet header state flash m reply s c b p one whole done quiet named bad =
     let a = asked-is p in
     let made : Made (Entry.Request clock link bc 0 packet m reply) state flash =
     done-made (Entry.Request clock link bc 0 packet m reply) state flash done in
-    let fine =
-    request-fine link (length packet / 2) state (length flash / 2) (length (m .pm) / 4) (length (m .dm) / 2) (length (m .io) / 2)
-    (length reply / 2) (made .fine) in
+    let f = fine clock link bc 0 packet state flash m reply made in
     let size : length packet / 2 ≡ 2 = omega (arith, a .size) in
     let command = ap (λ (x : List ℕ). isCommand 0x05 x || isCommand 0x46 x) (a .words) ∙ a .command in
     let d = delivered clock link bc 0 packet m reply state flash done refl whole (omega arith) (omega arith) in
     let does =
     words-never .aborts (nodeIn state) clock link bc false (wordsOf 2 packet) (runWords (lent flash m reply)) s command d
     (length-words-of 2 packet ∙ size) (no-erasing state quiet) (named-by state packet header (a .word) (a .words) ∙ named)
-    (word-differs state flash (fine .bytes) b (fine .bench) s bad) in
-    let kept = runs-kept flash m reply b (c .5) (c .6) (c .7) (c .8) (fine .buffer) in
+    (λ file names. bad (bytesOf 2 file) (names-bytes state flash (f .bytes) b (f .bench) s packet header (a .word) (a .words) file names)) in
     made .does
     ∙ ap (λ (o : Outcome). told (inBytes o (lent flash m reply))) does
-    ∙ (λ i. answered abortNumber (fault-bytes state (fine .bytes) i) (kept i))
+    ∙ (λ i. answered abortNumber (fault-bytes state (f .bytes) i)
+    (lent (bytes-kept 2 flash b i) (memories-kept m (c .5) (c .6) (c .7) i) (reply-stays clock link bc 0 packet state flash m reply (c .8) (f .buffer) i)))
 
 -- what Read hands out, in bytes
-module _ (clock link bc errors : ℕ) (header state flash : List ℕ) (m : Memories) (reply : List ℕ) (b : Below 256 flash) where
-  abbrev read : Entry
-  read = Entry.Request clock link bc errors (fileRead header) m reply
+hands-out : (clock link bc errors : ℕ) (header state flash : List ℕ) (m : Memories) (reply : List ℕ) (code words : ℕ)
+    → let read : Entry = Entry.Request clock link bc errors (fileRead header) m reply in
+    InC read → U8s flash → InBits (numberAfter entries read state flash) 1 code 0 words → 0 < words
+    → Did handed state header (lent flash m reply) (answerOf entries read state flash)
+hands-out clock link bc errors header state flash m reply code words c b n some =
+    let done : isDone number ≡ true = eq-eqb (number % 256) 0 (n .done) in
+    by done (answerIn read state flash) refl (nothing-cut read state flash done)
+  where
+    read : Entry
+    read = Entry.Request clock link bc errors (fileRead header) m reply
 
-  abbrev number : ℕ
-  number = numberAfter entries read state flash
+    number : ℕ
+    number = numberAfter entries read state flash
 
-  abbrev l : Lent
-  l = runWords (lent flash m reply)
+    packet : List ℕ
+    packet = wordsOf 2 (fileRead header)
 
-  hands : (count : ℕ) (r : Reply) → isDone number ≡ true → r .words ≡ count
-      → WordsOut (nodeIn state) (wordsOf 2 flash) (wordsOf 2 (fileRead header)) r
-      (requestOf (nodeIn state) clock link bc (isSet errors) (wordsOf 2 (fileRead header)) l .after .reply)
-      → HandsOut header state flash (answerOf entries read state flash .runs .reply) count
-  hands count r done e h =
-      let made : Made read state flash = done-made read state flash done in
-      let bench =
-      request-fine link (length (fileRead header) / 2) state (length flash / 2) (length (m .pm) / 4) (length (m .dm) / 2)
-      (length (m .io) / 2) (length reply / 2) (made .fine) .bench in
-      let file : List ℕ = h .file in
-      let sector : List ℕ = sectorOf (wordsOf 2 flash) (h .sector) in
-      let small : Below 65536 file =
-      subst (λ (x : List ℕ). Below 65536 x) (h .stands)
-      (below-take (length file) sector (sector-below (wordsOf 2 flash) (h .sector) (words-of-below flash b))) in
-      let long : length (bytesOf 2 file) ≡ length file * 2 = length-bytes 2 file in
-      record {
-        sector = h .sector;
-        named = sym (named-by state (fileRead header) header 0x052E (read-words header)) ∙ h .named;
-        file = bytesOf 2 file;
-        whole = omega (arith, long);
-        valid = subst IsFile (sym (words-read 2 (omega arith) file small)) (h .valid);
-        stands =
-            ap (λ (k : ℕ). take k (inSector flash (h .sector))) long
-            ∙ ap (take (length file * 2)) (sector-bytes flash b bench (h .sector))
-            ∙ sym (bytes-take (length file) sector)
-            ∙ ap (bytesOf 2) (h .stands);
-        size = omega (arith, long, e, h .size);
-        bytes =
-            ap (λ (k : ℕ). take k (answerOf entries read state flash .runs .reply)) long
-            ∙ reply-bytes clock link bc errors (fileRead header) m reply state flash done (length file) file refl (h .words);
-      }
+    hands : isDone number ≡ true → (r : Reply) → r .words ≤ 12288 → answerIn read state flash ≡ Answer.Reply r
+        → WordsDid handedWords (nodeIn state) packet (runWords (lent flash m reply)) (requestOf (nodeIn state) clock link bc (isSet errors) packet (runWords (lent flash m reply)))
+        → Did handed state header (lent flash m reply) (answerOf entries read state flash)
+    hands done r most e did =
+        let f = fine clock link bc errors (fileRead header) state flash m reply (done-made read state flash done) in
+        let short : length (did .file) + 2 ≤ 12288 =
+        subst (λ (k : ℕ). k ≤ 12288) (ap (λ (a : Answer). replyIn a r .words) (sym e ∙ ap (λ (o : Outcome). o .turn .answer) (did .is))) most in
+        record {
+          sector = did .sector;
+          file = bytesOf 2 (did .file);
+          names = names-bytes state flash (f .bytes) b (f .bench) (did .sector) (fileRead header) header 0x052E (read-words header) (did .file) (did .names);
+          is =
+              handed-bytes clock link bc errors (fileRead header) m reply state flash done c b (did .file) (omega arith) (did .is)
+              ∙ ap (handed state (lent flash m reply)) (sym (file-is state flash (f .bytes) b (f .bench) (did .sector) (fileRead header) header 0x052E (read-words header) (did .file) (did .names)));
+        }
 
-  hands-out : (code count : ℕ) → InBits number 1 code 0 count → 0 < count
-      → HandsOut header state flash (answerOf entries read state flash .runs .reply) count
-  hands-out code count n some =
-      let done : isDone number ≡ true = eq-eqb (number % 256) 0 (n .done) in
-      by done (answerIn read state flash) refl (nothing-cut read state flash done .0)
-    where
-      by : isDone number ≡ true → (a : Answer) → answerIn read state flash ≡ a → Says number a
-          → HandsOut header state flash (answerOf entries read state flash .runs .reply) count
-      by done (Answer.Refused r) e q = absurd q
-      by done Answer.Started e q = absurd (omega (arith, n .kind, q .kind))
-      by done (Answer.Reply r) e q =
-          let same : r .words ≡ count = sym (q .words) ∙ n .words in
-          hands count r done same
-          (words-never .hands-out (nodeIn state) clock link bc (isSet errors) (wordsOf 2 (fileRead header)) l r
-          (ap (isCommand 0x05) (read-words header)) e (omega arith))
-      by done (Answer.Ask a) e q = absurd (omega (arith, n .kind, q .kind))
-      by done Answer.Waiting e q = absurd (omega (arith, n .kind, q .kind))
-      by done (Answer.Erased k) e q = absurd (omega (arith, n .kind, q .kind))
+    by : isDone number ≡ true → (a : Answer) → answerIn read state flash ≡ a → Says number a × Bounds a → Did handed state header (lent flash m reply) (answerOf entries read state flash)
+    by done (Answer.Refused r) e q = absurd (q .0)
+    by done Answer.Started e q = absurd (omega (arith, n .kind, q .0 .kind))
+    by done (Answer.Reply r) e q =
+        let same : r .words ≡ words = sym (q .0 .words) ∙ n .words in
+        hands done r (q .1 .1) e
+        (words-never .hands-out (nodeIn state) clock link bc (isSet errors) packet (runWords (lent flash m reply)) r (ap (isCommand 0x05) (read-words header)) e (omega arith))
+    by done (Answer.Ask a) e q = absurd (omega (arith, n .kind, q .0 .kind))
+    by done Answer.Waiting e q = absurd (omega (arith, n .kind, q .0 .kind))
+    by done (Answer.Erased k) e q = absurd (omega (arith, n .kind, q .0 .kind))
+
+-- an entry that is refused leaves the memories
+left-memories : (clock link bc errors : ℕ) (packet state flash : List ℕ) (m : Memories) (reply : List ℕ)
+    → isDone (numberAfter entries (Entry.Request clock link bc errors packet m reply) state flash) ≡ false
+    → answerOf entries (Entry.Request clock link bc errors packet m reply) state flash .runs .memories ≡ m
+left-memories clock link bc errors packet state flash m reply h =
+    ap (λ (l : Lent). l .memories) (refused-exactly .request clock link bc errors packet state (lent flash m reply) .1 (eqb-false (numberAfter entries (Entry.Request clock link bc errors packet m reply) state flash % 256) 0 h) .lent)
+
+-- what Load loads
+loads : (clock link bc errors : ℕ) (header state flash : List ℕ) (m : Memories) (reply : List ℕ)
+    → let load : Entry = Entry.Request clock link bc errors (fileLoad header) m reply in
+    InC load → U8s flash → (numberAfter entries load state flash ≡ endNumber) ⊎ (answerOf entries load state flash .runs .memories ≡ m → ⊥)
+    → Did loaded state header (lent flash m reply) (answerOf entries load state flash)
+loads clock link bc errors header state flash m reply c b h = by (isDone (numberAfter entries load state flash)) refl
+  where
+    load : Entry
+    load = Entry.Request clock link bc errors (fileLoad header) m reply
+
+    packet : List ℕ
+    packet = wordsOf 2 (fileLoad header)
+
+    does : Outcome
+    does = requestOf (nodeIn state) clock link bc (isSet errors) packet (runWords (lent flash m reply))
+
+    did-bytes : isDone (numberAfter entries load state flash) ≡ true → WordsDid loadedWords (nodeIn state) packet (runWords (lent flash m reply)) does
+        → Did loaded state header (lent flash m reply) (answerOf entries load state flash)
+    did-bytes done did =
+        let made = done-made load state flash done in
+        let f = fine clock link bc errors (fileLoad header) state flash m reply made in
+        record {
+          sector = did .sector;
+          file = bytesOf 2 (did .file);
+          names = names-bytes state flash (f .bytes) b (f .bench) (did .sector) (fileLoad header) header 0x462E (load-words header) (did .file) (did .names);
+          is =
+              made .does
+              ∙ ap (λ (o : Outcome). told (inBytes o (lent flash m reply))) (did .is)
+              ∙ (λ i. answered endNumber (encoded-decoded state (f .bytes) i)
+              (lent (bytes-kept 2 flash b i) (memoriesLeft (allStored (fileSegments (did .file)) (memoryWords m)) m) (reply-stays clock link bc errors (fileLoad header) state flash m reply (c .8) (f .buffer) i)))
+              ∙ ap (loaded state (lent flash m reply)) (sym (file-is state flash (f .bytes) b (f .bench) (did .sector) (fileLoad header) header 0x462E (load-words header) (did .file) (did .names)));
+        }
+
+    changed : isDone (numberAfter entries load state flash) ≡ true → (does .turn .answer ≡ end) ⊎ (does .after .memories ≡ memoryWords m → ⊥)
+    changed done =
+        ⊎-elim (λ e. inl (ended-answer load state flash e))
+        (λ q. inr (λ e. q (ap (λ (a : Answered). a .runs .memories) (done-made load state flash done .does) ∙ ap (λ (x : Memories). memoriesLeft x m) e ∙ memories-kept m (c .5) (c .6) (c .7))))
+        h
+
+    by : (t : Bool) → isDone (numberAfter entries load state flash) ≡ t → Did loaded state header (lent flash m reply) (answerOf entries load state flash)
+    by true done =
+        did-bytes done (words-never .loads (nodeIn state) clock link bc (isSet errors) packet (runWords (lent flash m reply)) (ap (isCommand 0x46) (load-words header)) (changed done))
+    by false done =
+        absurd (⊎-elim (λ e. false≢true (sym done ∙ ap isDone e)) (λ q. q (left-memories clock link bc errors (fileLoad header) state flash m reply done)) h)
+
+-- the requests that change no memory
+leaves : (clock link bc errors : ℕ) (packet state flash : List ℕ) (m : Memories) (reply : List ℕ)
+    → let asked : Entry = Entry.Request clock link bc errors packet m reply in
+    let words : List ℕ = wordsOf 2 packet in
+    InC asked → (isCommand 0x46 words || isCommand 0x0F words || isCommand 0x50 words || isCommand 0x51 words) ≡ false
+    → answerOf entries asked state flash .runs .memories ≡ m
+leaves clock link bc errors packet state flash m reply c h = by (isDone (numberAfter entries asked state flash)) refl
+  where
+    asked : Entry
+    asked = Entry.Request clock link bc errors packet m reply
+
+    by : (t : Bool) → isDone (numberAfter entries asked state flash) ≡ t → answerOf entries asked state flash .runs .memories ≡ m
+    by true done =
+        ap (λ (a : Answered). a .runs .memories) (done-made asked state flash done .does)
+        ∙ ap (λ (x : Memories). memoriesLeft x m) (words-never .leaves (nodeIn state) clock link bc (isSet errors) (wordsOf 2 packet) (runWords (lent flash m reply)) h)
+        ∙ memories-kept m (c .5) (c .6) (c .7)
+    by false done = left-memories clock link bc errors packet state flash m reply done
 
 pub never-corrupted : NeverCorrupted entries
-never-corrupted =
-    record {
-      aborts = aborts;
-      hands-out = λ clock link bc errors header state flash m reply code words b.
-          hands-out clock link bc errors header state flash m reply b code words;
-    }
+never-corrupted = record { aborts = aborts; hands-out = hands-out; loads = loads; leaves = leaves }

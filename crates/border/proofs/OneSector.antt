@@ -26,7 +26,7 @@ use Rattle.logodwen.proofs.Entering.{request-fine, erase-fine}
 use Rattle.logodwen.proofs.ThereAndBack.{bytes-kept}
 use Rattle.border.specs.Exactly.{entries}
 use Rattle.border.specs.Host.{Entry, flashAfter, onWords}
-use Rattle.border.specs.ReadsBack.{sectorIn}
+use Rattle.border.specs.Files.{sectorIn}
 use Rattle.border.specs.Flash.{siteIn, SameByte, Within, OneSector, InStep, SetByErasing, NoBitRises}
 use Rattle.border.proofs.Flash.{flash-size}
 use Rattle.border.proofs.Steps.{Made, Step, entry-step}

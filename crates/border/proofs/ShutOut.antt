@@ -34,11 +34,11 @@ use Rattle.logodwen.specs.Places.{packed}
 use Rattle.logodwen.specs.StateBytes.{encodeOf, nodeIn, alike, areState}
 use Rattle.logodwen.specs.Causes.{requestCheck, eraseCheck}
 use Rattle.logodwen.specs.Entry.{requestEntry, eraseEntry}
-use Rattle.border.specs.Host.{Entry, U8s, InC, numberAfter, flashAfter, isDone, Hosted}
+use Rattle.border.specs.Host.{Entry, U8s, InC, numberAfter, flashAfter, isDone, Step, Hosted}
 use Rattle.border.specs.Kept.{directoryBytes, NoStaleRecord}
-use Rattle.border.specs.ReadsBack.{fileWrite, endNumber}
+use Rattle.border.specs.Files.{fileWrite}
 use Rattle.border.specs.Flash.{InStep, NoBitRises}
-use Rattle.border.specs.Answers.{Says, answerIn, NothingCut}
+use Rattle.border.specs.Answers.{Says, answerIn, NothingCut, endNumber}
 use Rattle.border.specs.ClosedRun.{blank, file, zeros, fresh, sends, started, written, ClosedRun}
 use Rattle.border.specs.ShutOut.{refusing, scanning, cutting, hasty, ShutOut}
 use Rattle.border.proofs.ClosedRun.{closed-run}
@@ -74,7 +74,7 @@ written-hosted : Hosted scanning fresh (written scanning .runs .flash)
 written-hosted =
     let first : Hosted scanning (started scanning .state) blank =
     Hosted.First 2 4 0 0 0 0 0 (zeros 172) blank starts-in blank-bytes (closed-run .begins) in
-    Hosted.Then (subst (λ (x : List ℕ). Hosted scanning x blank) (closed-run .begun) first) (sends (fileWrite file)) write-in
+    Hosted.Then (subst (λ (x : List ℕ). Hosted scanning x blank) (closed-run .begun) first) (Step.Made (sends (fileWrite file)) write-in)
 
 stands-byte : getD (directoryBytes fresh (written scanning .runs .flash)) 0 0 ≡ 0x21
 unfolding laid fcsBit fcsBits fcsWord fcsFrom headerOk memoryOf pageOf lengthOk pageOk spanOf bodyOk segmentOk segmentEnd walk fileEnd isSector bySector sectorOf isEmpty statusOf statusIn fourthWord entryOf entryFor entriesFrom directoryOf entered entrySays entryIs keptStatus firstFrom countFrom isNamed searchOf targetOf takes placeOf stored ownStatus masksOk stateOk requestVerdict addressed routeOf writeOf filesOf ownOf requestOf valueOf digitsOf wordsIn wordsOf bytesOf packed encodeOf nodeIn alike areState requestCheck requestEntry

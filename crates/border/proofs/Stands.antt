@@ -1,7 +1,7 @@
 -- The bytes that a host has stand for a state that is reached, with the flash that is reached with it. Assumes nothing.
 use Prim.Native.Nat.{ℕ}
 use mathlib.Core.Path.{_≡_, refl, sym, ap, _∙_, subst}
-use mathlib.Core.Bool.{true, false, false≢true}
+use mathlib.Core.Bool.{true, false≢true}
 use mathlib.Core.List.{List}
 use Rattle.base.specs.Words.{Below}
 use Rattle.base.proofs.Pick.{no}
@@ -9,7 +9,7 @@ use Rattle.node.specs.Calls.{startOf}
 use Rattle.node.specs.declared.Node.{Node}
 use Rattle.node.proofs.Ranges.{ranges-told}
 use Rattle.demands.specs.Machine.{logodwen, flashOf}
-use Rattle.demands.specs.Reached.{Lends16, stateAfter as nodeAfter, Reached}
+use Rattle.demands.specs.Reached.{Lends16, stateAfter as nodeAfter, Step as Called, Reached}
 use Rattle.demands.proofs.Sound.{reached-sound}
 use Rattle.logodwen.specs.Bytes.{wordsOf}
 use Rattle.logodwen.specs.StateBytes.{encodeOf, nodeIn, areState}
@@ -17,11 +17,11 @@ use Rattle.logodwen.specs.Kept.{Typed}
 use Rattle.logodwen.proofs.Runs.{length-words-of}
 use Rattle.logodwen.proofs.ThereAndBack.{decoded-encoded}
 use Rattle.border.specs.Exactly.{entries}
-use Rattle.border.specs.Host.{Entry, InC, numberAfter, stateAfter, flashAfter, onWords, isDone, Hosted}
+use Rattle.border.specs.Host.{Entry, InC, numberAfter, stateAfter, flashAfter, onWords, isDone, Step as HostStep, Hosted}
 use Rattle.border.proofs.Runs.{words-of-below, stored-words, stored-below}
 use Rattle.border.proofs.Flash.{flash-below, flash-size}
 use Rattle.border.proofs.Typed.{Small, Clocked, start-small, call-small, small-typed}
-use Rattle.border.proofs.Steps.{Made, Step, entry-step, start-taken, refusal-undone, undone-left}
+use Rattle.border.proofs.Steps.{Made, Step, entry-step, start-taken, refusal-undone, undone-left, undone-flash}
 
 pub record Stands (state flash : List ℕ) : Type 0 where
   pub reached : Reached logodwen (nodeIn state) (wordsOf 2 flash)
@@ -89,7 +89,7 @@ made-moves e state flash c s m =
     let size = flash-size (onWords e) (nodeIn state) words ∙ length-words-of 2 flash in
     let read = ap (wordsOf 2) after ∙ stored-words left flash below size in
     let bytes = subst (λ (x : List ℕ). Below 256 x) (sym after) (stored-below left flash (s .below)) in
-    let reached = Reached.Then (s .reached) (onWords e) (lends e c) in
+    let reached = Reached.Then (s .reached) (Called.Made (onWords e) (lends e c)) in
     let small = call-small (onWords e) (nodeIn state) words (clocked e c) (s .small) in
     record {
       node = encoded-node next left (stateAfter entries e state flash) reached small below (m .node);
@@ -134,9 +134,13 @@ first-stands kind ports subdetector program version tests clock state flash c b 
         (start-small kind ports subdetector program version tests clock words (clocked begun c)) (words-of-below flash b)
         (m .node ∙ ap encodeOf (sym (no _ taken refl))) refl b
 
+-- a step of the host hands them on
+pub step-stands : {state flash next after : List ℕ} → HostStep entries state flash next after → Stands state flash → Stands next after
+step-stands {state} {flash} (HostStep.Made e c) s = next-stands e state flash c s
+step-stands {state} {flash} (HostStep.OtherFlash e other h) s = subst (λ (x : List ℕ). Stands x flash) (sym (undone-left e state other h)) s
+step-stands {state} {flash} (HostStep.OtherState e other h) s = subst (Stands state) (sym (undone-flash e other flash h)) s
+
 pub hosted-stands : {state flash : List ℕ} → Hosted entries state flash → Stands state flash
 hosted-stands (Hosted.First kind ports subdetector program version tests clock state flash c b h) =
     first-stands kind ports subdetector program version tests clock state flash c b h
-hosted-stands (Hosted.Then {state = state} {flash = flash} r e c) = next-stands e state flash c (hosted-stands r)
-hosted-stands (Hosted.Refused {state = state} {flash = flash} r e other h) =
-    let s = hosted-stands r in subst (λ (x : List ℕ). Stands x flash) (sym (undone-left e state other h)) s
+hosted-stands (Hosted.Then r step) = step-stands step (hosted-stands r)

@@ -199,3 +199,12 @@ undone-left (Entry.Reply clock slave bc errors status address packet reply) stat
     refused-exactly .reply clock slave bc errors status address packet state reply .1 (undone _ h) .bytes
 undone-left (Entry.Poll clock reply) state flash h = refused-exactly .poll clock state reply .1 (undone _ h) .bytes
 undone-left (Entry.Erase budget) state flash h = refused-exactly .erase budget state flash .1 (undone _ h) .bytes
+
+-- and the flash bytes
+pub undone-flash : (e : Entry) (state flash : List ℕ) → isDone (numberAfter entries e state flash) ≡ false → flashAfter entries e state flash ≡ flash
+undone-flash (Entry.Start kind ports subdetector program version tests clock) state flash h = refl
+undone-flash (Entry.Request clock link bc errors packet m reply) state flash h =
+    ap (λ (l : Lent). l .flash) (refused-exactly .request clock link bc errors packet state (lent flash m reply) .1 (undone _ h) .lent)
+undone-flash (Entry.Reply clock slave bc errors status address packet reply) state flash h = refl
+undone-flash (Entry.Poll clock reply) state flash h = refl
+undone-flash (Entry.Erase budget) state flash h = ap (λ (l : Lent). l .flash) (refused-exactly .erase budget state flash .1 (undone _ h) .lent)

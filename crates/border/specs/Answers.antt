@@ -1,14 +1,20 @@
--- The number of an entry that is done has the node's answer in its bits, whole: no part of an answer is too large for its place. 01 'Call
--- refusals' and the C border's table of the number. Assumes nothing.
-use Prim.Native.Nat.{ℕ, _/_, _%_, _≤_, _<_}
+-- The number of an entry that is done has the node's answer in its bits, whole: no part of an answer is too large for its place. And the
+-- answers by which the demands speak. 01 'Call refusals' and the C border's table of the number. Assumes nothing.
+use Prim.Native.Nat.{ℕ, _+_, _/_, _%_, _≤_, _<_}
 use mathlib.Core.Path.{_≡_}
 use mathlib.Core.Logic.{_⊎_}
 use mathlib.Core.Bool.{true}
 use mathlib.Core.List.{List}
+use lib.ListN.{length}
+use Rattle.base.specs.Words.{laid}
+use Rattle.node.specs.Settings.{statusIn}
+use Rattle.node.specs.Effect.{Lent, lent, sealedWords}
 use Rattle.node.specs.declared.Answer.{Answer}
 use Rattle.demands.specs.Machine.{logodwen, turnOf}
-use Rattle.logodwen.specs.Bytes.{wordsOf}
+use Rattle.logodwen.specs.Bytes.{wordsOf, bytesOf}
 use Rattle.logodwen.specs.StateBytes.{nodeIn}
+use Rattle.logodwen.specs.Number.{fields}
+use Rattle.logodwen.specs.Entry.{Answered, answered}
 use Rattle.border.specs.Exactly.{Entries}
 use Rattle.border.specs.Host.{Entry, numberAfter, onWords, isDone}
 
@@ -50,3 +56,20 @@ abbrev pub NothingCut : Entries → Type 0
 NothingCut E =
     (e : Entry) (state flash : List ℕ) → isDone (numberAfter E e state flash) ≡ true
     → Says (numberAfter E e state flash) (answerIn e state flash) × Bounds (answerIn e state flash)
+
+-- The number of a reply with BC 11 and so many words; END is that of none. The number of ABORT, a reply with BC 10 and no words.
+abbrev pub wholeNumber : ℕ → ℕ
+wholeNumber words = fields 1 3 0 words
+
+abbrev pub endNumber : ℕ
+endNumber = wholeNumber 0
+
+abbrev pub abortNumber : ℕ
+abortNumber = fields 1 2 0 0
+
+-- A read reply of these words: the bytes of data, reply status and FCS from the start of the reply buffer on, its other bytes as they were,
+-- and so the state, the flash and the memories.
+abbrev pub handed : List ℕ → Lent → List ℕ → Answered
+handed state runs ws =
+    answered (wholeNumber (length ws + 2)) state
+    (lent (runs .flash) (runs .memories) (laid (runs .reply) 0 (bytesOf 2 (sealedWords (statusIn (nodeIn state)) ws))))

@@ -8,8 +8,8 @@ use Rattle.memory.specs.Segment.{memories}
 use Rattle.logodwen.specs.Entry.{Answered}
 use Rattle.border.specs.Exactly.{Entries}
 use Rattle.border.specs.Host.{Entry, answerOf}
-use Rattle.border.specs.Kept.{wholeNumber}
-use Rattle.border.specs.ReadsBack.{fileWrite, fileRead, endNumber}
+use Rattle.border.specs.Answers.{wholeNumber, endNumber}
+use Rattle.border.specs.Files.{fileWrite, fileRead}
 
 -- A blank flash of bench size.
 abbrev pub blank : List ℕ

@@ -4,7 +4,6 @@ use Prim.Native.Nat.{ℕ, min, _+_, _*_, _≤_, _<_}
 use mathlib.Core.Path.{_≡_}
 use mathlib.Core.List.{List}
 use lib.ListN.{length, getD}
-use Rattle.flash.specs.Geometry.{sizeOf}
 use Rattle.flash.specs.Change.{restOf, bitOf}
 use Rattle.flash.specs.declared.Found.{Found}
 use Rattle.demands.specs.Flash.{siteOf}
@@ -12,11 +11,7 @@ use Rattle.logodwen.specs.Bytes.{wordsOf, numberAt}
 use Rattle.logodwen.specs.StateBytes.{nodeIn, progressIn}
 use Rattle.border.specs.Exactly.{Entries}
 use Rattle.border.specs.Host.{Entry, U8s, flashAfter, onWords}
-use Rattle.border.specs.ReadsBack.{sectorIn, sectorByte}
-
--- How many bytes a file sector has: 4,096 or 8,192, and none where there is no file sector.
-abbrev pub sectorBytes : ℕ → ℕ
-sectorBytes s = sizeOf 2048 s * 2
+use Rattle.border.specs.Files.{sectorIn, sectorByte, sectorBytes}
 
 -- The sector that an entry may change: the one that the node's call on the words may change.
 abbrev pub siteIn : Entry → List ℕ → List ℕ → Found

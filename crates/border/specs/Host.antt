@@ -89,16 +89,19 @@ onWords (Entry.Erase budget) = Call.Erase budget
 abbrev pub isDone : ℕ → Bool
 isDone number = eqb (number % 256) 0
 
--- The state bytes and flash bytes that a host can come to have. Clock, packet, memories and reply buffer are fresh at every entry.
+-- One entry of a host that keeps state bytes and flash bytes, and what it keeps after it. The entry is lent both, and done or refused; or it
+-- is refused, lent those state bytes with whatever flash, or that flash with whatever state bytes. Clock, packet, memories and reply buffer
+-- are fresh at every entry.
+pub data Step (E : Entries) (state flash : List ℕ) : List ℕ → List ℕ → Type 0 where
+  Made : (e : Entry) → InC e → Step E state flash (stateAfter E e state flash) (flashAfter E e state flash)
+  OtherFlash : (e : Entry) (other : List ℕ) → isDone (numberAfter E e state other) ≡ false → Step E state flash (stateAfter E e state other) flash
+  OtherState : (e : Entry) (other : List ℕ) → isDone (numberAfter E e other flash) ≡ false → Step E state flash state (flashAfter E e other flash)
+
+-- The state bytes and flash bytes that a host can come to have: a start answered 0, on any flash bytes, whatever the state bytes were; then
+-- any entries.
 pub data Hosted (E : Entries) : List ℕ → List ℕ → Type 0 where
-  -- a start answered 0, on any flash bytes, whatever the state bytes were
   First : (kind ports subdetector program version tests clock : ℕ) (state flash : List ℕ)
       → InC (Entry.Start kind ports subdetector program version tests clock) → U8s flash
       → numberAfter E (Entry.Start kind ports subdetector program version tests clock) state flash ≡ 0
       → Hosted E (stateAfter E (Entry.Start kind ports subdetector program version tests clock) state flash) flash
-  -- then any entry, lent those, done or refused
-  Then : {state flash : List ℕ} → Hosted E state flash → (e : Entry) → InC e
-      → Hosted E (stateAfter E e state flash) (flashAfter E e state flash)
-  -- or an entry that is refused, whatever flash it was lent
-  Refused : {state flash : List ℕ} → Hosted E state flash → (e : Entry) (other : List ℕ) → isDone (numberAfter E e state other) ≡ false
-      → Hosted E (stateAfter E e state other) flash
+  Then : {state next flash after : List ℕ} → Hosted E state flash → Step E state flash next after → Hosted E next after

@@ -5,15 +5,16 @@ use Prim.Native.Nat.{ℕ, _%_}
 use mathlib.Core.Path.{_≡_}
 use mathlib.Core.Bool.{true}
 use mathlib.Core.List.{List, [], _∷_}
-use lib.ListN.{take, drop}
+use lib.ListN.{drop}
 use Rattle.flash.specs.Directory.{directoryOf}
 use Rattle.flash.specs.declared.Erasing.{Erasing}
 use Rattle.memory.specs.Segment.{Memories}
+use Rattle.node.specs.Effect.{lent}
 use Rattle.logodwen.specs.Bytes.{wordsOf, bytesOf}
-use Rattle.logodwen.specs.Number.{fields}
 use Rattle.logodwen.specs.StateBytes.{erasingOf, progressIn, areState}
 use Rattle.border.specs.Exactly.{Entries}
-use Rattle.border.specs.Host.{Entry, answerOf, numberAfter, isDone, Hosted}
+use Rattle.border.specs.Host.{Entry, InC, answerOf, numberAfter, isDone, Hosted}
+use Rattle.border.specs.Answers.{handed}
 
 -- What is erasing: the sector that the byte at 14 says, and the words set that the four bytes at 24 say.
 abbrev pub erasingIn : List ℕ → Erasing
@@ -31,17 +32,11 @@ AlwaysState E = (state flash : List ℕ) → Hosted E state flash → areState s
 abbrev pub NoStaleRecord : Entries → Type 0
 NoStaleRecord E = (state flash : List ℕ) → Hosted E state flash → drop 108 state ≡ directoryBytes state flash
 
--- The number of a reply with BC 11 and so many words.
-abbrev pub wholeNumber : ℕ → ℕ
-wholeNumber words = fields 1 3 0 words
-
--- A Flash Summary, the packet 2E 07, that is done, without receive errors and with BC 11: it answers 34 words, and the reply buffer then
--- starts with that directory.
+-- A Flash Summary, the packet 2E 07, that is done, without receive errors and with BC 11, answers that directory.
 abbrev pub SummaryIsTrue : Entries → Type 0
 SummaryIsTrue E =
     (state flash : List ℕ) → Hosted E state flash
     → (clock link bc : ℕ) (m : Memories) (reply : List ℕ)
     → let summary : Entry = Entry.Request clock link bc 0 (0x2E ∷ 0x07 ∷ []) m reply in
-    bc % 4 ≡ 3 → isDone (numberAfter E summary state flash) ≡ true
-    → (numberAfter E summary state flash ≡ wholeNumber 34)
-    × (take 64 (answerOf E summary state flash .runs .reply) ≡ directoryBytes state flash)
+    InC summary → bc % 4 ≡ 3 → isDone (numberAfter E summary state flash) ≡ true
+    → answerOf E summary state flash ≡ handed state (lent flash m reply) (directoryOf (wordsOf 2 flash) (erasingIn state))

@@ -1,10 +1,12 @@
 pub mod Exactly
 pub mod Settled
 pub mod Host
+pub mod Answers
+pub mod Files
 pub mod Kept
 pub mod ReadsBack
 pub mod Flash
-pub mod Answers
+pub mod Erasing
 pub mod NeverCorrupted
 pub mod Writes
 pub mod ClosedRun
