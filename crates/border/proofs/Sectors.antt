@@ -25,7 +25,7 @@ use Rattle.border.proofs.Flash.{sector-below}
 
 -- words are all FFFF just where their bytes are all FF
 
-empty-bytes : (ws : List ℕ) → isEmpty ws ≡ true → bytesOf 2 ws ≡ replicate (length ws * 2) 0xFF
+pub empty-bytes : (ws : List ℕ) → isEmpty ws ≡ true → bytesOf 2 ws ≡ replicate (length ws * 2) 0xFF
 unfolding isEmpty bytesOf digitsOf
 empty-bytes [] h = refl
 empty-bytes (w ∷ ws) h =

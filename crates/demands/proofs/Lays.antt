@@ -120,6 +120,7 @@ module _ (n : Node) (clock link bc : ℕ) (errors : Bool) (packet : List ℕ) (l
         placed = p .placed;
         lays = record {
           answer = ap (λ (x : Outcome). x .turn .answer) o;
+          room = w .place .room;
           flash = ap (λ (x : Outcome). x .after .flash) o ∙ stored-laid (l .flash) (p .sector) (drop 1 packet) (w .place .room);
         };
       }
@@ -142,6 +143,7 @@ module _ (n : Node) (clock link bc : ℕ) (errors : Bool) (packet : List ℕ) (l
         set = ap (λ (w : ℕ). settingOf w (getD packet 2 0)) (getD-take (h .end) words 0 0 (omega arith)) ∙ h .set;
         lays = record {
           answer = ap (λ (x : Outcome). x .turn .answer) o;
+          room = omega arith;
           flash = ap (λ (x : Outcome). x .after .flash) o ∙ stored-laid (l .flash) (h .sector) (h .header ∷ []) (omega arith);
         };
       }

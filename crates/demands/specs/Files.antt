@@ -175,9 +175,10 @@ pub record GoodIsServed (M : Machine) : Type 0 where
       → M .request n clock link bc errors packet l ≡ loaded n l file
 
 -- A File Write has laid its file where the placing rule says, or an Attribute Set another header word, by 01's rule, over that of a good
--- file; it is answered END.
+-- file. It is answered END, and the words stand in that sector.
 pub record Lays (l : Lent) (o : Outcome) (s : ℕ) (words : List ℕ) : Type 0 where
   pub answer : o .turn .answer ≡ end
+  pub room : length words ≤ sizeOf (unitOf (l .flash)) s
   pub flash : o .after .flash ≡ laid (l .flash) (startOf (unitOf (l .flash)) s) words
 
 pub record LaysFile (n : Node) (packet : List ℕ) (l : Lent) (o : Outcome) : Type 0 where
