@@ -7,5 +7,7 @@ pub mod Flash
 pub mod Answers
 pub mod NeverCorrupted
 pub mod Writes
+pub mod Events
+pub mod Groups
 pub mod ClosedRun
 pub mod ShutOut
