@@ -15,7 +15,7 @@ use Rattle.base.proofs.Laid.{length-laid, laid-append-left}
 use Rattle.memory.specs.Segment.{Memories}
 use Rattle.group.specs.Fragment.{built}
 use Rattle.node.specs.State.{turn}
-use Rattle.node.specs.Refusals.{isAsked, replyVerdict, pollVerdict}
+use Rattle.node.specs.Refusals.{firstOf, slaveCause, unaskedCause, isAsked, replyVerdict, pollVerdict}
 use Rattle.node.specs.Refusals.{isPending as nodePending}
 use Rattle.node.specs.Effect.{Effect, Lent, lent, Outcome}
 use Rattle.node.specs.Slaves.{ask, gathering, replyEffect, pollEffect}
@@ -34,7 +34,7 @@ use Rattle.demands.proofs.Taken.{reply-taken, poll-taken}
 use Rattle.logodwen.specs.Bytes.{numberAt, wordsIn, wordsOf, bytesOf, storeWords}
 use Rattle.logodwen.specs.StateBytes.{tallyOf, waitIn, nodeIn, areState}
 use Rattle.logodwen.specs.Number.{answerNumber}
-use Rattle.logodwen.specs.Causes.{replyCheck, pollCheck}
+use Rattle.logodwen.specs.Causes.{bytesCause, replyCheck, pollCheck}
 use Rattle.logodwen.specs.Entry.{Answered, entered, memoryWords, replyWords, isSet, replyEntry, pollEntry}
 use Rattle.logodwen.specs.declared.Wait.{Wait}
 use Rattle.logodwen.proofs.Runs.{length-words-of, length-bytes, length-store, store-words, words-take}
@@ -385,6 +385,18 @@ module _ {first : List ℕ} (h : Host) (k : Holds first h) (p : isPending (h .st
           (replyVerdict n slave (length buffer)) (replyEffect n clock (isSet errors) status address bc words buffer)
           (same-reply slave packet (h .state) (h .buffer) (k .stands .bytes) (k .long) short)
           (reply-taken n clock (isSet errors) status address bc words buffer) u (λ a. refl))
+
+  -- one that is too long isn't done
+  pub long-undone : (clock slave bc errors status address : ℕ) (packet : List ℕ) → ltb 32768 (length packet / 2) ≡ true
+      → isDone (stepped entries (Event.Replied clock slave bc errors status address packet) h .number) ≡ false
+  unfolding replyEntry replyCheck
+  long-undone clock slave bc errors status address packet long =
+      let e : Event = Event.Replied clock slave bc errors status address packet in
+      let room : ltb (length (h .buffer) / 2) 12288 ≡ false = le-ltb (length (h .buffer) / 2) 12288 (omega (arith, k .long)) in
+      let rest : Verdict = firstOf (slaveCause slave ∷ bytesCause (h .state) ∷ unaskedCause n slave ∷ []) in
+      let check : replyCheck slave (length packet / 2) (h .state) (length (h .buffer) / 2) ≡ Verdict.No Refusal.MemorySize =
+      λ i. pick (room i) (Verdict.No Refusal.ReplySize) (pick (long i) (Verdict.No Refusal.MemorySize) rest) in
+      ap (λ (v : Verdict). isDone (entered v (h .state) (lentReply (h .buffer)) (does e h) .number)) check
 
   pub poll-called : (clock : ℕ) → let e : Event = Event.Polled clock in InC (entryOf e []) → Called first (wordOf e) e h
   unfolding pollEntry pollOf
