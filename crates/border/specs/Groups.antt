@@ -1,9 +1,9 @@
 -- Demand 2 over bytes, of groups: a group's reply is its slaves' fragments in slave order, in the bytes of the reply buffer, and each slave
 -- is asked once. 01 'Requests' step 4 and 'Group assembly'. Assumes nothing.
-use Prim.Native.Nat.{ℕ, _+_}
+use Prim.Native.Nat.{ℕ, _+_, _%_, _≤_, _<_}
 use mathlib.Core.Path.{_≡_}
 use mathlib.Core.Bool.{true, false}
-use mathlib.Core.List.{List, []}
+use mathlib.Core.List.{List, [], _∷_}
 use lib.ListN.{length, take}
 use Rattle.memory.specs.Segment.{Memories}
 use Rattle.group.specs.Kind.{Answer as SlaveAnswer}
@@ -13,14 +13,25 @@ use Rattle.node.specs.Settings.{statusIn}
 use Rattle.node.specs.Calls.{lentReply}
 use Rattle.node.specs.declared.Answer.{Answer}
 use Rattle.demands.specs.Events.{Undropped, heards}
-use Rattle.demands.specs.Groups.{isGroup, setAsked, EndsBy, ExactlyThose}
-use Rattle.logodwen.specs.Bytes.{wordsOf, storeWords}
+use Rattle.demands.specs.Groups.{isGroup, setAsked, stripped, knowsMask, EndsBy, ExactlyThose}
+use Rattle.logodwen.specs.Bytes.{numberAt, wordsOf, storeWords}
 use Rattle.logodwen.specs.StateBytes.{nodeIn}
 use Rattle.logodwen.specs.Entry.{Answered, answered, startEntry, requestEntry, replyEntry, pollEntry, eraseEntry}
 use Rattle.border.specs.Exactly.{Entries}
-use Rattle.border.specs.Host.{Entry, InC, numberAfter, Hosted}
+use Rattle.border.specs.Host.{Entry, InC, numberAfter, isDone, Hosted}
 use Rattle.border.specs.Answers.{InBits, Says}
 use Rattle.border.specs.Events.{Event, callsOf, AllInC, Host, stepped, isPending, hosted}
+
+-- A request to a group that is done, without receive errors, with BC 11 and a mask ID of at most 15, on a CDDC (the state byte at 0), with
+-- words left behind those stripped and at most 8,192 in all: the number says to ask the lowest slave of the set.
+abbrev pub GroupIsAsked : Entries → Type 0
+GroupIsAsked E =
+    (clock link bc : ℕ) (packet : List ℕ) (m : Memories) (buffer state flash : List ℕ) (s : ℕ) (ss : List ℕ)
+    → let words : List ℕ = wordsOf 2 packet in
+    let number : ℕ = numberAfter E (Entry.Request clock link bc 0 packet m buffer) state flash in
+    isDone number ≡ true → bc % 4 ≡ 3 → isGroup words ≡ true → knowsMask words ≡ true → numberAt 1 0 state ≡ 2
+    → stripped words < length words → length words ≤ 8192 → slavesOf (setAsked (nodeIn state) words) ≡ s ∷ ss
+    → InBits number 2 s (stripped words) 0
 
 -- A request to a group, whatever a host has, that is answered by asking a slave; then entries that do not drop it.
 pub record GroupRun (E : Entries) : Type 0 where
