@@ -1,6 +1,6 @@
 -- The entries of a group's host are the node's calls, one after another: by induction over the entries. So what is proved of the calls on
 -- words holds of the bytes. Assumes nothing.
-use Prim.Native.Nat.{ℕ, _+_, _/_, _%_, _≤_}
+use Prim.Native.Nat.{ℕ, _+_, _/_, _%_, _≤_, _<_}
 use native.Mathlib.Omega.{arith}
 use mathlib.Core.Path.{_≡_, refl, sym, ap, _∙_, subst}
 use mathlib.Core.Bool.{Bool, true, false}
@@ -13,6 +13,7 @@ use Rattle.base.specs.Words.{laid}
 use Rattle.memory.specs.Segment.{Memories}
 use Rattle.group.specs.Kind.{answer, Answer as SlaveAnswer}
 use Rattle.group.specs.Time.{isLate}
+use Rattle.group.specs.Whole.{assembled}
 use Rattle.group.specs.declared.Reply.{Reply}
 use Rattle.node.specs.Effect.{lent}
 use Rattle.node.specs.Refusals.{isPending as nodePending}
@@ -24,7 +25,7 @@ use Rattle.node.specs.declared.Pending.{Pending}
 use Rattle.demands.specs.Machine.{logodwen}
 use Rattle.demands.specs.Events.{Event as Call, Host as NodeHost, stepped as nodeStepped, hosted as nodeHosted, Undropped, heards}
 use Rattle.demands.specs.Groups.{GroupRun as NodeRun, begun as nodeBegun, atLast as nodeLast, said as nodeSaid, Sends as NodeSends, EndsBy, ExactlyThose}
-use Rattle.demands.proofs.Groups.{group-is-its-fragments as node-fragments, asked-in-order, each-asked-once}
+use Rattle.demands.proofs.Groups.{group-is-its-fragments as node-fragments, so-far as node-so-far, asked-in-order, each-asked-once}
 use Rattle.logodwen.specs.Bytes.{wordsOf, storeWords}
 use Rattle.logodwen.specs.StateBytes.{nodeIn}
 use Rattle.logodwen.specs.Entry.{memoryWords, replyWords, isSet}
@@ -314,6 +315,23 @@ module _ (r : GroupRun entries) where
   pub in-order : atLast r .asked ≡ take (length (said r) + 1) (slaves r)
   in-order = sym asked-is ∙ asked-in-order nodes ∙ ap (λ (hs : List SlaveAnswer). take (length hs + 1) (slaves r)) said-is
 
+  -- words at the front of the node's reply buffer are bytes at the front of ours
+  in-bytes : (ws : List ℕ) → nodeLast nodes .buffer ≡ laid (replyWords (r .buffer)) 0 ws → atLast r .buffer ≡ storeWords 2 ws (r .buffer)
+  in-bytes ws e =
+      let words : replyWords (atLast r .buffer) ≡ laid (replyWords (r .buffer)) 0 ws = sym (ap (λ (h : NodeHost). h .buffer) last-is) ∙ e in
+      let rest : List ℕ = drop (0 + length ws) (replyWords (r .buffer)) in
+      let front = ap length (words ∙ laid-front (replyWords (r .buffer)) ws) ∙ length-append ws rest in
+      let fits : length ws ≤ 12288 = omega (arith, front, length-reply (atLast r .buffer) (run .holds .long)) in
+      run .holds .front
+      ∙ ap (λ (l : List ℕ). storeWords 2 l (r .buffer)) words
+      ∙ laid-reply ws (r .buffer) long (r .typed .8) fits
+
+  pub so-far : length (said r) < length (slaves r) → atLast r .buffer ≡ storeWords 2 (assembled (slaves r) (said r) 0) (r .buffer)
+  so-far more =
+      let few : length (nodeSaid nodes) < length (slaves r) = subst (λ (hs : List SlaveAnswer). length hs < length (slaves r)) (sym said-is) more in
+      in-bytes (assembled (slaves r) (nodeSaid nodes) 0) (node-so-far nodes few)
+      ∙ ap (λ (hs : List SlaveAnswer). storeWords 2 (assembled (slaves r) hs 0) (r .buffer)) said-is
+
   -- what the node sends is sent
   sends : (x : Reply) (ws : List ℕ) → NodeSends nodes x ws → Sends r x ws
   sends x ws s =
@@ -322,17 +340,9 @@ module _ (r : GroupRun entries) where
       sym (pending-is (atLast r .state))
       ∙ ap (λ (h : NodeHost). nodePending (h .turn .node .pending)) (sym last-is)
       ∙ ap nodePending (s .nothing) in
-      let words : replyWords (atLast r .buffer) ≡ laid (replyWords (r .buffer)) 0 ws =
-      sym (ap (λ (h : NodeHost). h .buffer) last-is) ∙ s .words in
-      let front : length (replyWords (atLast r .buffer)) ≡ length ws + length (drop (0 + length ws) (replyWords (r .buffer))) =
-      ap length (words ∙ laid-front (replyWords (r .buffer)) ws) ∙ length-append ws (drop (0 + length ws) (replyWords (r .buffer))) in
-      let fits : length ws ≤ 12288 = omega (arith, front, length-reply (atLast r .buffer) (run .holds .long)) in
       record {
         answer = subst (λ (a : Answer). Says (atLast r .number) a) answer (run .told nothing);
-        bytes =
-            run .holds .front
-            ∙ ap (λ (l : List ℕ). storeWords 2 l (r .buffer)) words
-            ∙ laid-reply ws (r .buffer) long (r .typed .8) fits;
+        bytes = in-bytes ws (s .words);
         nothing = nothing;
       }
 
@@ -349,4 +359,4 @@ module _ (r : GroupRun entries) where
     once = subst (ExactlyThose (set r)) asked-is (each-asked-once nodes all-heard)
 
 pub group-is-its-fragments : GroupIsItsFragments entries
-group-is-its-fragments = record { in-order = in-order; fragments = fragments; once = once }
+group-is-its-fragments = record { in-order = in-order; so-far = so-far; fragments = fragments; once = once }

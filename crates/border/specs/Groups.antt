@@ -8,6 +8,7 @@ use lib.ListN.{length, take}
 use Rattle.memory.specs.Segment.{Memories}
 use Rattle.group.specs.Kind.{Answer as SlaveAnswer}
 use Rattle.group.specs.Slaves.{slavesOf}
+use Rattle.group.specs.Whole.{assembled}
 use Rattle.group.specs.declared.Reply.{Reply}
 use Rattle.node.specs.Settings.{statusIn}
 use Rattle.node.specs.Calls.{lentReply}
@@ -81,10 +82,13 @@ module _ {E : Entries} (r : GroupRun E) where
     pub bytes : atLast .buffer ≡ storeWords 2 ws (r .buffer)
     pub nothing : isPending (atLast .state) ≡ false
 
--- So far those heard have been asked, in slave order, and the next one. When every slave has been heard, the reply is the slaves'
--- fragments, and the slaves asked are those of the set, ascending, each once.
+-- So far those heard have been asked, in slave order, and the next one; and with more to come, the reply buffer is as it was lent at first
+-- but for the fragments so far at its front. When every slave has been heard, the reply is the slaves' fragments, and the slaves asked are
+-- those of the set, ascending, each once.
 pub record GroupIsItsFragments (E : Entries) : Type 0 where
   pub in-order : (r : GroupRun E) → atLast r .asked ≡ take (length (said r) + 1) (slaves r)
+  pub so-far : (r : GroupRun E) → length (said r) < length (slaves r)
+      → atLast r .buffer ≡ storeWords 2 (assembled (slaves r) (said r) 0) (r .buffer)
   pub fragments : (r : GroupRun E) → length (said r) ≡ length (slaves r) → EndsBy (Sends r) (slaves r) (said r) (statusIn (nodeIn (r .state)))
   pub once : (r : GroupRun E) → length (said r) ≡ length (slaves r) → ExactlyThose (set r) (atLast r .asked)
 

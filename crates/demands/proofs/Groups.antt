@@ -299,7 +299,7 @@ module _ (r : GroupRun logodwen) where
   room = let n = length-slaves (setAsked (r .node) (r .packet)) in omega (arith, n)
 
   -- with more to come, the fragments so far are laid at the front
-  so-far : length (said r) < length (slaves r) → atLast r .buffer ≡ laid buffer 0 (fragments r)
+  pub so-far : length (said r) < length (slaves r) → atLast r .buffer ≡ laid buffer 0 (fragments r)
   so-far l = stands .going l .0 ∙ ap (λ (m : Assembly). m .reply) (taken-all (slaves r) (said r) buffer 0 Tally.Nothing room (stands .space))
 
   fits : 0 + length (fragments r) ≤ length buffer
