@@ -75,8 +75,8 @@ module _ {E : Entries} (r : GroupRun E) where
   abbrev pub said : List SlaveAnswer
   said = heards (r .clock) slaves (callsOf (r .events))
 
-  -- The number says this reply, the reply buffer is as it was lent at first but for the bytes of these words at its front, and nothing is
-  -- pending.
+  -- The number says this reply; the reply buffer is as it was lent at first but for the bytes of these words, laid at its front, so an odd
+  -- last byte and the bytes past 24,576 stay; and nothing is pending.
   pub record Sends (reply : Reply) (ws : List ℕ) : Type 0 where
     pub answer : Says (atLast .number) (Answer.Reply reply)
     pub bytes : atLast .buffer ≡ storeWords 2 ws (r .buffer)
