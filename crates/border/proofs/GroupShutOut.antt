@@ -24,7 +24,6 @@ use Rattle.node.specs.Route.{asking}
 use Rattle.node.specs.Valid.{masksOk, stateOk}
 use Rattle.node.specs.Effect.{Effect, Lent, lent, Outcome}
 use Rattle.node.specs.Calls.{judged, requestOf}
-use Rattle.node.specs.declared.Answer.{Answer}
 use Rattle.node.specs.declared.Node.{Node}
 use Rattle.node.specs.declared.Verdict.{Verdict}
 use Rattle.demands.specs.Machine.{isRefused}

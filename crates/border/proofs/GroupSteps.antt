@@ -31,7 +31,7 @@ use Rattle.demands.specs.Machine.{logodwen, flashOf, isRefused}
 use Rattle.demands.specs.Reached.{stateAfter as nodeAfter}
 use Rattle.demands.specs.Events.{Event as Call, Host as NodeHost, host as nodeHost, slaveIn as slaveAsked, stepped as nodeStepped}
 use Rattle.demands.proofs.Taken.{reply-taken, poll-taken}
-use Rattle.logodwen.specs.Bytes.{numberAt, wordsIn, wordsOf, bytesOf, storeWords}
+use Rattle.logodwen.specs.Bytes.{wordsIn, wordsOf, bytesOf, storeWords}
 use Rattle.logodwen.specs.StateBytes.{tallyOf, waitIn, nodeIn, areState}
 use Rattle.logodwen.specs.Number.{answerNumber}
 use Rattle.logodwen.specs.Causes.{bytesCause, replyCheck, pollCheck}
@@ -40,7 +40,7 @@ use Rattle.logodwen.specs.declared.Wait.{Wait}
 use Rattle.logodwen.proofs.Runs.{length-words-of, length-bytes, length-store, store-words, words-take}
 use Rattle.logodwen.proofs.ThereAndBack.{words-read}
 use Rattle.border.specs.Exactly.{entries, Stays}
-use Rattle.border.specs.Host.{Entry, InC, answerOf, numberAfter, onWords, isDone}
+use Rattle.border.specs.Host.{Entry, InC, onWords, isDone}
 use Rattle.border.specs.Answers.{Says, answerIn}
 use Rattle.border.specs.Events.{Event, entryOf, Host, slaveIn, stepped, isPending}
 use Rattle.border.proofs.Runs.{words-of-below, stored-below, laid-front, store-laid, store-front}

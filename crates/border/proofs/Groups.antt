@@ -7,7 +7,7 @@ use mathlib.Core.Bool.{Bool, true, false}
 use mathlib.Core.List.{List, [], _∷_, _++_}
 use lib.Dec.{ltb, eqb}
 use lib.ListN.{length, take, drop, length-append}
-use borrow.Author.Tests.{ltb-true, ltb-false, eq-eqb}
+use borrow.Author.Tests.{ltb-false, eq-eqb}
 use Rattle.base.specs.Pick.{pick}
 use Rattle.base.specs.Words.{laid}
 use Rattle.memory.specs.Segment.{Memories}
@@ -21,10 +21,9 @@ use Rattle.node.specs.Settings.{statusIn}
 use Rattle.node.specs.Slaves.{heard, silent}
 use Rattle.node.specs.declared.Answer.{Answer}
 use Rattle.node.specs.declared.Asking.{Asking}
-use Rattle.node.specs.declared.Pending.{Pending}
 use Rattle.demands.specs.Machine.{logodwen}
 use Rattle.demands.specs.Events.{Event as Call, Host as NodeHost, stepped as nodeStepped, hosted as nodeHosted, Undropped, heards}
-use Rattle.demands.specs.Groups.{GroupRun as NodeRun, begun as nodeBegun, atLast as nodeLast, said as nodeSaid, Sends as NodeSends, EndsBy, ExactlyThose}
+use Rattle.demands.specs.Groups.{GroupRun as NodeRun, atLast as nodeLast, said as nodeSaid, Sends as NodeSends, EndsBy, ExactlyThose}
 use Rattle.demands.proofs.Groups.{group-is-its-fragments as node-fragments, so-far as node-so-far, asked-in-order, each-asked-once}
 use Rattle.logodwen.specs.Bytes.{wordsOf, storeWords}
 use Rattle.logodwen.specs.StateBytes.{nodeIn}
