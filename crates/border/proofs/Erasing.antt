@@ -1,6 +1,7 @@
 -- Erasures over bytes, and what is written: by the node's theorems, which the entries come to. Assumes nothing.
 use Prim.Native.Nat.{ℕ, min, _+_, _*_, _/_, _%_, _≤_, _<_}
 use native.Mathlib.Nat.{add-zero}
+use native.Mathlib.Decide.{ℕ-discrete}
 use native.Mathlib.Omega.{arith}
 use mathlib.Core.Path.{_≡_, refl, sym, ap, _∙_, subst}
 use mathlib.Core.Logic.{_⊎_, inl, inr, ⊎-elim}
@@ -8,7 +9,8 @@ use mathlib.Core.Bool.{Bool, true, false, false≢true}
 use mathlib.Core.List.{List, [], _∷_, _++_}
 use lib.ListN.{length, getD, drop, replicate, length-replicate}
 use lib.Dec.{eqb}
-use borrow.Author.Tests.{eqb-true, eq-eqb, ne-eqb}
+use lib.Seq.{drop-append-seam}
+use borrow.Author.Tests.{eq-eqb}
 use Rattle.base.specs.Pick.{pick}
 use Rattle.base.specs.Words.{laid, blanks, Below}
 use Rattle.base.proofs.Pick.{yes, no}
@@ -25,26 +27,29 @@ use Rattle.flash.proofs.Erasure.{count-is, erased-laid}
 use Rattle.memory.specs.Segment.{Memories}
 use Rattle.node.specs.Effect.{lent, Outcome}
 use Rattle.node.specs.Calls.{requestOf}
+use Rattle.node.specs.State.{refusalNumber}
 use Rattle.node.specs.declared.Answer.{Answer}
+use Rattle.node.specs.declared.Refusal.{Refusal}
 use Rattle.node.specs.declared.Node.{Node}
 use Rattle.node.proofs.Directories.{Erases as Blank}
 use Rattle.demands.specs.Machine.{logodwen, turnOf, flashOf, isRefused}
 use Rattle.demands.specs.Requests.{end, isCommand}
 use Rattle.demands.specs.Reached.{stateAfter as nodeAfter, Step as Called}
-use Rattle.demands.specs.Flash.{Begins as WordsBegin, countOf as countIn, Course as WordsCourse, HasSet as WordsHaveSet}
+use Rattle.demands.specs.Flash.{Begins as WordsBegin, isStart as isStartWords, budgetOf as budgetWords, countOf as countIn, Course as WordsCourse, HasSet as WordsHaveSet}
+use Rattle.demands.specs.Refusals.{FirstOf}
 use Rattle.demands.specs.Files.{Lays as WordsLay}
 use Rattle.demands.proofs.Sound.{reached-sound}
 use Rattle.demands.proofs.Follows.{erasure-follows as words-follow}
 use Rattle.demands.proofs.Erases.{erases as words-erase}
 use Rattle.demands.proofs.Lays.{flash-follows as words-laid}
 use Rattle.logodwen.specs.Bytes.{numberAt, wordsOf, bytesOf, storeWords}
-use Rattle.logodwen.specs.StateBytes.{nodeIn, progressIn}
+use Rattle.logodwen.specs.StateBytes.{sizeIn, nodeIn, progressIn}
 use Rattle.logodwen.specs.Number.{fields, answerNumber}
 use Rattle.logodwen.specs.Entry.{memoryWords, replyWords, isSet}
-use Rattle.logodwen.proofs.Runs.{length-words-of}
+use Rattle.logodwen.proofs.Runs.{length-bytes, length-words-of}
 use Rattle.logodwen.proofs.Entering.{request-fine, erase-fine}
 use Rattle.logodwen.proofs.ThereAndBack.{bytes-kept}
-use Rattle.border.specs.Exactly.{entries}
+use Rattle.border.specs.Exactly.{entries, eraseCauses}
 use Rattle.border.specs.Host.{Entry, InC, answerOf, numberAfter, stateAfter, flashAfter, onWords, isDone, Step as HostStep}
 use Rattle.border.specs.Kept.{erasingIn}
 use Rattle.border.specs.Answers.{Says, answerIn, endNumber}
@@ -52,6 +57,9 @@ use Rattle.border.specs.Files.{sectorIn, sectorByte, inSector}
 use Rattle.border.specs.Flash.{stepByte}
 use Rattle.border.specs.Erasing.{blankBytes, Begins, GoesOn, Follows, ErasureFollows, isStart, budgetOf, countOf, Course, HasSet, Erases, Lays, LaysFile, LaysHeader, FlashFollows}
 use Rattle.border.proofs.Runs.{store-laid, stored-words}
+use Rattle.border.proofs.Exactly.{done-low, refused-exactly}
+use Rattle.border.proofs.OfState.{state-bytes-exactly}
+use Rattle.border.proofs.Flash.{flash-size}
 use Rattle.border.proofs.Sectors.{empty-bytes, sector-bytes}
 use Rattle.border.proofs.Steps.{Step, Made, entry-step, start-taken, refusal-undone, done-made, done-taken, undone-left, undone-flash}
 use Rattle.border.proofs.Stands.{Stands, Moved, lends, made-moves, hosted-stands}
@@ -216,3 +224,233 @@ erasure-follows state flash hosted (Entry.Poll clock reply) c = by (entry-step p
     by (Step.Leaves l) = ap erasingIn (l .node)
     by (Step.Makes m) = erasing-after polls state flash c (hosted-stands hosted) m ∙ words-follow .poll (nodeIn state) clock (replyWords reply) ∙ erasing-is state
 erasure-follows state flash hosted (Entry.Erase budget) c = erase-goes-on state flash (hosted-stands hosted) budget c
+
+size-is : (state : List ℕ) → nodeIn state .given .«flash_words» ≡ sizeIn state
+unfolding nodeIn
+size-is state = refl
+
+odd-size : (n : ℕ) → n / 2 ≡ 32768 → (n ≡ 65536 → ⊥) → n ≡ 65537
+odd-size n h e = by (ℕ-discrete n 65537)
+  where
+    by : Dec (n ≡ 65537) → n ≡ 65537
+    by (Dec.yes q) = q
+    by (Dec.no q) = absurd (e (omega arith))
+
+-- erase progress is never refused: the bytes are a state's, and the flash has the size used at start
+erase-done : (state flash : List ℕ) → Stands state flash → (budget : ℕ) → isDone (numberAfter entries (Entry.Erase budget) state flash) ≡ true
+erase-done state flash st budget = eq-eqb (number % 256) 0 (none (number % 256) (refused-exactly .erase budget state flash .0 (number % 256) .0 refl))
+  where
+    number : ℕ
+    number = numberAfter entries (Entry.Erase budget) state flash
+
+    size : length flash / 2 ≡ sizeIn state
+    size = sym (length-words-of 2 flash) ∙ sym (reached-sound (st .reached) .valid .size) ∙ size-is state
+
+    even : Dec (length flash ≡ 65536) → (length flash ≡ 65536) ⊎ (length flash ≡ 65537)
+    even (Dec.yes e) = inl e
+    even (Dec.no e) = inr (odd-size (length flash) (st .bench) e)
+
+    none : (i : ℕ) → FirstOf (eraseCauses state flash) i → i ≡ 0
+    none i (inl h) = absurd (⊎-elim (λ k. k (even (ℕ-discrete (length flash) 65536))) (λ k. k .1 size) (h .1))
+    none i (inr h) = ⊎-elim (λ k. absurd (k .1 (state-bytes-exactly .passes state .0 (st .bytes)))) (λ k. sym (k .1)) (h .1)
+
+-- what a number counts is what the answer does
+count-is-answer : (e : Entry) (state flash : List ℕ) → isDone (numberAfter entries e state flash) ≡ true
+    → countOf (numberAfter entries e state flash) ≡ countIn (answerIn e state flash)
+count-is-answer e state flash done = by (answerIn e state flash) (nothing-cut e state flash done .0)
+  where
+    number : ℕ
+    number = numberAfter entries e state flash
+
+    counts : (kind words : ℕ) → number / 256 % 256 ≡ kind → number / 4294967296 ≡ words → countOf number ≡ pick (eqb kind 0) words 0
+    counts kind words k w = λ i. pick (eqb (k i) 0) (w i) 0
+
+    by : (a : Answer) → Says number a → countOf number ≡ countIn a
+    by (Answer.Refused r) q = absurd q
+    by Answer.Started q = counts 0 0 (q .kind) (q .words)
+    by (Answer.Reply r) q = counts 1 (r .words) (q .kind) (q .words)
+    by (Answer.Ask a) q = counts 2 0 (q .kind) (q .words)
+    by Answer.Waiting q = counts 3 0 (q .kind) (q .words)
+    by (Answer.Erased count) q = counts 0 count (q .kind) (q .words)
+
+-- an entry that is refused counts nothing
+refusal-low : (r : Refusal) → refusalNumber r < 256
+refusal-low Refusal.FlashSize = omega arith
+refusal-low Refusal.ReplySize = omega arith
+refusal-low Refusal.MemorySize = omega arith
+refusal-low Refusal.Number = omega arith
+refusal-low Refusal.State = omega arith
+refusal-low Refusal.Busy = omega arith
+refusal-low Refusal.Unasked = omega arith
+
+low-counts : (number : ℕ) → number < 256 → countOf number ≡ 0
+low-counts number h =
+    let k : number / 256 % 256 ≡ 0 = omega arith in
+    let w : number / 4294967296 ≡ 0 = omega arith in
+    λ i. pick (eqb (k i) 0) (w i) 0
+
+undone-counts : (e : Entry) (state flash : List ℕ) → isDone (numberAfter entries e state flash) ≡ false → countOf (numberAfter entries e state flash) ≡ 0
+undone-counts e state flash h = by (entry-step e state flash)
+  where
+    by : Step e state flash → countOf (numberAfter entries e state flash) ≡ 0
+    by (Step.Leaves l) = ap countOf (l .number) ∙ low-counts (refusalNumber (l .refusal)) (refusal-low (l .refusal))
+    by (Step.Makes m) = refused (answerIn e state flash) (m .number) (ap isDone (sym (m .number)) ∙ h)
+      where
+        refused : (a : Answer) → numberAfter entries e state flash ≡ answerNumber a → isDone (answerNumber a) ≡ false → countOf (numberAfter entries e state flash) ≡ 0
+        refused (Answer.Refused r) n q = ap countOf n ∙ low-counts (refusalNumber r) (refusal-low r)
+        refused Answer.Started n q = absurd (false≢true (sym q ∙ eq-eqb (answerNumber Answer.Started % 256) 0 (done-low Answer.Started refl)))
+        refused (Answer.Reply r) n q = absurd (false≢true (sym q ∙ eq-eqb (answerNumber (Answer.Reply r) % 256) 0 (done-low (Answer.Reply r) refl)))
+        refused (Answer.Ask a) n q = absurd (false≢true (sym q ∙ eq-eqb (answerNumber (Answer.Ask a) % 256) 0 (done-low (Answer.Ask a) refl)))
+        refused Answer.Waiting n q = absurd (false≢true (sym q ∙ eq-eqb (answerNumber Answer.Waiting % 256) 0 (done-low Answer.Waiting refl)))
+        refused (Answer.Erased count) n q = absurd (false≢true (sym q ∙ eq-eqb (answerNumber (Answer.Erased count) % 256) 0 (done-low (Answer.Erased count) refl)))
+
+-- words stored again are the last ones stored
+store-again : (a b bytes : List ℕ) → length a ≡ length b → storeWords 2 a (storeWords 2 b bytes) ≡ storeWords 2 a bytes
+unfolding laid
+store-again a b bytes e =
+    let la = length-bytes 2 a in
+    let lb = length-bytes 2 b in
+    let same : 0 + length (bytesOf 2 a) ≡ length (bytesOf 2 b) = omega arith in
+    let from : 0 + length (bytesOf 2 b) ≡ 0 + length (bytesOf 2 a) = omega arith in
+    ap (λ (k : ℕ). bytesOf 2 a ++ drop k (bytesOf 2 b ++ drop (0 + length (bytesOf 2 b)) bytes)) same
+    ∙ ap (λ (x : List ℕ). bytesOf 2 a ++ x) (drop-append-seam (bytesOf 2 b) (drop (0 + length (bytesOf 2 b)) bytes))
+    ∙ ap (λ (k : ℕ). bytesOf 2 a ++ drop k bytes) from
+
+-- a course of entries is the node's course
+record Carried (size : ℕ) (state flash later after : List ℕ) (given counted : ℕ) : Type 0 where
+  stands : Stands later after
+  course : WordsCourse logodwen size (nodeIn state) (wordsOf 2 flash) (nodeIn later) (wordsOf 2 after) given counted
+  stored : after ≡ storeWords 2 (wordsOf 2 after) flash
+
+-- the budget and the start of an entry are those of its call
+budget-is : (e : Entry) → budgetOf e ≡ budgetWords (onWords e)
+budget-is (Entry.Start kind ports subdetector program version tests clock) = refl
+budget-is (Entry.Request clock link bc errors packet m reply) = refl
+budget-is (Entry.Reply clock slave bc errors status address packet reply) = refl
+budget-is (Entry.Poll clock reply) = refl
+budget-is (Entry.Erase budget) = refl
+
+start-is : (e : Entry) → isStart e ≡ isStartWords (onWords e)
+start-is (Entry.Start kind ports subdetector program version tests clock) = refl
+start-is (Entry.Request clock link bc errors packet m reply) = refl
+start-is (Entry.Reply clock slave bc errors status address packet reply) = refl
+start-is (Entry.Poll clock reply) = refl
+start-is (Entry.Erase budget) = refl
+
+module _ (size : ℕ) (state flash : List ℕ) where
+  abbrev CarriedTo : List ℕ → List ℕ → ℕ → ℕ → Type 0
+  CarriedTo later after given counted = Carried size state flash later after given counted
+
+  -- an entry that is done is the node's call
+  done-carried : (e : Entry) (later now : List ℕ) (given counted : ℕ) → InC e → isStart e ≡ false → given < size → isDone (numberAfter entries e later now) ≡ true
+      → CarriedTo later now given counted
+      → CarriedTo (stateAfter entries e later now) (flashAfter entries e later now) (given + budgetOf e) (counted + countOf (numberAfter entries e later now))
+  done-carried e later now given counted c s less done k =
+      let m = done-made e later now done in
+      let moved = made-moves e later now c (k .stands) m in
+      let left : List ℕ = flashOf logodwen (onWords e) (nodeIn later) (wordsOf 2 now) in
+      let same : length left ≡ length (wordsOf 2 now) = flash-size (onWords e) (nodeIn later) (wordsOf 2 now) in
+      let to : Node → List ℕ → ℕ → ℕ → Type 0 = WordsCourse logodwen size (nodeIn state) (wordsOf 2 flash) in
+      let words = WordsCourse.Then (k .course) less (Called.Made (onWords e) (lends e c)) (sym (start-is e) ∙ s) in
+      record {
+        stands = moved .stands;
+        course =
+            subst (λ (x : ℕ). to (nodeIn (stateAfter entries e later now)) (wordsOf 2 (flashAfter entries e later now)) (given + budgetOf e) (counted + x)) (sym (count-is-answer e later now done))
+            (subst (λ (x : ℕ). to (nodeIn (stateAfter entries e later now)) (wordsOf 2 (flashAfter entries e later now)) (given + x) (counted + countIn (answerIn e later now))) (sym (budget-is e))
+            (subst (λ (n : Node). to n (wordsOf 2 (flashAfter entries e later now)) (given + budgetWords (onWords e)) (counted + countIn (answerIn e later now))) (sym (moved .node))
+            (subst (λ (x : List ℕ). to (nodeAfter logodwen (onWords e) (nodeIn later) (wordsOf 2 now)) x (given + budgetWords (onWords e)) (counted + countIn (answerIn e later now))) (sym (moved .words)) words)));
+        stored =
+            m .words (k .stands .below)
+            ∙ ap (storeWords 2 left) (k .stored)
+            ∙ store-again left (wordsOf 2 now) flash same
+            ∙ ap (λ (x : List ℕ). storeWords 2 x flash) (sym (moved .words));
+      }
+
+  -- nothing given and nothing counted
+  none-carried : (later now : List ℕ) (given counted : ℕ) → CarriedTo later now given counted → CarriedTo later now (given + 0) (counted + 0)
+  none-carried later now given counted k =
+      subst (λ (x : ℕ). CarriedTo later now x (counted + 0)) (sym (add-zero given)) (subst (CarriedTo later now given) (sym (add-zero counted)) k)
+
+  -- one that is refused leaves all, and is no erase progress
+  undone-carried : (e : Entry) (later now : List ℕ) (given counted : ℕ) → isDone (numberAfter entries e later now) ≡ false → CarriedTo later now given counted
+      → CarriedTo (stateAfter entries e later now) (flashAfter entries e later now) (given + budgetOf e) (counted + countOf (numberAfter entries e later now))
+  undone-carried e later now given counted h k =
+      subst (λ (x : List ℕ). CarriedTo x (flashAfter entries e later now) (given + budgetOf e) (counted + countOf (numberAfter entries e later now))) (sym (undone-left e later now h))
+      (subst (λ (x : List ℕ). CarriedTo later x (given + budgetOf e) (counted + countOf (numberAfter entries e later now))) (sym (undone-flash e later now h))
+      (subst (λ (x : ℕ). CarriedTo later now (given + budgetOf e) (counted + x)) (sym (undone-counts e later now h))
+      (subst (λ (x : ℕ). CarriedTo later now (given + x) (counted + 0)) (sym (none e h)) (none-carried later now given counted k))))
+    where
+      none : (x : Entry) → isDone (numberAfter entries x later now) ≡ false → budgetOf x ≡ 0
+      none (Entry.Start kind ports subdetector program version tests clock) q = refl
+      none (Entry.Request clock link bc errors packet m reply) q = refl
+      none (Entry.Reply clock slave bc errors status address packet reply) q = refl
+      none (Entry.Poll clock reply) q = refl
+      none (Entry.Erase budget) q = absurd (false≢true (sym q ∙ erase-done later now (k .stands) budget))
+
+  course-carried : {later after : List ℕ} {given counted : ℕ} → Stands state flash → Course entries size state flash later after given counted → CarriedTo later after given counted
+  course-carried st Course.Begun = record { stands = st; course = WordsCourse.Begun; stored = sym (bytes-kept 2 flash (st .below)) }
+  course-carried st (Course.Then {later = later} {now = now} {given = given} {counted = counted} r less (HostStep.Made e c) s) = by (isDone (numberAfter entries e later now)) refl (course-carried st r)
+    where
+      by : (t : Bool) → isDone (numberAfter entries e later now) ≡ t → CarriedTo later now given counted
+          → CarriedTo (stateAfter entries e later now) (flashAfter entries e later now) (given + budgetOf e) (counted + countOf (numberAfter entries e later now))
+      by true done k = done-carried e later now given counted c s less done k
+      by false done k = undone-carried e later now given counted done k
+  course-carried st (Course.Then {later = later} {now = now} {given = given} {counted = counted} r less (HostStep.OtherFlash e other h) s) =
+      subst (λ (x : List ℕ). CarriedTo x now (given + 0) (counted + 0)) (sym (undone-left e later other h)) (none-carried later now given counted (course-carried st r))
+  course-carried st (Course.Then {later = later} {now = now} {given = given} {counted = counted} r less (HostStep.OtherState e other h) s) =
+      subst (λ (x : List ℕ). CarriedTo later x (given + 0) (counted + 0)) (sym (undone-flash e other now h)) (none-carried later now given counted (course-carried st r))
+
+-- where it has come, by bytes
+has-set : (state flash later after : List ℕ) (s given counted : ℕ) → length flash / 2 ≡ 32768 → Below 256 flash → Carried (sizeOf 2048 s) state flash later after given counted
+    → WordsHaveSet s (wordsOf 2 flash) (nodeIn later) (wordsOf 2 after) given counted → HasSet s flash later after given counted
+has-set state flash later after s given counted bench b k h =
+    let u = unit flash b bench in
+    let size : sizeOf (unitOf (wordsOf 2 flash)) s ≡ sizeOf 2048 s = ap (λ (x : ℕ). sizeOf x s) u in
+    let set : ℕ = min given (sizeOf (unitOf (wordsOf 2 flash)) s) in
+    let r = length-replicate {A = ℕ} set 0xFFFF in
+    let bytes =
+    k .stored
+    ∙ ap (λ (x : List ℕ). storeWords 2 x flash) (h .words)
+    ∙ sector-laid flash b bench s (blanks set) (omega arith)
+    ∙ ap (laid flash (sectorByte s)) (blank-is set)
+    ∙ ap (λ (x : ℕ). laid flash (sectorByte s) (blankBytes (min given x))) size in
+    record {
+      bytes = bytes;
+      count = h .count ∙ ap (min given) size;
+      going = λ q. sym (erasing-is later) ∙ h .going (omega arith);
+      over = λ q. idle-byte later (h .over (omega arith));
+      empty = λ q.
+          sector-bytes after (k .stands .below) (k .stands .bench) s
+          ∙ empty-bytes (sectorOf (wordsOf 2 after) s) (h .empty (omega arith))
+          ∙ ap (λ (x : ℕ). replicate (x * 2) 0xFF) (length-sector (wordsOf 2 after) s ∙ ap (λ (x : ℕ). sizeOf x s) (unit after (k .stands .below) (k .stands .bench)));
+    }
+
+pub erases : Erases entries
+erases =
+    record {
+      starts = λ state flash hosted clock link bc packet m reply s done whole c two quiet named.
+          let d = delivered clock link bc 0 packet m reply state flash done refl whole (omega arith) (omega arith) in
+          number-is clock link bc 0 packet m reply state flash done
+          ∙ ap answerNumber
+          (words-erase .starts (nodeIn state) clock link bc false (wordsOf 2 packet) (lent (wordsOf 2 flash) (memoryWords m) (replyWords reply)) s c d (length-words-of 2 packet ∙ two)
+          (no-erasing state quiet) named);
+      begins = λ state flash hosted clock link bc errors packet m reply c command h.
+          let erase : Entry = Entry.Request clock link bc errors packet m reply in
+          begins-bytes state flash (hosted-stands hosted) clock link bc errors packet m reply c (done-made erase state flash (ap isDone h))
+          (words-erase .begins (nodeIn state) clock link bc (isSet errors) (wordsOf 2 packet) (lent (wordsOf 2 flash) (memoryWords m) (replyWords reply)) command (ended-answer erase state flash h));
+      sets = λ state flash hosted clock link bc errors packet m reply s c command h named later after given counted course.
+          let erase : Entry = Entry.Request clock link bc errors packet m reply in
+          let st = hosted-stands hosted in
+          let made = done-made erase state flash (ap isDone h) in
+          let moved = made-moves erase state flash c st made in
+          let b = begins-bytes state flash st clock link bc errors packet m reply c made
+                (words-erase .begins (nodeIn state) clock link bc (isSet errors) (wordsOf 2 packet) (lent (wordsOf 2 flash) (memoryWords m) (replyWords reply)) command (ended-answer erase state flash h)) in
+          let begun : Stands (stateAfter entries erase state flash) flash = subst (Stands (stateAfter entries erase state flash)) (b .kept) (moved .stands) in
+          let k = course-carried (sizeOf 2048 s) (stateAfter entries erase state flash) flash begun course in
+          let u = unit flash (st .below) (st .bench) in
+          has-set (stateAfter entries erase state flash) flash later after s given counted (st .bench) (st .below) k
+          (words-erase .sets (nodeIn state) clock link bc (isSet errors) (wordsOf 2 packet) (lent (wordsOf 2 flash) (memoryWords m) (replyWords reply)) s command (ended-answer erase state flash h) named
+          (nodeIn later) (wordsOf 2 after) given counted
+          (subst (λ (n : Node). WordsCourse logodwen (sizeOf (unitOf (wordsOf 2 flash)) s) n (wordsOf 2 flash) (nodeIn later) (wordsOf 2 after) given counted) (moved .node)
+          (subst (λ (x : ℕ). WordsCourse logodwen (sizeOf x s) (nodeIn (stateAfter entries erase state flash)) (wordsOf 2 flash) (nodeIn later) (wordsOf 2 after) given counted) (sym u) (k .course))));
+    }

@@ -123,7 +123,7 @@ asks-tells state slave =
 
 -- a call that is done has the low byte 0, and a refusal's number is below 256
 
-done-low : (a : Answer) → isRefused a ≡ false → answerNumber a % 256 ≡ 0
+pub done-low : (a : Answer) → isRefused a ≡ false → answerNumber a % 256 ≡ 0
 done-low (Answer.Refused r) h = absurd (false≢true (sym h))
 done-low Answer.Started h = refl
 done-low (Answer.Reply r) h = omega arith

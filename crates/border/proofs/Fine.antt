@@ -144,6 +144,19 @@ erase-fine state flash h =
     ∙ none-refuses (flashCause n (length flash / 2) ∷ stateCause n ∷ [])
     (flash-no state (length flash / 2) (none .1 .0) (none .0), (state-no state (none .1 .0), tt))
 
+pub start-bench : (kind ports subdetector : ℕ) (state flash : List ℕ)
+    → startCheck kind ports subdetector state (length flash / 2) ≡ Verdict.Fine → length flash / 2 ≡ 32768
+unfolding startCheck
+start-bench kind ports subdetector state flash h =
+    let words = length flash / 2 in
+    let numbers : Bool = not (portsOk ports) || not (kindOk kind) || ltb 7 subdetector in
+    let none =
+    fine-tells
+    (cause Refusal.FlashSize (not (eqb words 32768)) ∷ cause Refusal.Number numbers
+    ∷ cause Refusal.State (not (eqb (length state) 172)) ∷ [])
+    h in
+    eqb-true words 32768 (not-false (eqb words 32768) (none .0))
+
 pub start-fine : (kind ports subdetector : ℕ) (state flash : List ℕ)
     → startCheck kind ports subdetector state (length flash / 2) ≡ Verdict.Fine
     → startVerdict kind ports subdetector (length (wordsOf 2 flash)) ≡ Verdict.Fine
@@ -156,7 +169,7 @@ start-fine kind ports subdetector state flash h =
     (cause Refusal.FlashSize (not (eqb words 32768)) ∷ cause Refusal.Number numbers
     ∷ cause Refusal.State (not (eqb (length state) 172)) ∷ [])
     h in
-    let bench : words ≡ 32768 = eqb-true words 32768 (not-false (eqb words 32768) (none .0)) in
+    let bench = start-bench kind ports subdetector state flash h in
     let sized : not (sizeOk words) ≡ false = ap (λ (n : ℕ). not (sizeOk n)) bench in
     ap (startVerdict kind ports subdetector) (length-words-of 2 flash)
     ∙ none-refuses (cause Refusal.FlashSize (not (sizeOk words)) ∷ cause Refusal.Number numbers ∷ []) (sized, (none .1 .0, tt))

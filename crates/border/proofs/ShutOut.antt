@@ -48,20 +48,20 @@ refuses : (number : ℕ) → ClosedRun (refusing number) → ⊥
 refuses number c = let w = c .writes in let r = c .reads in omega arith
 
 -- runs of bytes, by one computed test
-tested : (bytes : List ℕ) → allBelow 256 bytes ≡ true → U8s bytes
+pub tested : (bytes : List ℕ) → allBelow 256 bytes ≡ true → U8s bytes
 unfolding allBelow
 tested [] h i = omega arith
 tested (b ∷ bytes) h zero = ltb-true b 256 (and-left (ltb b 256) (allBelow 256 bytes) h)
 tested (b ∷ bytes) h (suc i) = tested bytes (and-right (ltb b 256) (allBelow 256 bytes) h) i
 
-none : U8s []
+pub none : U8s []
 none i = omega arith
 
-blank-bytes : U8s blank
+pub blank-bytes : U8s blank
 unfolding allBelow
 blank-bytes = tested blank refl
 
-starts-in : InC (Entry.Start 2 4 0 0 0 0 0)
+pub starts-in : InC (Entry.Start 2 4 0 0 0 0 0)
 starts-in = (omega arith, omega arith, omega arith, omega arith, omega arith, omega arith, omega arith)
 
 write-in : InC (sends (fileWrite file))

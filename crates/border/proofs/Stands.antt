@@ -1,8 +1,9 @@
 -- The bytes that a host has stand for a state that is reached, with the flash that is reached with it. Assumes nothing.
-use Prim.Native.Nat.{ℕ}
+use Prim.Native.Nat.{ℕ, _/_}
 use mathlib.Core.Path.{_≡_, refl, sym, ap, _∙_, subst}
 use mathlib.Core.Bool.{true, false≢true}
 use mathlib.Core.List.{List}
+use lib.ListN.{length}
 use Rattle.base.specs.Words.{Below}
 use Rattle.base.proofs.Pick.{no}
 use Rattle.node.specs.Calls.{startOf}
@@ -19,6 +20,7 @@ use Rattle.logodwen.proofs.ThereAndBack.{decoded-encoded}
 use Rattle.border.specs.Exactly.{entries}
 use Rattle.border.specs.Host.{Entry, InC, numberAfter, stateAfter, flashAfter, onWords, isDone, Step as HostStep, Hosted}
 use Rattle.border.proofs.Runs.{words-of-below, stored-words, stored-below}
+use Rattle.border.proofs.Fine.{start-bench}
 use Rattle.border.proofs.Flash.{flash-below, flash-size}
 use Rattle.border.proofs.Typed.{Small, Clocked, start-small, call-small, small-typed}
 use Rattle.border.proofs.Steps.{Made, Step, entry-step, start-taken, refusal-undone, undone-left, undone-flash}
@@ -28,6 +30,7 @@ pub record Stands (state flash : List ℕ) : Type 0 where
   pub small : Small (nodeIn state)
   pub bytes : areState state ≡ true
   pub below : Below 256 flash
+  pub bench : length flash / 2 ≡ 32768
 
 -- so every part of the state has its size
 pub stands-typed : (state flash : List ℕ) → Stands state flash → Typed (nodeIn state)
@@ -48,14 +51,15 @@ module _ (n : Node) (words state : List ℕ) (r : Reached logodwen n words) (s :
   encoded-state = ap areState e ∙ encoded .0
 
 reached-stands : (n : Node) (words state flash : List ℕ) → Reached logodwen n words → Small n → Below 65536 words
-    → state ≡ encodeOf n → wordsOf 2 flash ≡ words → Below 256 flash → Stands state flash
-reached-stands n words state flash r s b e w f =
+    → state ≡ encodeOf n → wordsOf 2 flash ≡ words → Below 256 flash → length flash / 2 ≡ 32768 → Stands state flash
+reached-stands n words state flash r s b e w f k =
     let node : n ≡ nodeIn state = sym (encoded-node n words state r s b e) in
     record {
       reached = subst (λ (m : Node). Reached logodwen m (wordsOf 2 flash)) node (subst (λ (x : List ℕ). Reached logodwen n x) (sym w) r);
       small = subst Small node s;
       bytes = encoded-state n words state r s b e;
       below = f;
+      bench = k;
     }
 
 -- what the C types say of the node's call
@@ -96,7 +100,7 @@ made-moves e state flash c s m =
       words = read;
       stands =
           reached-stands next left (stateAfter entries e state flash) (flashAfter entries e state flash) reached small below (m .node) read
-          bytes;
+          bytes (sym (length-words-of 2 (flashAfter entries e state flash)) ∙ ap length read ∙ size ∙ s .bench);
     }
 
 -- every entry hands them on
@@ -132,7 +136,7 @@ first-stands kind ports subdetector program version tests clock state flash c b 
         (stateAfter entries begun state flash) flash
         (Reached.First kind ports subdetector program version tests clock words taken)
         (start-small kind ports subdetector program version tests clock words (clocked begun c)) (words-of-below flash b)
-        (m .node ∙ ap encodeOf (sym (no _ taken refl))) refl b
+        (m .node ∙ ap encodeOf (sym (no _ taken refl))) refl b (start-bench kind ports subdetector state flash (m .fine))
 
 -- a step of the host hands them on
 pub step-stands : {state flash next after : List ℕ} → HostStep entries state flash next after → Stands state flash → Stands next after

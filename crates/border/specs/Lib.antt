@@ -9,5 +9,8 @@ pub mod Flash
 pub mod Erasing
 pub mod NeverCorrupted
 pub mod Writes
+pub mod Events
+pub mod Groups
 pub mod ClosedRun
+pub mod Demands
 pub mod ShutOut

@@ -45,7 +45,7 @@ use Rattle.node.proofs.Ranges.{ranges-tell, ranges-told, request-pending}
 use Rattle.node.proofs.Verdicts.{RequestFine, request-fine}
 use Rattle.demands.specs.Machine.{logodwen}
 use Rattle.demands.specs.Events.{Event, Host, host, stepped, hosted, Undropped, heards}
-use Rattle.demands.specs.Groups.{setAsked, GroupRun, begun, atLast, slaves, said, kinds, fragments, Sends, GroupIsItsFragments, AskedInOrder, EachAskedOnce, FragmentsStand, NothingPastTheWords}
+use Rattle.demands.specs.Groups.{setAsked, GroupRun, begun, atLast, slaves, said, fragments, Sends, GroupIsItsFragments, AskedInOrder, EachAskedOnce, FragmentsStand, NothingPastTheWords}
 use Rattle.demands.proofs.Slaves.{slaves-exactly}
 use Rattle.demands.proofs.Events.{Going, Quiet, becomes, hearing, erase-quiet, request-quiet, stray-quiet, wait-quiet, reply-heard, late-heard, heard-goes, quiet-goes}
 use Rattle.demands.proofs.Taken.{verdictOn}
@@ -299,7 +299,7 @@ module _ (r : GroupRun logodwen) where
   room = let n = length-slaves (setAsked (r .node) (r .packet)) in omega (arith, n)
 
   -- with more to come, the fragments so far are laid at the front
-  so-far : length (said r) < length (slaves r) → atLast r .buffer ≡ laid buffer 0 (fragments r)
+  pub so-far : length (said r) < length (slaves r) → atLast r .buffer ≡ laid buffer 0 (fragments r)
   so-far l = stands .going l .0 ∙ ap (λ (m : Assembly). m .reply) (taken-all (slaves r) (said r) buffer 0 Tally.Nothing room (stands .space))
 
   fits : 0 + length (fragments r) ≤ length buffer
@@ -320,6 +320,10 @@ fragments-stand r l =
 pub nothing-past-the-words : NothingPastTheWords logodwen
 nothing-past-the-words r l i h =
     ap (λ (x : List ℕ). getD x i 0) (so-far r l) ∙ getD-laid-after (r .lent .reply) 0 (fragments r) (fits r) i (omega (arith, h))
+
+-- what each of the answers is
+abbrev kinds : GroupRun logodwen → List Kind
+kinds r = kindsOf (slaves r) (said r) 0
 
 -- there is one kind for each slave heard
 kinds-some : (ss : List ℕ) (hs : List SlaveAnswer) (w : ℕ) → length hs ≡ length ss → 0 < length ss → 0 < length (kindsOf ss hs w)

@@ -74,6 +74,16 @@ pub record GroupRun (M : Machine) : Type 0 where
   pub events : List Event
   pub kept : Undropped link events
 
+-- How a group ends, by its slaves and their answers. All slaves the same 0-length reply: that reply is sent, with the fragments in the
+-- reply buffer. Otherwise the data reply: the fragments in slave order, the status word, in which bit 9 is set unless every code is 0
+-- with DAT, and the FCS.
+pub record EndsBy (Sends : Reply → List ℕ → Type 0) (slaves : List ℕ) (said : List SlaveAnswer) (own : ℕ) : Type 0 where
+  pub common : (z : ZeroLength) → Every (Kind.Zero z) (kindsOf slaves said 0) → Sends (zeroReply z) (assembled slaves said 0)
+  pub whole : Every Kind.Whole (kindsOf slaves said 0)
+      → Sends (replied 3 (length (assembled slaves said 0) + 2)) (dataReply (assembled slaves said 0) Tally.Whole own)
+  pub mixed : ((z : ZeroLength) → Every (Kind.Zero z) (kindsOf slaves said 0) → ⊥) → (Every Kind.Whole (kindsOf slaves said 0) → ⊥)
+      → Sends (replied 3 (length (assembled slaves said 0) + 2)) (dataReply (assembled slaves said 0) Tally.Mixed own)
+
 module _ {M : Machine} (r : GroupRun M) where
   -- Where the request leaves the host, and where the calls after it do.
   abbrev pub begun : Host
@@ -92,10 +102,6 @@ module _ {M : Machine} (r : GroupRun M) where
   abbrev pub said : List SlaveAnswer
   said = heards (r .clock) slaves (r .events)
 
-  -- What each of these answers is.
-  abbrev pub kinds : List Kind
-  kinds = kindsOf slaves said 0
-
   -- The fragments of these answers, one behind the other.
   abbrev pub fragments : List ℕ
   fragments = assembled slaves said 0
@@ -110,13 +116,9 @@ module _ {M : Machine} (r : GroupRun M) where
     pub words : atLast .buffer ≡ fronted ws
     pub nothing : atLast .turn .node .pending ≡ Pending.Nothing
 
-  -- All slaves the same 0-length reply: that reply. Otherwise the data reply: the fragments in slave order, the status word, in which
-  -- bit 9 is set unless every code is 0 with DAT, and the FCS.
-  pub record Ends : Type 0 where
-    pub common : (z : ZeroLength) → Every (Kind.Zero z) kinds → Sends (zeroReply z) fragments
-    pub whole : Every Kind.Whole kinds → Sends (replied 3 (length fragments + 2)) (dataReply fragments Tally.Whole (statusIn (r .node)))
-    pub mixed : ((z : ZeroLength) → Every (Kind.Zero z) kinds → ⊥) → (Every Kind.Whole kinds → ⊥)
-        → Sends (replied 3 (length fragments + 2)) (dataReply fragments Tally.Mixed (statusIn (r .node)))
+  -- It ends, by what its slaves are heard to answer.
+  abbrev pub Ends : Type 0
+  Ends = EndsBy Sends slaves said (statusIn (r .node))
 
   -- Every slave has been heard; or there are more to come.
   abbrev pub AllHeard : Type 0

@@ -1,0 +1,35 @@
+-- The five entries meet all that the house was promised. Assumes nothing.
+use Rattle.border.specs.Exactly.{entries}
+use Rattle.border.specs.Demands.{Demands}
+use Rattle.border.proofs.Exactly.{refused-exactly}
+use Rattle.border.proofs.Kept.{always-state, no-stale-record, summary-is-true}
+use Rattle.border.proofs.Answers.{nothing-cut}
+use Rattle.border.proofs.Writes.{writes}
+use Rattle.border.proofs.ReadsBack.{reads-back}
+use Rattle.border.proofs.NeverCorrupted.{never-corrupted}
+use Rattle.border.proofs.Erasing.{erasure-follows, erases, flash-follows}
+use Rattle.border.proofs.GroupAsked.{group-is-asked}
+use Rattle.border.proofs.Groups.{group-is-its-fragments}
+use Rattle.border.proofs.ClosedRun.{closed-run}
+use Rattle.border.proofs.OneSector.{one-sector, no-bit-rises}
+
+pub demands : Demands entries
+demands =
+    record {
+      refused-exactly = refused-exactly;
+      always-state = always-state;
+      nothing-cut = nothing-cut;
+      writes = writes;
+      reads-back = reads-back;
+      never-corrupted = never-corrupted;
+      erases = erases;
+      group-is-asked = group-is-asked;
+      group-is-its-fragments = group-is-its-fragments;
+      closed-run = closed-run;
+      no-stale-record = no-stale-record;
+      summary-is-true = summary-is-true;
+      erasure-follows = erasure-follows;
+      flash-follows = flash-follows;
+      one-sector = one-sector;
+      no-bit-rises = no-bit-rises;
+    }

@@ -1,0 +1,261 @@
+-- The reply buffer of a group, in words: what slaves answer leaves as many words in it, and 16-bit words; and a request that asks a slave,
+-- or comes while another is pending, leaves it as it was. Assumes nothing.
+use Prim.Native.Nat.{ℕ, zero, suc, min, _+_, _-_, _*_, _/_, _%_, _^_, _≤_, _<_}
+use native.Mathlib.Omega.{arith}
+use mathlib.Core.Path.{_≡_, refl, sym, ap, _∙_}
+use mathlib.Core.Bool.{Bool, true, false, _&&_}
+use mathlib.Core.List.{List, [], _∷_, _++_}
+use lib.Bits.{bitXor, xor-lt}
+use lib.Dec.{ltb, leb, eqb}
+use lib.ListN.{length, getD, take, length-take}
+use borrow.Author.Tests.{leb-false}
+use Rattle.base.specs.Pick.{pick}
+use Rattle.base.specs.Words.{Below}
+use Rattle.base.proofs.Pick.{pick-case}
+use Rattle.base.proofs.Part.{below-take, below-append}
+use Rattle.fcs.specs.Fcs.{polynomial, fcsBit, fcsBits, fcsWord, fcsFrom, fcsOf}
+use Rattle.group.specs.Kind.{answer, Answer as SlaveAnswer, datOf, codeOf, kindOf}
+use Rattle.group.specs.Slaves.{above, nextOf}
+use Rattle.group.specs.Time.{isLate}
+use Rattle.group.specs.Fragment.{bitsOf, statusOf, dataOf, fragmentBy, fragmentOf, Assembly, assembly, behind, taken}
+use Rattle.group.specs.Ending.{Sent, sealed, groupStatus, endBy, endOf}
+use Rattle.group.specs.Single.{passedOn}
+use Rattle.group.specs.declared.Heard.{Heard}
+use Rattle.group.specs.declared.Kind.{Kind}
+use Rattle.group.specs.declared.Next.{Next}
+use Rattle.group.specs.declared.Reply.{Reply}
+use Rattle.group.specs.declared.Tally.{Tally}
+use Rattle.group.proofs.Changes.{end-changes, passed-changes}
+use Rattle.group.proofs.Status.{status-fits}
+use Rattle.group.proofs.Takes.{taken-changes}
+use Rattle.report.specs.Status.{ownStatus}
+use Rattle.node.specs.Effect.{Effect, Lent, Outcome}
+use Rattle.node.specs.Refusals.{isPending, replyVerdict, pollVerdict}
+use Rattle.node.specs.Settings.{statusIn}
+use Rattle.node.specs.Slaves.{heard, silent, goesOn, hears, askedAt, replyEffect, pollEffect}
+use Rattle.node.specs.Calls.{judged, lentReply, routed, requestOf, replyOf, pollOf}
+use Rattle.node.specs.declared.Answer.{Answer}
+use Rattle.node.specs.declared.Asking.{Asking}
+use Rattle.node.specs.declared.Node.{Node}
+use Rattle.node.specs.declared.Pending.{Pending}
+use Rattle.node.specs.declared.Verdict.{Verdict}
+use Rattle.node.proofs.Routes.{Command, command-words, route-case}
+use Rattle.node.proofs.Verdicts.{request-fine}
+use Rattle.demands.proofs.Taken.{verdictOn, requestEffect}
+use Rattle.border.proofs.Runs.{below-laid}
+
+-- the check sequence is a 16-bit word
+
+bit-below : (c d : ℕ) → fcsBit c d < 65536
+unfolding fcsBit
+bit-below c d = xor-lt 16 (c * 2 % 65536) (bitXor (c / 32768) d % 2 * polynomial) (omega arith) (omega arith)
+
+bits-below : (k c b : ℕ) → c < 65536 → fcsBits k c b < 65536
+unfolding fcsBits
+bits-below zero c b h = h
+bits-below (suc k) c b h = bits-below k (fcsBit c (b / 2 ^ k % 2)) b (bit-below c (b / 2 ^ k % 2))
+
+from-below : (c : ℕ) (ws : List ℕ) → c < 65536 → fcsFrom c ws < 65536
+unfolding fcsFrom fcsWord
+from-below c [] h = h
+from-below c (w ∷ ws) h = from-below (fcsWord c w) ws (bits-below 8 (fcsBits 8 c (w / 256)) (w % 256) (bits-below 8 c (w / 256) h))
+
+-- runs of few words
+
+none-below : Below 65536 []
+none-below i = omega arith
+
+cons-below : (x : ℕ) (ws : List ℕ) → x < 65536 → Below 65536 ws → Below 65536 (x ∷ ws)
+cons-below x ws h g zero = h
+cons-below x ws h g (suc i) = g i
+
+one-below : (x : ℕ) → x < 65536 → Below 65536 (x ∷ [])
+one-below x h = cons-below x [] h none-below
+
+two-below : (x y : ℕ) → x < 65536 → y < 65536 → Below 65536 (x ∷ y ∷ [])
+two-below x y h g = cons-below x (y ∷ []) h (one-below y g)
+
+-- an answer whose numbers are those of the C types, with at most as many words as the border takes
+pub record SmallAnswer (a : SlaveAnswer) : Type 0 where
+  pub words : Below 65536 (a .words)
+  pub short : length (a .words) ≤ 32768
+  pub status : a .heard .«rx_status» < 65536
+  pub address : a .heard .«rx_address» < 65536
+
+data-below : (kind : Kind) (a : SlaveAnswer) → SmallAnswer a → Below 65536 (dataOf kind a)
+data-below Kind.Late a s = none-below
+data-below Kind.Errors a s = two-below (a .heard .«rx_status») (a .heard .«rx_address») (s .status) (s .address)
+data-below (Kind.Zero z) a s = none-below
+data-below (Kind.Faulty f) a s =
+    let words : ℕ = min (length (a .words)) 65535 in
+    let first : ℕ = getD (a .words) 0 0 in
+    cons-below (a .heard .«rx_status») (words ∷ first ∷ []) (s .status) (two-below words first (omega arith) (s .words 0))
+data-below Kind.Whole a s = below-take (length (a .words) - 2) (a .words) (s .words)
+
+data-short : (kind : Kind) (a : SlaveAnswer) → SmallAnswer a → length (dataOf kind a) ≤ 32768
+data-short Kind.Late a s = omega arith
+data-short Kind.Errors a s = omega arith
+data-short (Kind.Zero z) a s = omega arith
+data-short (Kind.Faulty f) a s = omega arith
+data-short Kind.Whole a s = omega (arith, s .short, length-take (length (a .words) - 2) (a .words))
+
+fragment-below : (kind : Kind) (slave : ℕ) (a : SlaveAnswer) → SmallAnswer a → Below 65536 (fragmentBy kind slave a)
+fragment-below kind slave a s =
+    let status : ℕ = statusOf kind (a .words) slave in
+    cons-below (length (dataOf kind a) + 1) (dataOf kind a ++ (status ∷ [])) (omega (arith, data-short kind a s))
+    (below-append (dataOf kind a) (status ∷ []) (data-below kind a s)
+    (one-below status (status-fits (datOf kind) (codeOf kind) (bitsOf kind (a .words)) slave)))
+
+-- as many words, and 16-bit words
+pub record Kept (before after : List ℕ) : Type 0 where
+  pub size : length after ≡ length before
+  pub below : Below 65536 after
+
+module _ (a : SlaveAnswer) (s : SmallAnswer a) where
+  taken-kept : (m : Assembly) (k slave : ℕ) → Below 65536 (m .reply) → Kept (m .reply) (taken m k slave a .reply)
+  unfolding taken behind fragmentOf
+  taken-kept m k slave h = record { size = taken-changes m k slave a .size; below = below }
+    where
+      below : Below 65536 (taken m k slave a .reply)
+      below =
+          let kind : Kind = kindOf a (m .built .words) k in
+          let new : List ℕ = fragmentBy kind slave a in
+          pick-case (λ (x : Assembly). Below 65536 (x .reply)) (leb (m .built .words + length new) (length (m .reply)))
+          (λ _. below-laid (m .reply) (m .built .words) new h (fragment-below kind slave a s)) (λ _. h)
+
+  passed-kept : (buffer : List ℕ) → Below 65536 buffer → Kept buffer (passedOn buffer a .buffer)
+  unfolding passedOn
+  passed-kept buffer h = record { size = passed-changes buffer a .size; below = below }
+    where
+      below : Below 65536 (passedOn buffer a .buffer)
+      below =
+          let P : Sent → Type 0 = λ (x : Sent). Below 65536 (x .buffer) in
+          pick-case P (a .heard .late) (λ _. h)
+          (λ _. pick-case P (a .heard .errors) (λ _. h)
+          (λ _. pick-case P (ltb 12288 (length (a .words))) (λ _. h)
+          (λ _. pick-case P (ltb (length buffer) (length (a .words))) (λ _. h) (λ _. below-laid buffer 0 (a .words) h (s .words)))))
+
+-- the end of a group
+
+own-below : (n : Node) → statusIn n < 65536
+unfolding ownStatus
+own-below n = by (eqb (n .given .«start_tests» / 256 % 16) 0)
+  where
+    by : (t : Bool) → pick t 0 1 * 256 + n .mode / 2 % 2 * 128 + n .mode % 2 * 64 + 32 < 65536
+    by true = omega arith
+    by false = omega arith
+
+group-below : (t : Tally) (own : ℕ) → own < 65536 → groupStatus t own < 65536
+unfolding groupStatus
+group-below Tally.Nothing own h = omega arith
+group-below (Tally.Zero z) own h = omega arith
+group-below Tally.Whole own h = omega arith
+group-below Tally.Mixed own h = omega arith
+
+sealed-below : (buffer : List ℕ) (w status : ℕ) → Below 65536 buffer → status < 65536 → Below 65536 (sealed buffer w status .buffer)
+unfolding sealed
+sealed-below buffer w status h g =
+    let fcs : ℕ = fcsOf (take w buffer ++ (status ∷ [])) in
+    pick-case (λ (x : Sent). Below 65536 (x .buffer)) (leb (w + 2) (length buffer))
+    (λ _. below-laid buffer w (status ∷ fcs ∷ []) h
+    (two-below status fcs g (from-below 0xFFFF (take w buffer ++ (status ∷ [])) (omega arith))))
+    (λ _. h)
+
+end-below : (t : Tally) (buffer : List ℕ) (w own : ℕ) → Below 65536 buffer → own < 65536 → Below 65536 (endBy t buffer w own .buffer)
+end-below Tally.Nothing buffer w own h g = sealed-below buffer w (groupStatus Tally.Nothing own) h (group-below Tally.Nothing own g)
+end-below (Tally.Zero z) buffer w own h g = h
+end-below Tally.Whole buffer w own h g = sealed-below buffer w (groupStatus Tally.Whole own) h (group-below Tally.Whole own g)
+end-below Tally.Mixed buffer w own h g = sealed-below buffer w (groupStatus Tally.Mixed own) h (group-below Tally.Mixed own g)
+
+end-kept : (m : Assembly) (n : Node) → Below 65536 (m .reply) → Kept (m .reply) (endOf m (statusIn n) .buffer)
+unfolding endOf
+end-kept m n h = record { size = end-changes m (statusIn n) .size; below = below }
+  where
+    below : Below 65536 (endOf m (statusIn n) .buffer)
+    below = end-below (m .built .tally) (m .reply) (m .built .words) (statusIn n) h (own-below n)
+
+-- what is heard of a slave
+
+stays : (buffer : List ℕ) → Below 65536 buffer → Kept buffer buffer
+stays buffer h = record { size = refl; below = h }
+
+hears-kept : (p : Pending) (n : Node) (clock : ℕ) (h : Heard) (words buffer : List ℕ) → SmallAnswer (answer h words) → Below 65536 buffer
+    → Kept buffer (hears p n clock h words buffer .reply)
+hears-kept Pending.Nothing n clock h words buffer s b = stays buffer b
+hears-kept (Pending.Slave a) n clock h words buffer s b = passed-kept (answer h words) s buffer b
+hears-kept (Pending.Group a g) n clock h words buffer s b = by (nextOf (above (g .set) (a .slave)))
+  where
+    after : Assembly
+    after = taken (assembly buffer (g .built)) (length (above (g .set) (a .slave))) (a .slave) (answer h words)
+
+    so-far : Kept buffer (after .reply)
+    so-far = taken-kept (answer h words) s (assembly buffer (g .built)) (length (above (g .set) (a .slave))) (a .slave) b
+
+    by : (next : Next) → Kept buffer (goesOn n a g clock after next .reply)
+    by Next.Nobody =
+        let e = end-kept after n (so-far .below) in record { size = e .size ∙ so-far .size; below = e .below }
+    by (Next.Slave s′) = so-far
+
+judged-kept : (v : Verdict) (n : Node) (buffer : List ℕ) (e : Effect) → Below 65536 buffer → Kept buffer (e .reply)
+    → Kept buffer (judged v n (lentReply buffer) e .after .reply)
+judged-kept Verdict.Fine n buffer e b k = k
+judged-kept (Verdict.No r) n buffer e b k = stays buffer b
+
+-- a slave's reply, and a poll
+
+pub reply-kept : (n : Node) (clock slave bc : ℕ) (errors : Bool) (status address : ℕ) (words buffer : List ℕ)
+    → Below 65536 words → length words ≤ 32768 → status < 65536 → address < 65536 → Below 65536 buffer
+    → Kept buffer (replyOf n clock slave bc errors status address words buffer .after .reply)
+unfolding replyOf replyEffect
+reply-kept n clock slave bc errors status address words buffer w l s d b =
+    let h : Heard = heard (isLate clock (askedAt (n .pending))) errors status address bc in
+    judged-kept (replyVerdict n slave (length buffer)) n buffer (replyEffect n clock errors status address bc words buffer) b
+    (hears-kept (n .pending) n clock h words buffer (record { words = w; short = l; status = s; address = d }) b)
+
+pub poll-kept : (n : Node) (clock : ℕ) (buffer : List ℕ) → Below 65536 buffer → Kept buffer (pollOf n clock buffer .after .reply)
+unfolding pollOf pollEffect
+poll-kept n clock buffer b =
+    judged-kept (pollVerdict n (length buffer)) n buffer (pollEffect n clock buffer) b
+    (pick-case (λ (e : Effect). Kept buffer (e .reply)) (isLate clock (askedAt (n .pending)))
+    (λ _. hears-kept (n .pending) n clock silent [] buffer
+    (record { words = none-below; short = omega arith; status = omega arith; address = omega arith }) b)
+    (λ _. stays buffer b))
+
+-- a request that is not an own command leaves the buffer
+
+module _ (n : Node) (clock link bc : ℕ) (errors : Bool) (packet : List ℕ) (l : Lent) where
+  abbrev does : Outcome
+  does = requestOf n clock link bc errors packet l
+
+  request-leaves : (verdictOn n link packet l ≡ Verdict.Fine → (id : ℕ) → Command packet id → (x : Reply) → Answer.Reply x ≡ does .turn .answer → ⊥)
+      → does .after .reply ≡ l .reply
+  unfolding requestOf
+  request-leaves other = by (verdictOn n link packet l) refl
+    where
+      by : (v : Verdict) → verdictOn n link packet l ≡ v → judged v n l (requestEffect n clock link bc errors packet l) .after .reply ≡ l .reply
+      by (Verdict.No r) e = refl
+      by Verdict.Fine e =
+          let said : Answer = requestEffect n clock link bc errors packet l .answer in
+          let same : does .turn .answer ≡ said =
+          ap (λ (v : Verdict). judged v n l (requestEffect n clock link bc errors packet l) .turn .answer) e in
+          route-case (λ r. routed r n clock link packet l .answer ≡ said → routed r n clock link packet l .reply ≡ l .reply) n link bc errors
+          packet (λ _. refl) (λ _. refl) (λ _ _. refl) (λ id c q. absurd (other e id c _ (q ∙ sym same))) (λ s h _. refl)
+          (λ set from s named h _. refl) refl
+
+  pub asks-leaves : (a : Asking) → does .turn .answer ≡ Answer.Ask a → does .after .reply ≡ l .reply
+  asks-leaves a h = request-leaves (λ e id c x q. reply-asks x (q ∙ h))
+    where
+      reply-asks : (x : Reply) → Answer.Reply x ≡ Answer.Ask a → ⊥
+      reply-asks x e = let z : _≡_ {A = ℕ} 0 1 = cc in omega arith
+
+  pub busy-leaves : isPending (n .pending) ≡ true → does .after .reply ≡ l .reply
+  busy-leaves p = request-leaves (λ e id c x q. empty e (command-words packet id c))
+    where
+      empty : verdictOn n link packet l ≡ Verdict.Fine → 1 ≤ length packet → ⊥
+      empty e h =
+          let m = l .memories in
+          let free =
+          request-fine n link (length packet) (length (l .flash)) (length (m .pm)) (length (m .dm)) (length (m .io)) (length (l .reply)) e
+          .free in
+          let none : leb 1 (length packet) ≡ false = ap (λ (t : Bool). t && leb 1 (length packet)) (sym p) ∙ free in
+          omega (arith, leb-false 1 (length packet) none)

@@ -1,0 +1,427 @@
+-- One entry of a group's host: it is the node's call on the words, or it is refused, and nothing to the group. Assumes nothing.
+use Prim.Native.Nat.{ℕ, _+_, _/_, _%_, _≤_}
+use native.Mathlib.Omega.{arith}
+use mathlib.Core.Path.{_≡_, refl, sym, ap, _∙_, subst}
+use mathlib.Core.Bool.{Bool, true, false, _&&_, _||_, not, false≢true}
+use mathlib.Core.List.{List, [], _∷_, _++_, append-nil}
+use lib.Dec.{ltb, eqb}
+use lib.ListN.{length, take, drop, take-append-drop}
+use lib.Seq.{take-all, drop-at, length-take-le}
+use borrow.Author.Tests.{eq-eqb, eqb-false, le-ltb}
+use Rattle.base.specs.Pick.{pick}
+use Rattle.base.specs.Words.{laid, Below}
+use Rattle.base.proofs.Part.{below-take}
+use Rattle.base.proofs.Laid.{length-laid, laid-append-left}
+use Rattle.memory.specs.Segment.{Memories}
+use Rattle.group.specs.Fragment.{built}
+use Rattle.node.specs.State.{turn}
+use Rattle.node.specs.Refusals.{firstOf, slaveCause, unaskedCause, isAsked, replyVerdict, pollVerdict}
+use Rattle.node.specs.Refusals.{isPending as nodePending}
+use Rattle.node.specs.Effect.{Effect, Lent, lent, Outcome}
+use Rattle.node.specs.Slaves.{ask, gathering, replyEffect, pollEffect}
+use Rattle.node.specs.Calls.{judged, lentReply, replyOf, pollOf}
+use Rattle.node.specs.declared.Answer.{Answer}
+use Rattle.node.specs.declared.Ask.{Ask}
+use Rattle.node.specs.declared.Gathering.{Gathering}
+use Rattle.node.specs.declared.Node.{Node}
+use Rattle.node.specs.declared.Pending.{Pending}
+use Rattle.node.specs.declared.Refusal.{Refusal}
+use Rattle.node.specs.declared.Verdict.{Verdict}
+use Rattle.demands.specs.Machine.{logodwen, flashOf, isRefused}
+use Rattle.demands.specs.Reached.{stateAfter as nodeAfter}
+use Rattle.demands.specs.Events.{Event as Call, Host as NodeHost, host as nodeHost, slaveIn as slaveAsked, stepped as nodeStepped}
+use Rattle.demands.proofs.Taken.{reply-taken, poll-taken}
+use Rattle.logodwen.specs.Bytes.{wordsIn, wordsOf, bytesOf, storeWords}
+use Rattle.logodwen.specs.StateBytes.{tallyOf, waitIn, nodeIn, areState}
+use Rattle.logodwen.specs.Number.{answerNumber}
+use Rattle.logodwen.specs.Causes.{bytesCause, replyCheck, pollCheck}
+use Rattle.logodwen.specs.Entry.{Answered, entered, memoryWords, replyWords, isSet, replyEntry, pollEntry}
+use Rattle.logodwen.specs.declared.Wait.{Wait}
+use Rattle.logodwen.proofs.Runs.{length-words-of, length-bytes, length-store, store-words, words-take}
+use Rattle.logodwen.proofs.ThereAndBack.{words-read}
+use Rattle.border.specs.Exactly.{entries, Stays}
+use Rattle.border.specs.Host.{Entry, InC, onWords, isDone}
+use Rattle.border.specs.Answers.{Says, answerIn}
+use Rattle.border.specs.Events.{Event, entryOf, Host, slaveIn, stepped, isPending}
+use Rattle.border.proofs.Runs.{words-of-below, stored-below, laid-front, store-laid, store-front}
+use Rattle.border.proofs.Fine.{state-sound}
+use Rattle.border.proofs.Exactly.{done-low, refused-exactly}
+use Rattle.border.proofs.Steps.{Made, outcomeOf, done-made}
+use Rattle.border.proofs.Stands.{Stands, made-moves}
+use Rattle.border.proofs.Answers.{nothing-cut}
+use Rattle.border.proofs.GroupBuffers.{Kept, reply-kept, poll-kept, busy-leaves}
+
+-- the words of a reply buffer
+
+pub length-reply : (buffer : List ℕ) → 24576 ≤ length buffer → length (replyWords buffer) ≡ 12288
+length-reply buffer h = length-words-of 2 (take 24576 buffer) ∙ ap (_/ 2) (length-take-le 24576 buffer h)
+
+reply-below : (buffer : List ℕ) → Below 256 buffer → Below 65536 (replyWords buffer)
+reply-below buffer h = words-of-below (take 24576 buffer) (below-take 24576 buffer h)
+
+-- left as they were
+pub left : (buffer : List ℕ) {after : List ℕ} → Below 256 buffer → after ≡ replyWords buffer → Kept (replyWords buffer) after
+left buffer h e = record { size = ap length e; below = subst (λ (x : List ℕ). Below 65536 x) (sym e) (reply-below buffer h) }
+
+-- words stored over all of them are then its words, whatever was stored before
+stored-reply : (ws buffer : List ℕ) → length ws ≡ 12288 → Below 65536 ws → replyWords (storeWords 2 ws buffer) ≡ ws
+stored-reply ws buffer n h =
+    let all : take 12288 ws ≡ ws = take-all 12288 ws (omega (arith, n)) in
+    ap (wordsOf 2) (store-front ws buffer 12288 (omega (arith, n)) ∙ ap (bytesOf 2) all) ∙ words-read 2 (omega arith) ws h
+
+stored-twice : (new old buffer : List ℕ) → length new ≡ length old → storeWords 2 new (storeWords 2 old buffer) ≡ storeWords 2 new buffer
+stored-twice new old buffer e =
+    let x : List ℕ = bytesOf 2 old in
+    let y : List ℕ = bytesOf 2 new in
+    let n : length x ≡ length y = omega (arith, length-bytes 2 old, length-bytes 2 new, e) in
+    let rest : List ℕ = drop (0 + length x) buffer in
+    laid-front (laid buffer 0 x) y
+    ∙ ap (λ (l : List ℕ). y ++ drop (0 + length y) l) (laid-front buffer x)
+    ∙ ap (λ (l : List ℕ). y ++ l) (drop-at x rest (0 + length y) (omega (arith, n)))
+    ∙ ap (λ (k : ℕ). y ++ drop (0 + k) buffer) n
+    ∙ sym (laid-front buffer y)
+
+pub kept-reply : (buffer : List ℕ) → 24576 ≤ length buffer → Below 256 buffer → storeWords 2 (replyWords buffer) buffer ≡ buffer
+unfolding wordsOf
+kept-reply buffer long h =
+    let n : length (take 24576 buffer) / 2 ≡ 12288 = ap (_/ 2) (length-take-le 24576 buffer long) in
+    ap (λ (k : ℕ). storeWords 2 (wordsIn 2 k (take 24576 buffer)) buffer) n
+    ∙ ap (λ (ws : List ℕ). storeWords 2 ws buffer) (words-take 2 12288 buffer)
+    ∙ store-words 2 12288 buffer long h
+
+-- words laid at their front are bytes laid at its front
+pub laid-reply : (ws buffer : List ℕ) → 24576 ≤ length buffer → Below 256 buffer → length ws ≤ 12288
+    → storeWords 2 (laid (replyWords buffer) 0 ws) buffer ≡ storeWords 2 ws buffer
+laid-reply ws buffer long h fits =
+    let a : List ℕ = take 24576 buffer in
+    let c : List ℕ = drop 24576 buffer in
+    let all : List ℕ = laid (replyWords buffer) 0 ws in
+    let la : length a ≡ 24576 = length-take-le 24576 buffer long in
+    let lw = length-reply buffer long in
+    let lall : length all ≡ 12288 = length-laid (replyWords buffer) 0 ws (omega (arith, lw, fits)) ∙ lw in
+    let whole : a ++ c ≡ buffer = take-append-drop 24576 buffer in
+    ap (storeWords 2 all) (sym whole)
+    ∙ laid-append-left a c 0 (bytesOf 2 all) (omega (arith, la, lall, length-bytes 2 all))
+    ∙ ap (λ (l : List ℕ). l ++ c) (store-laid a 0 ws (below-take 24576 buffer h) (omega (arith, lw, fits)))
+    ∙ sym (laid-append-left a c 0 (bytesOf 2 ws) (omega (arith, la, fits, length-bytes 2 ws)))
+    ∙ ap (storeWords 2 ws) whole
+
+-- something is pending in the bytes where it is in the state that they stand for
+pub pending-is : (state : List ℕ) → nodePending (nodeIn state .pending) ≡ isPending state
+unfolding nodeIn
+pending-is state =
+    let w : Wait = waitIn state in
+    by (eqb (w .pending) 1) (eqb (w .pending) 2) (ask (w .link) (w .slave) (w .at))
+    (gathering (w .set) (w .from) (built (w .words) (tallyOf (w .tally))))
+  where
+    by : (t u : Bool) (a : Ask) (g : Gathering)
+        → nodePending (pick t (Pending.Slave a) (pick u (Pending.Group a g) Pending.Nothing)) ≡ (t || u)
+    by true u a g = refl
+    by false true a g = refl
+    by false false a g = refl
+
+-- the host of the words
+abbrev pub inWords : Answer → Host → NodeHost
+inWords a h = record { turn = turn (nodeIn (h .state)) a; flash = wordsOf 2 (h .flash); buffer = replyWords (h .buffer); asked = h .asked }
+
+-- the bytes stand for a state and its flash, and the reply buffer is as it was first lent but for its words
+pub record Holds (first : List ℕ) (h : Host) : Type 0 where
+  pub stands : Stands (h .state) (h .flash)
+  pub long : 24576 ≤ length (h .buffer)
+  pub bytes : Below 256 (h .buffer)
+  pub front : h .buffer ≡ storeWords 2 (replyWords (h .buffer)) first
+
+-- with nothing pending, the number says the answer
+abbrev pub Told : Host → Answer → Type 0
+Told h a = isPending (h .state) ≡ false → Says (h .number) a
+
+-- an entry that is a call
+pub record Called (first : List ℕ) (w : Call) (e : Event) (h : Host) : Type 0 where
+  pub answer : Answer
+  pub is : (a : Answer) → nodeStepped logodwen w (inWords a h) ≡ inWords answer (stepped entries e h)
+  pub holds : Holds first (stepped entries e h)
+  pub told : Told (stepped entries e h) answer
+
+-- the call that it is, whatever its length, and what that comes to
+
+abbrev pub wordOf : Event → Call
+wordOf (Event.Requested clock link bc errors packet m) = Call.Requested clock link bc (isSet errors) (wordsOf 2 packet) (memoryWords m)
+wordOf (Event.Replied clock slave bc errors status address packet) =
+    Call.Replied clock slave bc (isSet errors) status address (wordsOf 2 packet)
+wordOf (Event.Polled clock) = Call.Polled clock
+wordOf (Event.Erased budget) = Call.Erased budget
+
+abbrev pub does : Event → Host → Outcome
+does e h = outcomeOf (entryOf e (h .buffer)) (h .state) (h .flash)
+
+abbrev pub bufferOf : Event → Host → List ℕ
+bufferOf (Event.Requested clock link bc errors packet m) h = does (Event.Requested clock link bc errors packet m) h .after .reply
+bufferOf (Event.Replied clock slave bc errors status address packet) h =
+    does (Event.Replied clock slave bc errors status address packet) h .after .reply
+bufferOf (Event.Polled clock) h = does (Event.Polled clock) h .after .reply
+bufferOf (Event.Erased budget) h = replyWords (h .buffer)
+
+stepped-is : (e : Event) (h : Host) (a : Answer)
+    → nodeStepped logodwen (wordOf e) (inWords a h)
+    ≡ nodeHost (h .asked) (does e h .turn)
+    (flashOf logodwen (onWords (entryOf e (h .buffer))) (nodeIn (h .state)) (wordsOf 2 (h .flash))) (bufferOf e h)
+stepped-is (Event.Requested clock link bc errors packet m) h a = refl
+stepped-is (Event.Replied clock slave bc errors status address packet) h a = refl
+stepped-is (Event.Polled clock) h a = refl
+stepped-is (Event.Erased budget) h a = refl
+
+node-is : (e : Event) (h : Host)
+    → nodeAfter logodwen (onWords (entryOf e (h .buffer))) (nodeIn (h .state)) (wordsOf 2 (h .flash)) ≡ does e h .turn .node
+node-is (Event.Requested clock link bc errors packet m) h = refl
+node-is (Event.Replied clock slave bc errors status address packet) h = refl
+node-is (Event.Polled clock) h = refl
+node-is (Event.Erased budget) h = refl
+
+answer-is : (e : Event) (h : Host) → answerIn (entryOf e (h .buffer)) (h .state) (h .flash) ≡ does e h .turn .answer
+answer-is (Event.Requested clock link bc errors packet m) h = refl
+answer-is (Event.Replied clock slave bc errors status address packet) h = refl
+answer-is (Event.Polled clock) h = refl
+answer-is (Event.Erased budget) h = refl
+
+buffer-is : {first : List ℕ} (e : Event) (h : Host) → Holds first h → Made (entryOf e (h .buffer)) (h .state) (h .flash)
+    → stepped entries e h .buffer ≡ storeWords 2 (bufferOf e h) (h .buffer)
+buffer-is (Event.Requested clock link bc errors packet m) h k made = ap (λ (a : Answered). a .runs .reply) (made .does)
+buffer-is (Event.Replied clock slave bc errors status address packet) h k made = ap (λ (a : Answered). a .runs .reply) (made .does)
+buffer-is (Event.Polled clock) h k made = ap (λ (a : Answered). a .runs .reply) (made .does)
+buffer-is (Event.Erased budget) h k made = sym (kept-reply (h .buffer) (k .long) (k .bytes))
+
+in-c : (e : Event) (buffer : List ℕ) → InC (entryOf e []) → Below 256 buffer → InC (entryOf e buffer)
+in-c (Event.Requested clock link bc errors packet m) buffer c b = (c .0, c .1, c .2, c .3, c .4, c .5, c .6, c .7, b)
+in-c (Event.Replied clock slave bc errors status address packet) buffer c b = (c .0, c .1, c .2, c .3, c .4, c .5, c .6, b)
+in-c (Event.Polled clock) buffer c b = (c .0, b)
+in-c (Event.Erased budget) buffer c b = c
+
+-- the slave that a number says to ask is the one that the answer says
+says-asks : (number : ℕ) (a : Answer) → Says number a → slaveIn number ≡ slaveAsked a
+says-asks number (Answer.Refused r) s = absurd s
+says-asks number Answer.Started s = λ i. pick (eqb (s .done i) 0 && eqb (s .kind i) 2) (number / 65536 % 256 ∷ []) []
+says-asks number (Answer.Reply r) s = λ i. pick (eqb (s .done i) 0 && eqb (s .kind i) 2) (number / 65536 % 256 ∷ []) []
+says-asks number (Answer.Ask a) s = λ i. pick (eqb (s .done i) 0 && eqb (s .kind i) 2) (s .who i ∷ []) []
+says-asks number Answer.Waiting s = λ i. pick (eqb (s .done i) 0 && eqb (s .kind i) 2) (number / 65536 % 256 ∷ []) []
+says-asks number (Answer.Erased count) s = λ i. pick (eqb (s .done i) 0 && eqb (s .kind i) 2) (number / 65536 % 256 ∷ []) []
+
+-- an entry that is done is its call
+pub done-called : (first : List ℕ) (e : Event) (h : Host) → Holds first h → InC (entryOf e [])
+    → isDone (stepped entries e h .number) ≡ true → Kept (replyWords (h .buffer)) (bufferOf e h) → Called first (wordOf e) e h
+done-called first e h k c done b =
+    let entry : Entry = entryOf e (h .buffer) in
+    let made = done-made entry (h .state) (h .flash) done in
+    let moved = made-moves entry (h .state) (h .flash) (in-c e (h .buffer) c (k .bytes)) (k .stands) made in
+    let after : Host = stepped entries e h in
+    let ws : List ℕ = bufferOf e h in
+    let size : length ws ≡ 12288 = b .size ∙ length-reply (h .buffer) (k .long) in
+    let stored : after .buffer ≡ storeWords 2 ws (h .buffer) = buffer-is e h k made in
+    let words : replyWords (after .buffer) ≡ ws = ap replyWords stored ∙ stored-reply ws (h .buffer) size (b .below) in
+    let node : nodeIn (after .state) ≡ does e h .turn .node = moved .node ∙ node-is e h in
+    let said : Answer = does e h .turn .answer in
+    let says : Says (after .number) said =
+    subst (λ (a : Answer). Says (after .number) a) (answer-is e h) (nothing-cut entry (h .state) (h .flash) done .0) in
+    let asks : slaveIn (after .number) ≡ slaveAsked said = says-asks (after .number) said says in
+    record {
+      answer = said;
+      is = λ a. stepped-is e h a
+          ∙ (λ i. record { turn = turn (sym node i) said; flash = sym (moved .words) i; buffer = sym words i; asked = h .asked ++ sym asks i });
+      holds = record {
+        stands = moved .stands;
+        long = subst (λ (l : List ℕ). 24576 ≤ length l) (sym stored) (omega (arith, length-store 2 ws (h .buffer) (omega (arith, size, k .long)), k .long));
+        bytes = subst (λ (l : List ℕ). Below 256 l) (sym stored) (stored-below ws (h .buffer) (k .bytes));
+        front =
+            stored
+            ∙ ap (storeWords 2 ws) (k .front)
+            ∙ stored-twice ws (replyWords (h .buffer)) first (b .size)
+            ∙ ap (λ (x : List ℕ). storeWords 2 x first) (sym words);
+      };
+      told = λ _. says;
+    }
+
+-- an entry that isn't done leaves all bytes
+
+pub record Same (e : Event) (h : Host) : Type 0 where
+  pub state : stepped entries e h .state ≡ h .state
+  pub flash : stepped entries e h .flash ≡ h .flash
+  pub buffer : stepped entries e h .buffer ≡ h .buffer
+  pub asked : stepped entries e h .asked ≡ h .asked
+
+none-asked : (e : Event) (h : Host) → isDone (stepped entries e h .number) ≡ false → stepped entries e h .asked ≡ h .asked
+none-asked e h u =
+    let number : ℕ = stepped entries e h .number in
+    ap (λ (t : Bool). h .asked ++ pick (t && eqb (number / 256 % 256) 2) (number / 65536 % 256 ∷ []) []) u ∙ append-nil (h .asked)
+
+pub undone-same : (e : Event) (h : Host) → isDone (stepped entries e h .number) ≡ false → Same e h
+undone-same (Event.Requested clock link bc errors packet m) h u =
+    let s : Stays _ (h .state) (lent (h .flash) m (h .buffer)) =
+    refused-exactly .request clock link bc errors packet (h .state) (lent (h .flash) m (h .buffer)) .1 (eqb-false _ 0 u) in
+    record {
+      state = s .bytes;
+      flash = ap (λ (l : Lent). l .flash) (s .lent);
+      buffer = ap (λ (l : Lent). l .reply) (s .lent);
+      asked = none-asked (Event.Requested clock link bc errors packet m) h u;
+    }
+undone-same (Event.Replied clock slave bc errors status address packet) h u =
+    let s = refused-exactly .reply clock slave bc errors status address packet (h .state) (h .buffer) .1 (eqb-false _ 0 u) in
+    record { state = s .bytes; flash = refl; buffer = ap (λ (l : Lent). l .reply) (s .lent); asked = none-asked (Event.Replied clock slave bc errors status address packet) h u }
+undone-same (Event.Polled clock) h u =
+    let s = refused-exactly .poll clock (h .state) (h .buffer) .1 (eqb-false _ 0 u) in
+    record { state = s .bytes; flash = refl; buffer = ap (λ (l : Lent). l .reply) (s .lent); asked = none-asked (Event.Polled clock) h u }
+undone-same (Event.Erased budget) h u =
+    let s = refused-exactly .erase budget (h .state) (h .flash) .1 (eqb-false _ 0 u) in
+    record { state = s .bytes; flash = ap (λ (l : Lent). l .flash) (s .lent); buffer = refl; asked = none-asked (Event.Erased budget) h u }
+
+module _ {e : Event} {h : Host} (s : Same e h) where
+  pub same-words : (a : Answer) → inWords a (stepped entries e h) ≡ inWords a h
+  same-words a =
+      λ i. record { turn = turn (nodeIn (s .state i)) a; flash = wordsOf 2 (s .flash i); buffer = replyWords (s .buffer i); asked = s .asked i }
+
+  pub same-holds : {first : List ℕ} → Holds first h → Holds first (stepped entries e h)
+  same-holds {first} k =
+      record {
+        stands = subst (λ (x : List ℕ). Stands x (stepped entries e h .flash)) (sym (s .state)) (subst (λ (x : List ℕ). Stands (h .state) x) (sym (s .flash)) (k .stands));
+        long = subst (λ (x : List ℕ). 24576 ≤ length x) (sym (s .buffer)) (k .long);
+        bytes = subst (λ (x : List ℕ). Below 256 x) (sym (s .buffer)) (k .bytes);
+        front = subst (λ (x : List ℕ). x ≡ storeWords 2 (replyWords x) first) (sym (s .buffer)) (k .front);
+      }
+
+  -- and with something pending before, it still is
+  pub same-told : (a : Answer) → isPending (h .state) ≡ true → Told (stepped entries e h) a
+  same-told a p q = absurd (false≢true (sym q ∙ ap isPending (s .state) ∙ p))
+
+-- a reply or a poll that is refused at the border is refused by the node
+
+record Refuses (w : Call) (h : Host) : Type 0 where
+  refusal : Refusal
+  is : (a : Answer) → nodeStepped logodwen w (inWords a h) ≡ inWords (Answer.Refused refusal) h
+
+refused-called : {first : List ℕ} {w : Call} {e : Event} {h : Host} → Holds first h → isPending (h .state) ≡ true → Same e h → Refuses w h
+    → Called first w e h
+refused-called k p s r =
+    let a : Answer = Answer.Refused (r .refusal) in
+    record { answer = a; is = λ b. r .is b ∙ sym (same-words s a); holds = same-holds s k; told = same-told s a p }
+
+-- the causes of the border are then those of the node
+same-reply : (slave : ℕ) (packet state buffer : List ℕ) → areState state ≡ true → 24576 ≤ length buffer → length packet / 2 ≤ 32768
+    → replyCheck slave (length packet / 2) state (length buffer / 2) ≡ replyVerdict (nodeIn state) slave (length (replyWords buffer))
+unfolding replyCheck replyVerdict
+same-reply slave packet state buffer ok long short =
+    let asked : Verdict = pick (not (isAsked (nodeIn state .pending) slave)) (Verdict.No Refusal.Unasked) Verdict.Fine in
+    let room : ltb (length buffer / 2) 12288 ≡ false = le-ltb (length buffer / 2) 12288 (omega arith) in
+    let fits : ltb 32768 (length packet / 2) ≡ false = le-ltb 32768 (length packet / 2) short in
+    let space : ltb (length (replyWords buffer)) 12288 ≡ false =
+    le-ltb (length (replyWords buffer)) 12288 (omega (arith, length-reply buffer long)) in
+    (λ i. pick (room i) (Verdict.No Refusal.ReplySize) (pick (fits i) (Verdict.No Refusal.MemorySize)
+    (pick (ltb 23 slave) (Verdict.No Refusal.Number) (pick (not (ok i)) (Verdict.No Refusal.State) asked))))
+    ∙ sym (λ i. pick (space i) (Verdict.No Refusal.ReplySize)
+    (pick (ltb 23 slave) (Verdict.No Refusal.Number) (pick (not (state-sound state ok i)) (Verdict.No Refusal.State) asked)))
+
+same-poll : (state buffer : List ℕ) → areState state ≡ true → 24576 ≤ length buffer
+    → pollCheck state (length buffer / 2) ≡ pollVerdict (nodeIn state) (length (replyWords buffer))
+unfolding pollCheck pollVerdict
+same-poll state buffer ok long =
+    let waits : Verdict = pick (not (nodePending (nodeIn state .pending))) (Verdict.No Refusal.Unasked) Verdict.Fine in
+    let room : ltb (length buffer / 2) 12288 ≡ false = le-ltb (length buffer / 2) 12288 (omega arith) in
+    let space : ltb (length (replyWords buffer)) 12288 ≡ false =
+    le-ltb (length (replyWords buffer)) 12288 (omega (arith, length-reply buffer long)) in
+    (λ i. pick (room i) (Verdict.No Refusal.ReplySize) (pick (not (ok i)) (Verdict.No Refusal.State) waits))
+    ∙ sym (λ i. pick (space i) (Verdict.No Refusal.ReplySize) (pick (not (state-sound state ok i)) (Verdict.No Refusal.State) waits))
+
+-- an entry whose verdict is the node's, and that isn't done: the node refuses
+refuses : (w : Call) (h : Host) (check v : Verdict) (e : Effect) → check ≡ v → isRefused (e .answer) ≡ false
+    → let o : Outcome = judged v (nodeIn (h .state)) (lentReply (replyWords (h .buffer))) e in
+    isDone (entered check (h .state) (lentReply (h .buffer)) o .number) ≡ false
+    → ((a : Answer) → nodeStepped logodwen w (inWords a h) ≡ nodeHost (h .asked) (o .turn) (wordsOf 2 (h .flash)) (o .after .reply))
+    → Refuses w h
+refuses w h check Verdict.Fine e q t u is =
+    let o : Outcome = judged Verdict.Fine (nodeIn (h .state)) (lentReply (replyWords (h .buffer))) e in
+    let done = eq-eqb (answerNumber (e .answer) % 256) 0 (done-low (e .answer) t) in
+    let path = ap (λ (c : Verdict). isDone (entered c (h .state) (lentReply (h .buffer)) o .number)) q in
+    absurd (false≢true (sym u ∙ path ∙ done))
+refuses w h check (Verdict.No r) e q t u is =
+    record {
+      refusal = r;
+      is = λ a. is a
+          ∙ (λ i. record {
+            turn = turn (nodeIn (h .state)) (Answer.Refused r);
+            flash = wordsOf 2 (h .flash);
+            buffer = replyWords (h .buffer);
+            asked = append-nil (h .asked) i;
+          });
+    }
+
+module _ {first : List ℕ} (h : Host) (k : Holds first h) (p : isPending (h .state) ≡ true) where
+  pending : nodePending (nodeIn (h .state) .pending) ≡ true
+  pending = pending-is (h .state) ∙ p
+
+  abbrev n : Node
+  n = nodeIn (h .state)
+
+  abbrev buffer : List ℕ
+  buffer = replyWords (h .buffer)
+
+  -- the four kinds of entries: a reply and a poll are calls ..
+  pub reply-called : (clock slave bc errors status address : ℕ) (packet : List ℕ)
+      → let e : Event = Event.Replied clock slave bc errors status address packet in
+      InC (entryOf e []) → length packet / 2 ≤ 32768 → Called first (wordOf e) e h
+  unfolding replyEntry replyOf
+  reply-called clock slave bc errors status address packet c short = by (isDone (stepped entries e h .number)) refl
+    where
+      e : Event
+      e = Event.Replied clock slave bc errors status address packet
+
+      words : List ℕ
+      words = wordsOf 2 packet
+
+      by : (t : Bool) → isDone (stepped entries e h .number) ≡ t → Called first (wordOf e) e h
+      by true d =
+          done-called first e h k c d
+          (reply-kept n clock slave bc (isSet errors) status address words buffer (words-of-below packet (c .6))
+          (omega (arith, length-words-of 2 packet, short)) (c .4) (c .5) (reply-below (h .buffer) (k .bytes)))
+      by false u =
+          refused-called k p (undone-same e h u)
+          (refuses (wordOf e) h (replyCheck slave (length packet / 2) (h .state) (length (h .buffer) / 2))
+          (replyVerdict n slave (length buffer)) (replyEffect n clock (isSet errors) status address bc words buffer)
+          (same-reply slave packet (h .state) (h .buffer) (k .stands .bytes) (k .long) short)
+          (reply-taken n clock (isSet errors) status address bc words buffer) u (λ a. refl))
+
+  -- one that is too long isn't done
+  pub long-undone : (clock slave bc errors status address : ℕ) (packet : List ℕ) → ltb 32768 (length packet / 2) ≡ true
+      → isDone (stepped entries (Event.Replied clock slave bc errors status address packet) h .number) ≡ false
+  unfolding replyEntry replyCheck
+  long-undone clock slave bc errors status address packet long =
+      let e : Event = Event.Replied clock slave bc errors status address packet in
+      let room : ltb (length (h .buffer) / 2) 12288 ≡ false = le-ltb (length (h .buffer) / 2) 12288 (omega (arith, k .long)) in
+      let rest : Verdict = firstOf (slaveCause slave ∷ bytesCause (h .state) ∷ unaskedCause n slave ∷ []) in
+      let check : replyCheck slave (length packet / 2) (h .state) (length (h .buffer) / 2) ≡ Verdict.No Refusal.MemorySize =
+      λ i. pick (room i) (Verdict.No Refusal.ReplySize) (pick (long i) (Verdict.No Refusal.MemorySize) rest) in
+      ap (λ (v : Verdict). isDone (entered v (h .state) (lentReply (h .buffer)) (does e h) .number)) check
+
+  pub poll-called : (clock : ℕ) → let e : Event = Event.Polled clock in InC (entryOf e []) → Called first (wordOf e) e h
+  unfolding pollEntry pollOf
+  poll-called clock c = by (isDone (stepped entries e h .number)) refl
+    where
+      e : Event
+      e = Event.Polled clock
+
+      by : (t : Bool) → isDone (stepped entries e h .number) ≡ t → Called first (wordOf e) e h
+      by true d = done-called first e h k c d (poll-kept n clock buffer (reply-below (h .buffer) (k .bytes)))
+      by false u =
+          refused-called k p (undone-same e h u)
+          (refuses (wordOf e) h (pollCheck (h .state) (length (h .buffer) / 2)) (pollVerdict n (length buffer)) (pollEffect n clock buffer)
+          (same-poll (h .state) (h .buffer) (k .stands .bytes) (k .long)) (poll-taken n clock buffer) u (λ a. refl))
+
+  -- .. a request and erase progress are, if they are done
+  pub request-called : (clock link bc errors : ℕ) (packet : List ℕ) (m : Memories)
+      → let e : Event = Event.Requested clock link bc errors packet m in
+      InC (entryOf e []) → isDone (stepped entries e h .number) ≡ true → Called first (wordOf e) e h
+  request-called clock link bc errors packet m c d =
+      let e : Event = Event.Requested clock link bc errors packet m in
+      let l : Lent = lent (wordsOf 2 (h .flash)) (memoryWords m) buffer in
+      done-called first e h k c d
+      (left (h .buffer) (k .bytes) (busy-leaves n clock link bc (isSet errors) (wordsOf 2 packet) l pending))
+
+  pub erase-called : (budget : ℕ) → let e : Event = Event.Erased budget in
+      InC (entryOf e []) → isDone (stepped entries e h .number) ≡ true → Called first (wordOf e) e h
+  erase-called budget c d = done-called first (Event.Erased budget) h k c d (left (h .buffer) (k .bytes) refl)

@@ -1,0 +1,47 @@
+-- What the house was promised of the C library, on one page: the sentences of the three demands in their order, and beneath each the
+-- statements that stand for it, over the bytes that a host lends and keeps. They are those of the node (demands/specs/Demands), and the
+-- answer's number beside them. That every entry gets an answer, and that it is the node's call on the words of the bytes, is the contract of
+-- the five entries, which has no condition. Assumes nothing.
+use Rattle.border.specs.Exactly.{Entries, RefusedExactly}
+use Rattle.border.specs.Kept.{AlwaysState, NoStaleRecord, SummaryIsTrue}
+use Rattle.border.specs.Answers.{NothingCut}
+use Rattle.border.specs.Writes.{Writes}
+use Rattle.border.specs.ReadsBack.{ReadsBack}
+use Rattle.border.specs.NeverCorrupted.{NeverCorrupted}
+use Rattle.border.specs.Erasing.{ErasureFollows, Erases, FlashFollows}
+use Rattle.border.specs.Groups.{GroupIsAsked, GroupIsItsFragments}
+use Rattle.border.specs.Flash.{OneSector, NoBitRises}
+use Rattle.border.specs.ClosedRun.{ClosedRun}
+
+pub record Demands (E : Entries) : Type 0 where
+  -- 1 Conduct. Refusals come for their listed causes and no other, and change nothing.
+  pub refused-exactly : RefusedExactly E
+  -- No state bytes that a host has after a start are refused by 5.
+  pub always-state : AlwaysState E
+  -- The number has the node's answer in its bits, whole.
+  pub nothing-cut : NothingCut E
+
+  -- 2 Fidelity. What is written reads back: a file that fits is answered END; whatever is answered END stands in the flash, and reads back
+  -- until it is erased or its attribute set.
+  pub writes : Writes E
+  pub reads-back : ReadsBack E
+  -- A corrupted file is never handed out or loaded.
+  pub never-corrupted : NeverCorrupted E
+  -- An erasure sets the words that its progress is given, from the low end, and counts them, whatever entries come between.
+  pub erases : Erases E
+  -- A group reply is its slaves' fragments in order, each slave of the set asked once; meanwhile no byte is stored past those built.
+  pub group-is-asked : GroupIsAsked E
+  pub group-is-its-fragments : GroupIsItsFragments E
+  -- One run, worked out: start, File Write, File Read.
+  pub closed-run : ClosedRun E
+
+  -- 3 No stale record. After any sequence of entries, refused ones and half-done erasures included, the directory kept in the state bytes is
+  -- the one worked out afresh from the flash's bytes and the erasure in progress; and so is what Flash Summary answers.
+  pub no-stale-record : NoStaleRecord E
+  pub summary-is-true : SummaryIsTrue E
+  -- What is being erased, and what is written to the flash, follows the commands.
+  pub erasure-follows : ErasureFollows E
+  pub flash-follows : FlashFollows E
+  -- An entry changes flash in one file sector at most; no bit goes from 0 to 1 but by erasing.
+  pub one-sector : OneSector E
+  pub no-bit-rises : NoBitRises E

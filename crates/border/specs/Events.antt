@@ -1,0 +1,85 @@
+-- The entries of one group as its host makes them: each lent the bytes that the entry before left. 01 'Call refusals' and 'Group
+-- assembly'. Assumes nothing.
+use Prim.Native.Nat.{ℕ, _/_, _%_}
+use mathlib.Core.Bool.{Bool, _&&_, _||_}
+use mathlib.Core.List.{List, [], _∷_, _++_}
+use lib.Dec.{ltb, eqb}
+use lib.ListN.{length}
+use Rattle.base.specs.Pick.{pick}
+use Rattle.memory.specs.Segment.{Memories}
+use Rattle.demands.specs.Events.{Event as Call}
+use Rattle.logodwen.specs.Bytes.{numberAt, wordsOf}
+use Rattle.logodwen.specs.Entry.{Answered, memoryWords, isSet}
+use Rattle.border.specs.Exactly.{Entries}
+use Rattle.border.specs.Host.{Entry, InC, answerOf, flashLeft, isDone}
+
+-- The entries that a host may make while a group is pending, with all that they are given and lent but state, flash and reply buffer.
+pub data Event : Type 0 where
+  Requested : (clock link bc errors : ℕ) (packet : List ℕ) (m : Memories) → Event
+  Replied : (clock slave bc errors status address : ℕ) (packet : List ℕ) → Event
+  Polled : (clock : ℕ) → Event
+  Erased : (budget : ℕ) → Event
+
+-- The entry, lent a reply buffer; erase progress isn't lent one. And the reply buffer after it.
+abbrev pub entryOf : Event → List ℕ → Entry
+entryOf (Event.Requested clock link bc errors packet m) buffer = Entry.Request clock link bc errors packet m buffer
+entryOf (Event.Replied clock slave bc errors status address packet) buffer = Entry.Reply clock slave bc errors status address packet buffer
+entryOf (Event.Polled clock) buffer = Entry.Poll clock buffer
+entryOf (Event.Erased budget) buffer = Entry.Erase budget
+
+abbrev pub bufferLeft : Event → Answered → List ℕ → List ℕ
+bufferLeft (Event.Requested clock link bc errors packet m) a buffer = a .runs .reply
+bufferLeft (Event.Replied clock slave bc errors status address packet) a buffer = a .runs .reply
+bufferLeft (Event.Polled clock) a buffer = a .runs .reply
+bufferLeft (Event.Erased budget) a buffer = buffer
+
+-- The node's calls that they are, on words. A reply of more than 32,768 words is refused, so it is none.
+abbrev pub callOf : Event → List Call
+callOf (Event.Requested clock link bc errors packet m) =
+    Call.Requested clock link bc (isSet errors) (wordsOf 2 packet) (memoryWords m) ∷ []
+callOf (Event.Replied clock slave bc errors status address packet) =
+    pick (ltb 32768 (length packet / 2)) [] (Call.Replied clock slave bc (isSet errors) status address (wordsOf 2 packet) ∷ [])
+callOf (Event.Polled clock) = Call.Polled clock ∷ []
+callOf (Event.Erased budget) = Call.Erased budget ∷ []
+
+unfoldable pub callsOf : List Event → List Call
+callsOf [] = []
+callsOf (e ∷ es) = callOf e ++ callsOf es
+
+-- What the C types say of them.
+unfoldable pub AllInC : List Event → Type 0
+AllInC [] = Unit {0}
+AllInC (e ∷ es) = InC (entryOf e []) × AllInC es
+
+-- Where the host stands: the last number, the bytes of state, flash and reply buffer, and the slaves that the numbers said to ask.
+pub record Host : Type 0 where
+  pub number : ℕ
+  pub state : List ℕ
+  pub flash : List ℕ
+  pub buffer : List ℕ
+  pub asked : List ℕ
+
+-- The slave that a number says to ask: one that is done and has kind 2 in bits 15-8, the slave in 23-16.
+abbrev pub slaveIn : ℕ → List ℕ
+slaveIn number = pick (isDone number && eqb (number / 256 % 256) 2) (number / 65536 % 256 ∷ []) []
+
+-- One entry, lent the bytes that the entry before left.
+abbrev pub stepped : Entries → Event → Host → Host
+stepped E e h =
+    let entry : Entry = entryOf e (h .buffer) in
+    let a : Answered = answerOf E entry (h .state) (h .flash) in
+    record {
+      number = a .number;
+      state = a .state;
+      flash = flashLeft entry a (h .flash);
+      buffer = bufferLeft e a (h .buffer);
+      asked = h .asked ++ slaveIn (a .number);
+    }
+
+-- The host goes on while something is pending, by the state byte at 15.
+abbrev pub isPending : List ℕ → Bool
+isPending state = eqb (numberAt 1 15 state) 1 || eqb (numberAt 1 15 state) 2
+
+unfoldable pub hosted : Entries → List Event → Host → Host
+hosted E [] h = h
+hosted E (e ∷ es) h = pick (isPending (h .state)) (hosted E es (stepped E e h)) h
