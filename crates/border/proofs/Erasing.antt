@@ -7,7 +7,7 @@ use mathlib.Core.Path.{_≡_, refl, sym, ap, _∙_, subst}
 use mathlib.Core.Logic.{_⊎_, inl, inr, ⊎-elim}
 use mathlib.Core.Bool.{Bool, true, false, false≢true}
 use mathlib.Core.List.{List, [], _∷_, _++_}
-use lib.ListN.{length, getD, drop, replicate, length-replicate}
+use lib.ListN.{length, drop, replicate, length-replicate}
 use lib.Dec.{eqb}
 use lib.Seq.{drop-append-seam}
 use borrow.Author.Tests.{eq-eqb}
@@ -15,15 +15,12 @@ use Rattle.base.specs.Pick.{pick}
 use Rattle.base.specs.Words.{laid, blanks, Below}
 use Rattle.base.proofs.Pick.{yes, no}
 use Rattle.base.proofs.Laid.{laid-none}
-use Rattle.flash.specs.Geometry.{isSector, unitOf, sizeOf, startOf, sectorOf}
-use Rattle.flash.specs.Status.{progress}
+use Rattle.flash.specs.Geometry.{unitOf, sizeOf, startOf, sectorOf}
 use Rattle.flash.specs.Change.{restOf, eraseCount, erased, erasingAfter}
 use Rattle.flash.specs.declared.Erasing.{Erasing}
-use Rattle.flash.specs.declared.Found.{Found}
 use Rattle.flash.specs.declared.Progress.{Progress}
 use Rattle.flash.proofs.Geometry.{sector-fits, length-sector}
 use Rattle.flash.proofs.Statuses.{empty-blanks}
-use Rattle.flash.proofs.Erasure.{count-is, erased-laid}
 use Rattle.memory.specs.Segment.{Memories}
 use Rattle.node.specs.Effect.{lent, Outcome}
 use Rattle.node.specs.Calls.{requestOf}
@@ -32,8 +29,7 @@ use Rattle.node.specs.declared.Answer.{Answer}
 use Rattle.node.specs.declared.Refusal.{Refusal}
 use Rattle.node.specs.declared.Node.{Node}
 use Rattle.node.proofs.Directories.{Erases as Blank}
-use Rattle.demands.specs.Machine.{logodwen, turnOf, flashOf, isRefused}
-use Rattle.demands.specs.Requests.{end, isCommand}
+use Rattle.demands.specs.Machine.{logodwen, flashOf}
 use Rattle.demands.specs.Reached.{stateAfter as nodeAfter, Step as Called}
 use Rattle.demands.specs.Flash.{Begins as WordsBegin, isStart as isStartWords, budgetOf as budgetWords, countOf as countIn, Course as WordsCourse, HasSet as WordsHaveSet}
 use Rattle.demands.specs.Refusals.{FirstOf}
@@ -42,7 +38,7 @@ use Rattle.demands.proofs.Sound.{reached-sound}
 use Rattle.demands.proofs.Follows.{erasure-follows as words-follow}
 use Rattle.demands.proofs.Erases.{erases as words-erase}
 use Rattle.demands.proofs.Lays.{flash-follows as words-laid}
-use Rattle.logodwen.specs.Bytes.{numberAt, wordsOf, bytesOf, storeWords}
+use Rattle.logodwen.specs.Bytes.{wordsOf, bytesOf, storeWords}
 use Rattle.logodwen.specs.StateBytes.{sizeIn, nodeIn, progressIn}
 use Rattle.logodwen.specs.Number.{fields, answerNumber}
 use Rattle.logodwen.specs.Entry.{memoryWords, replyWords, isSet}
@@ -52,17 +48,17 @@ use Rattle.logodwen.proofs.ThereAndBack.{bytes-kept}
 use Rattle.border.specs.Exactly.{entries, eraseCauses}
 use Rattle.border.specs.Host.{Entry, InC, answerOf, numberAfter, stateAfter, flashAfter, onWords, isDone, Step as HostStep}
 use Rattle.border.specs.Kept.{erasingIn}
-use Rattle.border.specs.Answers.{Says, answerIn, endNumber}
-use Rattle.border.specs.Files.{sectorIn, sectorByte, inSector}
+use Rattle.border.specs.Answers.{Says, answerIn}
+use Rattle.border.specs.Files.{sectorIn, sectorByte}
 use Rattle.border.specs.Flash.{stepByte}
 use Rattle.border.specs.Erasing.{blankBytes, Begins, GoesOn, Follows, ErasureFollows, isStart, budgetOf, countOf, Course, HasSet, Erases, Lays, LaysFile, LaysHeader, FlashFollows}
-use Rattle.border.proofs.Runs.{store-laid, stored-words}
+use Rattle.border.proofs.Runs.{store-laid}
 use Rattle.border.proofs.Exactly.{done-low, refused-exactly}
 use Rattle.border.proofs.OfState.{state-bytes-exactly}
 use Rattle.border.proofs.Flash.{flash-size}
 use Rattle.border.proofs.Sectors.{empty-bytes, sector-bytes}
 use Rattle.border.proofs.Steps.{Step, Made, entry-step, start-taken, refusal-undone, done-made, done-taken, undone-left, undone-flash}
-use Rattle.border.proofs.Stands.{Stands, Moved, lends, made-moves, hosted-stands}
+use Rattle.border.proofs.Stands.{Stands, lends, made-moves, hosted-stands}
 use Rattle.border.proofs.Answers.{nothing-cut, ended-answer}
 use Rattle.border.proofs.Delivered.{number-is, delivered}
 use Rattle.border.proofs.Kept.{erasing-is}
@@ -444,7 +440,7 @@ erases =
           let made = done-made erase state flash (ap isDone h) in
           let moved = made-moves erase state flash c st made in
           let b = begins-bytes state flash st clock link bc errors packet m reply c made
-                (words-erase .begins (nodeIn state) clock link bc (isSet errors) (wordsOf 2 packet) (lent (wordsOf 2 flash) (memoryWords m) (replyWords reply)) command (ended-answer erase state flash h)) in
+          (words-erase .begins (nodeIn state) clock link bc (isSet errors) (wordsOf 2 packet) (lent (wordsOf 2 flash) (memoryWords m) (replyWords reply)) command (ended-answer erase state flash h)) in
           let begun : Stands (stateAfter entries erase state flash) flash = subst (Stands (stateAfter entries erase state flash)) (b .kept) (moved .stands) in
           let k = course-carried (sizeOf 2048 s) (stateAfter entries erase state flash) flash begun course in
           let u = unit flash (st .below) (st .bench) in

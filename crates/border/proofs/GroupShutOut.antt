@@ -41,12 +41,12 @@ use Rattle.border.specs.Host.{U8s, InC, answerOf, numberAfter, isDone, H
 use Rattle.border.specs.Answers.{InBits}
 use Rattle.border.specs.ClosedRun.{blank, zeros, fresh, sends}
 use Rattle.border.specs.Events.{Event, callsOf, AllInC, stepped, isPending, hosted}
-use Rattle.border.specs.Groups.{GroupRun, begun, atLast, slaves, said, forgetful, StoresNothing}
+use Rattle.border.specs.Groups.{GroupRun, begun, atLast, slaves, said, GroupIsItsFragments}
+use Rattle.border.specs.ShutOut.{forgetful}
 use Rattle.border.proofs.Fine.{request-fine}
 use Rattle.border.proofs.Exactly.{done-low}
 use Rattle.border.proofs.Steps.{checkOf}
-use Rattle.border.proofs.ClosedRun.{closed-run}
-use Rattle.border.proofs.ShutOut.{tested, none, blank-bytes, starts-in}
+use Rattle.border.proofs.ClosedRun.{tested, none, blank-bytes, starts-in, closed-run}
 use Rattle.border.proofs.GroupAsked.{node-asks, group-is-asked}
 use Rattle.border.proofs.GroupBuffers.{asks-leaves}
 use Rattle.border.proofs.GroupSteps.{kept-reply}
@@ -219,8 +219,8 @@ last-byte = by (isPending (begun run .state)) ∙ ap (λ (x : List ℕ). getD x 
     by true = refl
     by false = refl
 
-pub stores-nothing : StoresNothing
-stores-nothing g =
+pub forgets-slaves : GroupIsItsFragments forgetful → ⊥
+forgets-slaves g =
     let sent = g .fragments run all-heard .common ZeroLength.End all-end in
     let same = ap (λ (x : List ℕ). getD x 0 0) (sent .bytes) in
     omega (arith, last-byte, same, first-byte)

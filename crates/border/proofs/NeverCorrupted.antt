@@ -7,9 +7,7 @@ use mathlib.Core.Bool.{Bool, true, false, _||_, false≢true}
 use mathlib.Core.List.{List, [], _∷_}
 use lib.ListN.{length, getD, take, drop}
 use lib.Seq.{getD-drop}
-use lib.Dec.{eqb}
-use borrow.Author.Tests.{eqb-true, eq-eqb, eqb-false}
-use Rattle.base.specs.Pick.{pick}
+use borrow.Author.Tests.{eq-eqb, eqb-false}
 use Rattle.base.specs.Words.{laid, Below}
 use Rattle.base.proofs.Laid.{laid-none}
 use Rattle.base.proofs.Part.{below-take}
@@ -17,7 +15,6 @@ use Rattle.image.specs.Header.{nameOf}
 use Rattle.flash.specs.Geometry.{sectorOf, entryPlace}
 use Rattle.flash.specs.Directory.{entryFor}
 use Rattle.flash.specs.Search.{targetOf}
-use Rattle.flash.specs.declared.Erasing.{Erasing}
 use Rattle.flash.specs.declared.Target.{Target}
 use Rattle.group.specs.declared.Reply.{Reply}
 use Rattle.memory.specs.Segment.{Memories}
@@ -34,7 +31,7 @@ use Rattle.demands.proofs.Commands.{replyIn}
 use Rattle.demands.proofs.NeverCorrupted.{never-corrupted as words-never}
 use Rattle.logodwen.specs.Bytes.{valueOf, digitsOf, numberAt, wordsIn, wordsOf, bytesOf, storeWords}
 use Rattle.logodwen.specs.Places.{packed}
-use Rattle.logodwen.specs.StateBytes.{encodeOf, nodeIn, progressIn, areState}
+use Rattle.logodwen.specs.StateBytes.{encodeOf, nodeIn, areState}
 use Rattle.logodwen.specs.Entry.{Answered, answered, memoryWords, memoriesLeft, inBytes, told, replyWords, runWords, isSet}
 use Rattle.logodwen.proofs.Runs.{length-bytes, length-words-of}
 use Rattle.logodwen.proofs.Entering.{RequestFine, request-fine}

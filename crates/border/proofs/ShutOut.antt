@@ -1,25 +1,27 @@
 -- The wrong entries fail, each in the closed run, at one call of it, or at one step of an erasure. Assumes nothing.
-use Prim.Native.Nat.{ℕ, zero, suc}
+use Prim.Native.Nat.{ℕ}
 use native.Mathlib.Omega.{arith}
-use mathlib.Core.Path.{_≡_, refl, ap, subst}
-use mathlib.Core.Bool.{true}
+use mathlib.Core.Path.{_≡_, refl, ap, _∙_, subst}
+use mathlib.Core.Logic.{⊎-elim}
+use mathlib.Core.Bool.{true, false≢true}
 use mathlib.Core.List.{List, [], _∷_}
 use lib.ListN.{getD}
-use lib.Dec.{ltb}
-use borrow.Author.Tests.{ltb-true}
 use Rattle.base.specs.Words.{laid}
-use Rattle.base.proofs.Pick.{and-left, and-right}
 use Rattle.fcs.specs.Fcs.{fcsBit, fcsBits, fcsWord, fcsFrom}
 use Rattle.image.specs.Header.{headerOk}
 use Rattle.image.specs.Segment.{memoryOf, pageOf, lengthOk, pageOk, spanOf, bodyOk, segmentOk, segmentEnd}
 use Rattle.image.specs.File.{walk, fileEnd}
+use Rattle.image.specs.declared.End.{End}
 use Rattle.flash.specs.Geometry.{isSector, bySector, sectorOf}
 use Rattle.flash.specs.Status.{isEmpty, statusOf, statusIn, fourthWord}
 use Rattle.flash.specs.Directory.{entryOf, entryFor, entriesFrom, directoryOf, entered, entrySays, entryIs, keptStatus}
 use Rattle.flash.specs.Search.{firstFrom, countFrom, isNamed, searchOf, targetOf, takes, placeOf}
 use Rattle.flash.specs.Change.{stored, eraseCount, erased, bitOf}
+use Rattle.flash.specs.declared.Erasing.{Erasing}
+use Rattle.flash.specs.declared.Progress.{Progress}
 use Rattle.group.specs.Ending.{replied}
 use Rattle.memory.specs.Run.{allBelow}
+use Rattle.memory.specs.Segment.{memories}
 use Rattle.report.specs.Status.{ownStatus}
 use Rattle.node.specs.Valid.{masksOk, stateOk}
 use Rattle.node.specs.Refusals.{requestVerdict, eraseVerdict}
@@ -33,36 +35,29 @@ use Rattle.logodwen.specs.Bytes.{valueOf, digitsOf, wordsIn, wordsOf, bytesOf}
 use Rattle.logodwen.specs.Places.{packed}
 use Rattle.logodwen.specs.StateBytes.{encodeOf, nodeIn, alike, areState}
 use Rattle.logodwen.specs.Causes.{requestCheck, eraseCheck}
-use Rattle.logodwen.specs.Entry.{requestEntry, eraseEntry}
+use Rattle.logodwen.specs.Entry.{Answered, requestEntry, eraseEntry}
+use Rattle.border.specs.Exactly.{Entries, entries}
 use Rattle.border.specs.Host.{Entry, U8s, InC, numberAfter, flashAfter, isDone, Step, Hosted}
 use Rattle.border.specs.Kept.{directoryBytes, NoStaleRecord}
 use Rattle.border.specs.Files.{fileWrite}
 use Rattle.border.specs.Flash.{InStep, NoBitRises}
 use Rattle.border.specs.Answers.{Says, answerIn, NothingCut, endNumber}
+use Rattle.border.specs.ReadsBack.{ReadsBack}
+use Rattle.border.specs.Erasing.{ErasureFollows}
 use Rattle.border.specs.ClosedRun.{blank, file, zeros, fresh, sends, started, written, ClosedRun}
-use Rattle.border.specs.ShutOut.{refusing, scanning, cutting, hasty, ShutOut}
-use Rattle.border.proofs.ClosedRun.{closed-run}
+use Rattle.border.specs.ShutOut.{refusing, scanning, cutting, hasty, lying, rogue, ShutOut}
+use Rattle.border.proofs.ClosedRun.{tested, none, blank-bytes, starts-in, closed-run}
+use Rattle.border.proofs.GroupShutOut.{forgets-slaves}
 
 -- what always refuses answers the same to Write and to Read
 refuses : (number : ℕ) → ClosedRun (refusing number) → ⊥
 refuses number c = let w = c .writes in let r = c .reads in omega arith
 
--- runs of bytes, by one computed test
-pub tested : (bytes : List ℕ) → allBelow 256 bytes ≡ true → U8s bytes
-unfolding allBelow
-tested [] h i = omega arith
-tested (b ∷ bytes) h zero = ltb-true b 256 (and-left (ltb b 256) (allBelow 256 bytes) h)
-tested (b ∷ bytes) h (suc i) = tested bytes (and-right (ltb b 256) (allBelow 256 bytes) h) i
-
-pub none : U8s []
-none i = omega arith
-
-pub blank-bytes : U8s blank
-unfolding allBelow
-blank-bytes = tested blank refl
-
-pub starts-in : InC (Entry.Start 2 4 0 0 0 0 0)
-starts-in = (omega arith, omega arith, omega arith, omega arith, omega arith, omega arith, omega arith)
+-- what starts as ours does has these bytes then
+first : (E : Entries) → started E ≡ started entries → Hosted E fresh blank
+first E e =
+    subst (λ (x : List ℕ). Hosted E x blank) (ap (λ (a : Answered). a .state) e ∙ closed-run .begun)
+    (Hosted.First 2 4 0 0 0 0 0 (zeros 172) blank starts-in blank-bytes (ap (λ (a : Answered). a .number) e ∙ closed-run .begins))
 
 write-in : InC (sends (fileWrite file))
 unfolding allBelow
@@ -71,10 +66,7 @@ write-in = (omega arith, omega arith, omega arith, omega arith, tested (fileWrit
 -- what scans at start only has an empty sector in its directory where the file now stands
 
 written-hosted : Hosted scanning fresh (written scanning .runs .flash)
-written-hosted =
-    let first : Hosted scanning (started scanning .state) blank =
-    Hosted.First 2 4 0 0 0 0 0 (zeros 172) blank starts-in blank-bytes (closed-run .begins) in
-    Hosted.Then (subst (λ (x : List ℕ). Hosted scanning x blank) (closed-run .begun) first) (Step.Made (sends (fileWrite file)) write-in)
+written-hosted = Hosted.Then (first scanning refl) (Step.Made (sends (fileWrite file)) write-in)
 
 stands-byte : getD (directoryBytes fresh (written scanning .runs .flash)) 0 0 ≡ 0x21
 unfolding laid fcsBit fcsBits fcsWord fcsFrom headerOk memoryOf pageOf lengthOk pageOk spanOf bodyOk segmentOk segmentEnd walk fileEnd isSector bySector sectorOf isEmpty statusOf statusIn fourthWord entryOf entryFor entriesFrom directoryOf entered entrySays entryIs keptStatus firstFrom countFrom isNamed searchOf targetOf takes placeOf stored ownStatus masksOk stateOk requestVerdict addressed routeOf writeOf filesOf ownOf requestOf valueOf digitsOf wordsIn wordsOf bytesOf packed encodeOf nodeIn alike areState requestCheck requestEntry
@@ -131,5 +123,43 @@ erases-all says h =
     let set = ap (λ (x : ℕ). bitOf x 0) (second-byte says) in
     omega (arith, stays, set)
 
+-- what says END to a File Write of no words has written no file
+
+nothing-in : InC (sends (fileWrite []))
+unfolding allBelow
+nothing-in = (omega arith, omega arith, omega arith, omega arith, tested (fileWrite []) refl, none, none, none, tested (zeros 24576) refl)
+
+stores-nothing : ReadsBack lying → ⊥
+unfolding wordsOf wordsIn valueOf headerOk fileEnd
+stores-nothing w = no-file (w fresh blank (first lying refl) 0 0 3 0 [] (memories [] [] []) (zeros 24576) nothing-in refl refl .valid)
+  where
+    no-file : End.Invalid ≡ End.At 0 → ⊥
+    no-file e = let z : _≡_ {A = ℕ} 0 1 = cc in omega arith
+
+-- what has sector 3 being erased after a Mode Read was not told to
+
+modeRead : List ℕ
+modeRead = 0x2E ∷ 0x12 ∷ []
+
+mode-in : InC (sends modeRead)
+unfolding allBelow modeRead
+mode-in = (omega arith, omega arith, omega arith, omega arith, tested modeRead refl, none, none, none, tested (zeros 24576) refl)
+
+erases-unasked : ErasureFollows rogue → ⊥
+unfolding modeRead laid wordsOf wordsIn valueOf
+erases-unasked w = ⊎-elim not-same (λ b. false≢true (b .command)) (w fresh blank (first rogue refl) (sends modeRead) mode-in)
+  where
+    not-same : {p : Progress} → Erasing.Sector p ≡ Erasing.Nothing → ⊥
+    not-same e = let z : _≡_ {A = ℕ} 0 1 = cc in omega arith
+
 pub shut-out : ShutOut
-shut-out = record { refuses = refuses; scans-once = scans-once; cuts = cuts; erases-all = erases-all }
+shut-out =
+    record {
+      refuses = refuses;
+      scans-once = scans-once;
+      cuts = cuts;
+      erases-all = erases-all;
+      erases-unasked = erases-unasked;
+      stores-nothing = stores-nothing;
+      forgets-slaves = forgets-slaves;
+    }

@@ -20,7 +20,6 @@ pub record Demands (E : Entries) : Type 0 where
   pub always-state : AlwaysState E
   -- The number has the node's answer in its bits, whole.
   pub nothing-cut : NothingCut E
-
   -- 2 Fidelity. What is written reads back: a file that fits is answered END; whatever is answered END stands in the flash, and reads back
   -- until it is erased or its attribute set.
   pub writes : Writes E
@@ -34,7 +33,6 @@ pub record Demands (E : Entries) : Type 0 where
   pub group-is-its-fragments : GroupIsItsFragments E
   -- One run, worked out: start, File Write, File Read.
   pub closed-run : ClosedRun E
-
   -- 3 No stale record. After any sequence of entries, refused ones and half-done erasures included, the directory kept in the state bytes is
   -- the one worked out afresh from the flash's bytes and the erasure in progress; and so is what Flash Summary answers.
   pub no-stale-record : NoStaleRecord E

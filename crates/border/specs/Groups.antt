@@ -11,13 +11,11 @@ use Rattle.group.specs.Slaves.{slavesOf}
 use Rattle.group.specs.Whole.{assembled}
 use Rattle.group.specs.declared.Reply.{Reply}
 use Rattle.node.specs.Settings.{statusIn}
-use Rattle.node.specs.Calls.{lentReply}
 use Rattle.node.specs.declared.Answer.{Answer}
 use Rattle.demands.specs.Events.{Undropped, heards}
 use Rattle.demands.specs.Groups.{isGroup, setAsked, stripped, knowsMask, EndsBy, ExactlyThose}
 use Rattle.logodwen.specs.Bytes.{numberAt, wordsOf, storeWords}
 use Rattle.logodwen.specs.StateBytes.{nodeIn}
-use Rattle.logodwen.specs.Entry.{Answered, answered, startEntry, requestEntry, replyEntry, pollEntry, eraseEntry}
 use Rattle.border.specs.Exactly.{Entries}
 use Rattle.border.specs.Host.{Entry, InC, numberAfter, isDone, Hosted}
 use Rattle.border.specs.Answers.{InBits, Says}
@@ -91,19 +89,3 @@ pub record GroupIsItsFragments (E : Entries) : Type 0 where
       → atLast r .buffer ≡ storeWords 2 (assembled (slaves r) (said r) 0) (r .buffer)
   pub fragments : (r : GroupRun E) → length (said r) ≡ length (slaves r) → EndsBy (Sends r) (slaves r) (said r) (statusIn (nodeIn (r .state)))
   pub once : (r : GroupRun E) → length (said r) ≡ length (slaves r) → ExactlyThose (set r) (atLast r .asked)
-
--- Wrong entries: they answer as they should, but store nothing of what slaves reply.
-abbrev pub forgetful : Entries
-forgetful =
-    record {
-      start = startEntry;
-      request = requestEntry;
-      reply = λ clock slave bc errors status address packet state reply.
-          let a : Answered = replyEntry clock slave bc errors status address packet state reply in
-          answered (a .number) (a .state) (lentReply reply);
-      poll = pollEntry;
-      erase = eraseEntry;
-    }
-
-abbrev pub StoresNothing : Type 0
-StoresNothing = GroupIsItsFragments forgetful → ⊥

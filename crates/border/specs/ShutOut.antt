@@ -1,14 +1,21 @@
--- Wrong entries, and for each the statement that it fails: three that 01 names under 'What calls owe', as a host in C would meet them, and
--- one that a host would meet with a number of the wrong size. An entry of which nothing is said is ours. Assumes nothing.
+-- Wrong entries, and for each the promise that it fails: some that 01 names under 'What calls owe', as a host in C would meet them, and
+-- others. An entry of which nothing is said is ours. Assumes nothing.
 use Prim.Native.Nat.{ℕ, _%_}
-use mathlib.Core.List.{List}
+use mathlib.Core.List.{List, [], _∷_}
+use Rattle.base.specs.Pick.{pick}
+use Rattle.base.specs.Words.{laid}
+use Rattle.demands.specs.Requests.{isCommand}
+use Rattle.logodwen.specs.Bytes.{wordsOf}
 use lib.ListN.{length}
 use Rattle.node.specs.Calls.{lentReply, lentFlash}
 use Rattle.logodwen.specs.Entry.{Answered, answered, startEntry, requestEntry, replyEntry, pollEntry, eraseEntry}
 use Rattle.border.specs.Exactly.{Entries}
 use Rattle.border.specs.Kept.{NoStaleRecord}
 use Rattle.border.specs.Flash.{NoBitRises}
-use Rattle.border.specs.Answers.{NothingCut}
+use Rattle.border.specs.Answers.{NothingCut, endNumber}
+use Rattle.border.specs.ReadsBack.{ReadsBack}
+use Rattle.border.specs.Erasing.{ErasureFollows}
+use Rattle.border.specs.Groups.{GroupIsItsFragments}
 use Rattle.border.specs.ClosedRun.{ClosedRun}
 
 -- Once started, always refuses.
@@ -64,9 +71,52 @@ hasty says =
       erase = λ budget state flash. answering (says budget) (eraseEntry (length flash) state flash);
     }
 
--- Each fails a statement.
+-- Says END to every File Write, and stores nothing of one that it should answer ABORT.
+abbrev pub lies : Answered → Answered
+lies a = answered endNumber (a .state) (a .runs)
+
+abbrev pub lying : Entries
+lying =
+    record {
+      start = startEntry;
+      request = λ clock link bc errors packet state runs.
+          pick (isCommand 0x45 (wordsOf 2 packet)) (lies (requestEntry clock link bc errors packet state runs)) (requestEntry clock link bc errors packet state runs);
+      reply = replyEntry;
+      poll = pollEntry;
+      erase = eraseEntry;
+    }
+
+-- Has sector 3 being erased after every request.
+abbrev pub rogue : Entries
+rogue =
+    record {
+      start = startEntry;
+      request = λ clock link bc errors packet state runs.
+          let a : Answered = requestEntry clock link bc errors packet state runs in answered (a .number) (laid state 14 (3 ∷ [])) (a .runs);
+      reply = replyEntry;
+      poll = pollEntry;
+      erase = eraseEntry;
+    }
+
+-- Answers as it should, but stores nothing of what slaves reply.
+abbrev pub forgetful : Entries
+forgetful =
+    record {
+      start = startEntry;
+      request = requestEntry;
+      reply = λ clock slave bc errors status address packet state reply.
+          let a : Answered = replyEntry clock slave bc errors status address packet state reply in
+          answered (a .number) (a .state) (lentReply reply);
+      poll = pollEntry;
+      erase = eraseEntry;
+    }
+
+-- Each fails a promise, by its name in `Demands`.
 pub record ShutOut : Type 0 where
   pub refuses : (number : ℕ) → ClosedRun (refusing number) → ⊥
   pub scans-once : NoStaleRecord scanning → ⊥
   pub cuts : NothingCut cutting → ⊥
   pub erases-all : (says : ℕ → ℕ) → NoBitRises (hasty says) → ⊥
+  pub erases-unasked : ErasureFollows rogue → ⊥
+  pub stores-nothing : ReadsBack lying → ⊥
+  pub forgets-slaves : GroupIsItsFragments forgetful → ⊥
