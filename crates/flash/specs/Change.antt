@@ -32,7 +32,13 @@ toPlain header = pick (eqb (attributeOf header) 2) (Setting.Header (header - 0x2
 unfoldable pub settingOf : ℕ → ℕ → Setting
 settingOf header value = pick (eqb value 1) (toDefault header) (pick (eqb value 0) (toPlain header) Setting.Refused)
 
--- The header word that stands in the flash after it.
+-- The code of the 0-length reply that it is answered by: ABORT is 2, END 4 (01 'Group assembly') ..
+abbrev pub settingNumber : Setting → ℕ
+settingNumber Setting.Refused = 2
+settingNumber Setting.Holds = 4
+settingNumber (Setting.Header new) = 4
+
+-- .. and the header word that stands in the flash after it.
 abbrev pub headerAfter : ℕ → Setting → ℕ
 headerAfter header Setting.Refused = header
 headerAfter header Setting.Holds = header

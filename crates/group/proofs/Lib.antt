@@ -9,3 +9,4 @@ pub mod Takes
 pub mod Tallies
 pub mod Seals
 pub mod Groups
+pub mod Numbers

@@ -34,6 +34,11 @@ abbrev pub nextOf : List ℕ → Next
 nextOf [] = Next.Nobody
 nextOf (s ∷ ss) = Next.Slave s
 
+-- Its number; 24, which no slave has, where nobody is left to ask.
+abbrev pub nextNumber : Next → ℕ
+nextNumber (Next.Slave s) = s
+nextNumber Next.Nobody = 24
+
 -- How many slaves are unfinished: the one being asked and those above it.
 abbrev pub unfinished : ℕ → Next → ℕ
 unfinished set Next.Nobody = 0

@@ -22,8 +22,3 @@ walk (suc n) words at = after (segmentEnd words at) (λ end. walk n words end)
 -- is exact where this is the length of all its words.
 unfoldable pub fileEnd : List ℕ → End
 fileEnd words = pick (headerOk (getD words 0 0)) (walk (segmentsOf (getD words 0 0)) words 1) Invalid
-
--- That length as a number; 0, which no file has, where there is none.
-abbrev pub lengthOr0 : End → ℕ
-lengthOr0 (At end) = end
-lengthOr0 Invalid = 0

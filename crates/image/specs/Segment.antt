@@ -19,6 +19,12 @@ use Rattle.image.specs.declared.End.the-variants.{At, Invalid}
 unfoldable pub memoryOf : ℕ → Memory
 memoryOf first = pick (eqb (first / 16384 % 4) 0) Pm (pick (eqb (first / 16384 % 4) 1) Dm Io)
 
+-- Its number there; of the two that IO has, the lower.
+abbrev pub memoryNumber : Memory → ℕ
+memoryNumber Pm = 0
+memoryNumber Dm = 1
+memoryNumber Io = 2
+
 -- .. and the length in bits 13-0.
 abbrev pub lengthOf : ℕ → ℕ
 lengthOf first = first % 16384
@@ -28,6 +34,13 @@ unfoldable pub pageOf : ℕ → Page
 pageOf second =
     pick (eqb (second / 16384 % 4) 0) Page.Zero
     (pick (eqb (second / 16384 % 4) 2) Page.Four (pick (eqb (second / 16384 % 4) 3) Page.Five Page.Invalid))
+
+-- Its number there.
+abbrev pub pageNumber : Page → ℕ
+pageNumber Page.Zero = 0
+pageNumber Page.Invalid = 1
+pageNumber Page.Four = 2
+pageNumber Page.Five = 3
 
 -- .. and the address in bits 13-0.
 abbrev pub addressOf : ℕ → ℕ
@@ -67,6 +80,11 @@ spanFor Io n = Words (2 + n)
 unfoldable pub spanOf : ℕ → Span
 spanOf first = spanFor (memoryOf first) (lengthOf first)
 
+-- Its words as a number; 0, which no segment has, for an odd PM length.
+abbrev pub spanNumber : Span → ℕ
+spanNumber (Words n) = n
+spanNumber Odd = 0
+
 -- The last PM word is a zero byte and then the FCS: AABBCC 00EEFF packs as AABB CC00 EEFF.
 abbrev pub zeroByteOk : Memory → List ℕ → Bool
 zeroByteOk Pm body = eqb (getD body (length body - 2) 0 % 256) 0
@@ -94,3 +112,8 @@ endFor words at Odd = Invalid
 -- Where the segment that starts at a place ends, past its last word; Invalid where no valid segment stands there.
 unfoldable pub segmentEnd : List ℕ → ℕ → End
 segmentEnd words at = pick (leb (at + 2) (length words)) (endFor words at (spanOf (getD words at 0))) Invalid
+
+-- Where a segment or a file ends, as a number: for a file its length; 0, at which none ends, where there is none.
+abbrev pub endNumber : End → ℕ
+endNumber (At end) = end
+endNumber Invalid = 0

@@ -11,14 +11,14 @@ use Rattle.base.specs.Words.{part, laid, Below}
 use Rattle.base.proofs.Pick.{yes, no, and-left, and-right}
 use Rattle.base.proofs.Laid.{laid-two, laid-snoc, part-laid}
 use Rattle.fcs.specs.Fcs.{fcsOf}
-use Rattle.image.specs.Segment.{memoryOf, lengthOf, pageOf, addressOf, lengthOk, wordBytes}
+use Rattle.image.specs.Segment.{memoryOf, memoryNumber, lengthOf, pageOf, addressOf, lengthOk, wordBytes}
 use Rattle.image.specs.Packing.{packed, bodyWords, sealed}
 use Rattle.image.proofs.Packing.{packed-two, length-packed, length-unpacked}
 use Rattle.image.specs.declared.Memory.{Memory}
 use Rattle.memory.specs.Run.{wordsAt, putAt}
 use Rattle.memory.specs.Pairs.{idsOk, ioAfter, ioAnswer}
 use Rattle.memory.specs.Segment.{firstOf, secondOf, segmentWords, headerRun, headerFits, isSegment}
-use Rattle.memory.specs.Command.{memoryNumber, isOwn, readWords, readAnswer, readable, read, readOf, writable, written, writeOf, performAnswer, performable, performed, performOf}
+use Rattle.memory.specs.Command.{isOwn, readWords, readAnswer, readable, read, readOf, writable, written, writeOf, performAnswer, performable, performed, performOf}
 use Rattle.memory.specs.declared.Answer.{Answer}
 use Rattle.memory.proofs.Segment.{exact-tells, length-least, size-plain, pairs-even}
 use Rattle.memory.proofs.Run.{below-words, length-run-words}

@@ -11,7 +11,7 @@ use Rattle.base.specs.Pick.{pick}
 use Rattle.base.specs.Words.{laid}
 use Rattle.base.proofs.Pick.{and-yes, pick-case}
 use Rattle.base.proofs.Part.{drop-two}
-use Rattle.image.specs.Segment.{memoryOf, lengthOf, pageOf, addressOf, lengthOk, wordBytes}
+use Rattle.image.specs.Segment.{memoryOf, memoryNumber, lengthOf, pageOf, addressOf, lengthOk, wordBytes}
 use Rattle.image.specs.Packing.{bodyWords, bodyOf}
 use Rattle.image.proofs.Segment.{segment-ok-tells}
 use Rattle.image.proofs.Body.{segment-body}
@@ -19,7 +19,7 @@ use Rattle.image.proofs.Packing.{length-unpacked, unpacked-below}
 use Rattle.image.specs.declared.Memory.{Memory}
 use Rattle.memory.specs.Run.{wordsAt, putAt}
 use Rattle.memory.specs.Segment.{firstOf, secondOf, segmentWords, headerRun, headerFits}
-use Rattle.memory.specs.Command.{memoryNumber, readWords, readAnswer, readable, read, readOf, writable, Written, written, writeOf}
+use Rattle.memory.specs.Command.{readWords, readAnswer, readable, read, readOf, writable, Written, written, writeOf}
 use Rattle.memory.specs.Laws.{wordIndex, ReadsBack, ChangesAlone, ClearsRest}
 use Rattle.memory.proofs.Run.{fits-tells, length-run, length-put, getD-run, put-other, words-put}
 use Rattle.memory.proofs.Packed.{word-read}

@@ -7,4 +7,5 @@ pub mod Segment
 pub mod Loading
 pub mod Command
 pub mod Laws
+pub mod Numbers
 pub mod Examples

@@ -7,34 +7,29 @@ use lib.ListN.{length}
 use lib.Dec.{leb, eqb}
 use Rattle.base.specs.Pick.{pick}
 use Rattle.base.specs.Words.{laid}
-use Rattle.image.specs.Segment.{memoryOf, lengthOf, lengthOk}
+use Rattle.image.specs.Segment.{memoryOf, memoryNumber, lengthOf, lengthOk}
 use Rattle.image.specs.Packing.{bodyWords, bodyOf}
 use Rattle.image.specs.declared.Memory.{Memory}
-use Rattle.image.specs.declared.Memory.the-variants.{Pm, Dm, Io}
+use Rattle.image.specs.declared.Memory.the-variants.{Io}
 use Rattle.memory.specs.Run.{wordsAt, putAt}
 use Rattle.memory.specs.Pairs.{idsOk, ioAfter, ioAnswer}
 use Rattle.memory.specs.Segment.{firstOf, secondOf, segmentWords, headerRun, headerFits, isSegment}
 use Rattle.memory.specs.declared.Answer.{Answer}
 use Rattle.memory.specs.declared.Answer.the-variants.{Words, Abort}
 
--- A memory's number in a header word: 00 PM, 01 DM, 1X IO, here 2.
-abbrev pub memoryNumber : Memory → ℕ
-memoryNumber Pm = 0
-memoryNumber Dm = 1
-memoryNumber Io = 2
-
 -- A header is of a command's own memory.
 abbrev pub isOwn : Memory → ℕ → Bool
 isOwn memory first = eqb (memoryNumber (memoryOf first)) (memoryNumber memory)
 
--- What an answer is on paper: so many data words of a read reply, or the 0-length reply ABORT, which is number 2 of 01's four.
-abbrev pub dataWords : Answer → ℕ
-dataWords (Words n) = n
-dataWords Abort = 0
-
+-- An answer's code: 0 with data, or that of the 0-length reply ABORT, 2 (01 'Group assembly') ..
 abbrev pub replyNumber : Answer → ℕ
 replyNumber (Words n) = 0
 replyNumber Abort = 2
+
+-- .. and how many data words it has.
+abbrev pub dataWords : Answer → ℕ
+dataWords (Words n) = n
+dataWords Abort = 0
 
 -- Memory Read
 

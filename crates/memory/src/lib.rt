@@ -7,10 +7,10 @@ ghost use Prim.Native.Nat.{_-_, _≤_};
 ghost use lib.ListN.{length, set};
 ghost use Rattle.base.specs.Words.{part};
 ghost use Rattle.fcs.specs.Fcs.{fcsOf};
-ghost use Rattle.image.specs.Segment.{wordBytes};
+ghost use Rattle.image.specs.Segment.{memoryNumber, wordBytes};
 ghost use Rattle.memory.specs.Segment.{memories};
 ghost use Rattle.memory.specs.Load.{loadable, loaded, loadOf};
-ghost use Rattle.memory.specs.Command.{memoryNumber, isOwn, readWords, readable, read, readOf, writable, written, writeOf, performable, performed, performOf};
+ghost use Rattle.memory.specs.Command.{isOwn, readWords, readable, read, readOf, writable, written, writeOf, performable, performed, performOf};
 
 mod files;
 mod index;

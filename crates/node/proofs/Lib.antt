@@ -11,3 +11,4 @@ pub mod Routes
 pub mod Why
 pub mod Directories
 pub mod Ranges
+pub mod Numbers

@@ -5,6 +5,7 @@ use mathlib.Core.Bool.{Bool, true, false, _&&_, _||_, not}
 use mathlib.Core.List.{List, [], _∷_}
 use lib.Dec.{ltb, leb, eqb}
 use Rattle.base.specs.Pick.{pick}
+use Rattle.node.specs.State.{refusalNumber}
 use Rattle.node.specs.Valid.{sizeOk, kindOk, portsOk, stateOk}
 use Rattle.node.specs.declared.Node.{Node}
 use Rattle.node.specs.declared.Pending.{Pending}
@@ -23,6 +24,11 @@ cause r holds = record { refusal = r; holds = holds }
 abbrev pub firstOf : List Cause → Verdict
 firstOf [] = Verdict.Fine
 firstOf (c ∷ causes) = pick (c .holds) (Verdict.No (c .refusal)) (firstOf causes)
+
+-- The number of a verdict: the refusal's, or 0, done.
+abbrev pub verdictNumber : Verdict → ℕ
+verdictNumber Verdict.Fine = 0
+verdictNumber (Verdict.No r) = refusalNumber r
 
 -- 1: the flash isn't 32,768 or 262,144 words, or isn't the size used at start.
 abbrev pub flashCause : Node → ℕ → Cause

@@ -72,3 +72,13 @@ routeOf n link bc errors packet =
     (pick (eqb (length packet) 0) (pick (drops (n .pending) link bc) Route.Dropped Route.Unserved)
     (pick (ltb 8192 (length packet) || not (eqb (bcOf bc) 3)) Route.Wrong
     (addressed (n .given .kind) (n .masks) (length packet) (getD packet 0 0) (getD packet 1 0))))
+
+-- The code of the 0-length reply that a route is answered by at once: ABORT is 2, ERROR 3, END 4 (01 'Group assembly'); 0 where slaves
+-- are asked, or for a command of the node's own, which its ID tells.
+abbrev pub routeNumber : Route → ℕ
+routeNumber Route.Unserved = 2
+routeNumber Route.Wrong = 3
+routeNumber Route.Dropped = 4
+routeNumber (Route.Slave a) = 0
+routeNumber (Route.Group a set) = 0
+routeNumber (Route.Own id) = 0

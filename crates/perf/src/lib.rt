@@ -3,7 +3,8 @@ ghost use mathlib.Core.Path.{_≡_};
 ghost use Prim.Native.Nat.{_%_};
 ghost use lib.ListN.{getD};
 ghost use Rattle.fcs.specs.Fcs.{fcsOf};
-ghost use Rattle.image.specs.File.{fileEnd, lengthOr0};
+ghost use Rattle.image.specs.Segment.{endNumber};
+ghost use Rattle.image.specs.File.{fileEnd};
 ghost use Rattle.flash.specs.Directory.{directoryOf};
 ghost use Rattle.flash.specs.declared.Erasing;
 ghost use Rattle.memory.specs.Command.{dataWords, readOf, writeOf};
@@ -26,7 +27,7 @@ pub extern "C" fn perf_fcs(words: &[u16]) -> u16
 // The length of the valid file that the words start with, or 0.
 #[no_mangle]
 pub extern "C" fn perf_file_end(words: &[u16]) -> usize
-    ensures { λ r. ⌜ r ≡ lengthOr0 (fileEnd (now (words .entry))) ⌝ }
+    ensures { λ r. ⌜ r ≡ endNumber (fileEnd (now (words .entry))) ⌝ }
 {
     let end = image::file_end(words);
     match end {

@@ -2,7 +2,7 @@
 use Prim.Native.Nat.{_-_}
 use mathlib.Core.Path.{ap, ap₂, _∙_}
 use lib.Dec.{eqb}
-use Rattle.memory.specs.Command.{memoryNumber}
+use Rattle.image.specs.Segment.{memoryNumber}
 use borrow.Author.Needs.{needs}
 use Rattle.memory.proofs.is_own.Statement.{statement}
 use Rattle.memory.proofs.is_own.Tie as tie
