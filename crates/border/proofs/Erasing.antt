@@ -29,9 +29,9 @@ use Rattle.node.specs.declared.Answer.{Answer}
 use Rattle.node.specs.declared.Refusal.{Refusal}
 use Rattle.node.specs.declared.Node.{Node}
 use Rattle.node.proofs.Directories.{Erases as Blank}
-use Rattle.demands.specs.Machine.{logodwen, flashOf}
+use Rattle.demands.specs.Machine.{isStart as isStartWords, logodwen, flashOf}
 use Rattle.demands.specs.Reached.{stateAfter as nodeAfter, Step as Called}
-use Rattle.demands.specs.Flash.{Begins as WordsBegin, isStart as isStartWords, budgetOf as budgetWords, countOf as countIn, Course as WordsCourse, HasSet as WordsHaveSet}
+use Rattle.demands.specs.Flash.{Begins as WordsBegin, budgetOf as budgetWords, countOf as countIn, Course as WordsCourse, HasSet as WordsHaveSet}
 use Rattle.demands.specs.Refusals.{FirstOf}
 use Rattle.demands.specs.Files.{Lays as WordsLay}
 use Rattle.demands.proofs.Sound.{reached-sound}

@@ -37,10 +37,10 @@ use Rattle.node.proofs.Why.{Why, request-why, erase-sector}
 use Rattle.node.proofs.Directories.{some-words}
 use Rattle.node.proofs.Ranges.{and-both, ranges-tell, ranges-told}
 use Rattle.node.proofs.Verdicts.{Fit, request-fine}
-use Rattle.demands.specs.Machine.{Call, logodwen, turnOf, flashOf}
+use Rattle.demands.specs.Machine.{Call, isStart, logodwen, turnOf, flashOf}
 use Rattle.demands.specs.Requests.{end, Delivered, isCommand}
 use Rattle.demands.specs.Reached.{Lends16, stateAfter, Step}
-use Rattle.demands.specs.Flash.{isStart, budgetOf, countOf, Course, HasSet, Erases}
+use Rattle.demands.specs.Flash.{budgetOf, countOf, Course, HasSet, Erases}
 use Rattle.demands.proofs.Taken.{verdictOn, requestEffect, request-answer, reply-answer, poll-answer}
 use Rattle.demands.proofs.Commands.{ended-own, delivered-own}
 use Rattle.demands.proofs.Sound.{Valid, step-valid, call-valid, given-size, some-unit, refused-same, refused-flash}

@@ -8,7 +8,6 @@ pub mod Flash
 pub mod Follows
 pub mod Erases
 pub mod Good
-pub mod Segments
 pub mod Memories
 pub mod NeverCorrupted
 pub mod Lays

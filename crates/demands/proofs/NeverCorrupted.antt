@@ -19,6 +19,7 @@ use Rattle.group.specs.Ending.{zeroReply}
 use Rattle.group.specs.declared.Reply.{Reply}
 use Rattle.group.specs.declared.ZeroLength.{ZeroLength}
 use Rattle.memory.specs.Segment.{Memories}
+use Rattle.memory.proofs.Segments.{segments-taken}
 use Rattle.memory.specs.Load.{fileSegments, allFit, allStored, loadable, isAt}
 use Rattle.image.specs.File.{fileEnd}
 use Rattle.image.specs.declared.End.{End}
@@ -38,7 +39,6 @@ use Rattle.demands.specs.Files.{Names, loaded, Did, NeverCorrupted, Good
 use Rattle.demands.proofs.Commands.{replyIn, bcIn, not-end, answered-own, delivered-own, own-or-not}
 use Rattle.demands.proofs.Follows.{idle-tells}
 use Rattle.demands.proofs.Memories.{memories-left}
-use Rattle.demands.proofs.Segments.{segments-taken}
 use Rattle.demands.proofs.Good.{good-tells, good-told, names-file}
 
 -- a name whose sector has no good file

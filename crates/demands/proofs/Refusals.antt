@@ -285,7 +285,7 @@ refused (Verdict.No r) n l e h = refl
 
 pub zeros-refused : ZerosRefused logodwen
 unfolding requestOf replyOf pollOf eraseOf
-zeros-refused (Call.Start kind ports subdetector program version tests clock) t flash = absurd t
+zeros-refused (Call.Start kind ports subdetector program version tests clock) t flash = absurd (false≢true (sym t))
 zeros-refused (Call.Request clock link bc errors packet m reply) t flash =
     refused (verdictOn nobody link packet (lent flash m reply)) nobody (lent flash m reply) (requestEffect nobody clock link bc errors packet (lent flash m reply))
     (λ e. zeros-state (request-fine nobody link _ _ _ _ _ _ e .fits .state))

@@ -17,7 +17,7 @@ use Rattle.node.specs.Effect.{Outcome, Lent}
 use Rattle.node.specs.Files.{namedBy, placedFor, foundBy, toErase}
 use Rattle.node.specs.declared.Answer.{Answer}
 use Rattle.node.specs.declared.Node.{Node}
-use Rattle.demands.specs.Machine.{Machine, Call, turnOf, flashOf, isRefused}
+use Rattle.demands.specs.Machine.{Machine, Call, isStart, turnOf, flashOf, isRefused}
 use Rattle.demands.specs.Requests.{end, Delivered, isCommand}
 use Rattle.demands.specs.Reached.{Step}
 
@@ -108,14 +108,7 @@ pub record ErasureFollows (M : Machine) : Type 0 where
   pub erase : (n : Node) (budget : ℕ) (flash : List ℕ) → isRefused (M .erase n budget flash .turn .answer) ≡ false
       → GoesOn n budget flash (M .erase n budget flash)
 
--- Of a step that a host makes: whether it starts the node again, the words that it is given to erase, and the words that it counts.
-abbrev pub isStart : Call → Bool
-isStart (Call.Start kind ports subdetector program version tests clock) = true
-isStart (Call.Request clock link bc errors packet m reply) = false
-isStart (Call.Reply clock slave bc errors status address words reply) = false
-isStart (Call.Poll clock reply) = false
-isStart (Call.Erase budget) = false
-
+-- Of a step that a host makes: the words that it is given to erase, those that it counts, and whether it starts the node again.
 abbrev pub budgetOf : Call → ℕ
 budgetOf (Call.Start kind ports subdetector program version tests clock) = 0
 budgetOf (Call.Request clock link bc errors packet m reply) = 0
@@ -131,11 +124,6 @@ countOf (Answer.Ask a) = 0
 countOf Answer.Waiting = 0
 countOf (Answer.Erased count) = count
 
-abbrev pub isRestart : {M : Machine} {n : Node} {flash : List ℕ} {next : Node} {after : List ℕ} → Step M n flash next after → Bool
-isRestart (Step.Made c b) = isStart c
-isRestart (Step.OtherFlash c other h) = false
-isRestart (Step.OtherState c other h) = false
-
 abbrev pub budgetIn : {M : Machine} {n : Node} {flash : List ℕ} {next : Node} {after : List ℕ} → Step M n flash next after → ℕ
 budgetIn (Step.Made c b) = budgetOf c
 budgetIn (Step.OtherFlash c other h) = 0
@@ -145,6 +133,11 @@ abbrev pub countIn : {M : Machine} {n : Node} {flash : List ℕ} {next : Node} {
 countIn {M} {n} {flash} (Step.Made c b) = countOf (turnOf M c n flash .answer)
 countIn (Step.OtherFlash c other h) = 0
 countIn (Step.OtherState c other h) = 0
+
+abbrev pub isRestart : {M : Machine} {n : Node} {flash : List ℕ} {next : Node} {after : List ℕ} → Step M n flash next after → Bool
+isRestart (Step.Made c b) = isStart c
+isRestart (Step.OtherFlash c other h) = false
+isRestart (Step.OtherState c other h) = false
 
 -- The course of an erasure: from the state and the flash that an Erase left to others, by any calls but an accepted start, as long as the
 -- budgets given are below the sector's size; with the sums of the budgets and of the counts.

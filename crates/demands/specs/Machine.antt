@@ -30,6 +30,14 @@ pub data Call : Type 0 where
   Poll : (clock : ℕ) (reply : List ℕ) → Call
   Erase : (budget : ℕ) → Call
 
+-- A call that starts the node; every other takes a state.
+abbrev pub isStart : Call → Bool
+isStart (Call.Start kind ports subdetector program version tests clock) = true
+isStart (Call.Request clock link bc errors packet m reply) = false
+isStart (Call.Reply clock slave bc errors status address words reply) = false
+isStart (Call.Poll clock reply) = false
+isStart (Call.Erase budget) = false
+
 -- What a call answers, with the next state.
 abbrev pub turnOf : Machine → Call → Node → List ℕ → Turn
 turnOf M (Call.Start kind ports subdetector program version tests clock) n flash =

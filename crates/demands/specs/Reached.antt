@@ -2,7 +2,7 @@
 -- is always the one worked out afresh from the flash. 01 'Call refusals', 'Flash' and 'What calls owe'. Assumes nothing.
 use Prim.Native.Nat.{ℕ}
 use mathlib.Core.Path.{_≡_}
-use mathlib.Core.Bool.{Bool, true, false}
+use mathlib.Core.Bool.{Bool, true, false, _&&_}
 use mathlib.Core.List.{List}
 use lib.ListN.{length}
 use Rattle.base.specs.Pick.{pick}
@@ -11,7 +11,7 @@ use Rattle.flash.specs.Directory.{directoryOf}
 use Rattle.memory.specs.Segment.{Memories}
 use Rattle.node.specs.Effect.{lent}
 use Rattle.node.specs.declared.Node.{Node}
-use Rattle.demands.specs.Machine.{Machine, Call, turnOf, flashOf, isRefused}
+use Rattle.demands.specs.Machine.{Machine, Call, isStart, turnOf, flashOf, isRefused}
 use Rattle.demands.specs.Requests.{Delivered, isCommand, handed}
 
 -- A packet is lent as 16-bit words.
@@ -25,15 +25,7 @@ Lends16 (Call.Erase budget) = Unit {0}
 -- The state that the host has after a call is the one handed back; but a refused start hands back no node's state, and a node already
 -- started goes on from the state before.
 abbrev pub stateAfter : Machine → Call → Node → List ℕ → Node
-stateAfter M (Call.Start kind ports subdetector program version tests clock) n flash =
-    pick (isRefused (M .start kind ports subdetector program version tests clock flash .answer)) n
-    (M .start kind ports subdetector program version tests clock flash .node)
-stateAfter M (Call.Request clock link bc errors packet m reply) n flash =
-    turnOf M (Call.Request clock link bc errors packet m reply) n flash .node
-stateAfter M (Call.Reply clock slave bc errors status address words reply) n flash =
-    turnOf M (Call.Reply clock slave bc errors status address words reply) n flash .node
-stateAfter M (Call.Poll clock reply) n flash = turnOf M (Call.Poll clock reply) n flash .node
-stateAfter M (Call.Erase budget) n flash = turnOf M (Call.Erase budget) n flash .node
+stateAfter M c n flash = pick (isStart c && isRefused (turnOf M c n flash .answer)) n (turnOf M c n flash .node)
 
 -- One call of a host that keeps a state and a flash, and what it keeps after it. The call is lent both, and accepted or refused; or it is
 -- refused, lent that state with whatever flash, or that flash with whatever state. Memories, reply buffer, clock and packet are fresh at

@@ -3,7 +3,7 @@
 use Prim.Native.Nat.{ℕ, _+_, _*_, _/_, _%_, _^_, _≤_, _<_}
 use mathlib.Core.Path.{_≡_}
 use mathlib.Core.Logic.{_⊎_, _↔_}
-use mathlib.Core.Bool.{Bool, true}
+use mathlib.Core.Bool.{Bool, true, false}
 use mathlib.Core.List.{List, [], _∷_}
 use lib.ListN.{length, getD}
 use Rattle.flash.specs.Geometry.{sizeOf}
@@ -18,7 +18,7 @@ use Rattle.node.specs.declared.Gathering.{Gathering}
 use Rattle.node.specs.declared.Node.{Node}
 use Rattle.node.specs.declared.Pending.{Pending}
 use Rattle.node.specs.declared.Turn.{Turn}
-use Rattle.demands.specs.Machine.{Machine, Call, turnOf, isRefused}
+use Rattle.demands.specs.Machine.{Machine, Call, isStart, turnOf, isRefused}
 use Rattle.demands.specs.Reached.{Reached}
 
 -- The number that a call answers: that of its refusal, or 0, done.
@@ -160,12 +160,5 @@ pub record NeverRefusedBy5 (M : Machine) : Type 0 where
   pub never : (n : Node) (flash : List ℕ) → Reached M n flash → (c : Call) (other : List ℕ) → numberOf (turnOf M c n other .answer) ≡ 5 → ⊥
 
 -- All zeros are no node's state: every call that takes a state refuses them.
-abbrev pub TakesState : Call → Type 0
-TakesState (Call.Start kind ports subdetector program version tests clock) = ⊥
-TakesState (Call.Request clock link bc errors packet m reply) = Unit {0}
-TakesState (Call.Reply clock slave bc errors status address words reply) = Unit {0}
-TakesState (Call.Poll clock reply) = Unit {0}
-TakesState (Call.Erase budget) = Unit {0}
-
 abbrev pub ZerosRefused : Machine → Type 0
-ZerosRefused M = (c : Call) → TakesState c → (flash : List ℕ) → isRefused (turnOf M c nobody flash .answer) ≡ true
+ZerosRefused M = (c : Call) → isStart c ≡ false → (flash : List ℕ) → isRefused (turnOf M c nobody flash .answer) ≡ true

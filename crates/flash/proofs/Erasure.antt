@@ -4,26 +4,25 @@ use Prim.Native.Nat.{ℕ, min, _+_, _-_, _/_, _≤_, _<_}
 use mathlib.Core.Path.{_≡_, refl, sym, ap, _∙_}
 use mathlib.Core.Logic.{_⊎_, inl, inr}
 use mathlib.Core.Bool.{Bool, true, false}
-use mathlib.Core.List.{List, [], _∷_}
+use mathlib.Core.List.{List}
 use native.Mathlib.Decide.{decLe, decLt}
-use native.Mathlib.Nat.{add-zero}
 use native.Mathlib.Omega.{arith}
-use lib.ListN.{length, getD, take, length-replicate, getD-replicate, replicate-append-replicate}
+use lib.ListN.{length, getD, take, length-replicate, getD-replicate}
 use lib.Seq.{take-all, getD-take, length-take-le}
 use lib.Dec.{leb}
-use borrow.Author.Tests.{leb-true, leb-false, le-leb, lt-leb}
+use borrow.Author.Tests.{leb-true}
 use Rattle.base.specs.Pick.{pick}
 use Rattle.base.specs.Words.{laid, blanks}
-use Rattle.base.proofs.Laid.{length-laid, take-laid, laid-none, laid-laid, getD-laid-before, getD-laid-in, getD-laid-after}
+use Rattle.base.proofs.Laid.{length-laid, take-laid, laid-none, getD-laid-before, getD-laid-in, getD-laid-after}
 use Rattle.base.proofs.Pick.{yes, no}
 use Rattle.flash.specs.Geometry.{isSector, unitOf, sizeOf, startOf, sectorOf}
 use Rattle.flash.specs.Status.{isEmpty, firstOf, progress}
 use Rattle.flash.specs.Directory.{directoryOf, entered, refreshed}
-use Rattle.flash.specs.Change.{restOf, eraseCount, erased, erasingAfter, erasureStatus, Erased, erasedBy, erasingBy, countedBy, sum, OnlySector}
+use Rattle.flash.specs.Change.{restOf, eraseCount, erased, erasingAfter, erasureStatus, Erased, OnlySector}
 use Rattle.flash.specs.declared.Erasing.{Erasing}
 use Rattle.flash.specs.declared.Progress.{Progress}
 use Rattle.flash.specs.declared.Status.{Status}
-use Rattle.flash.proofs.Geometry.{sector-fits, length-sector, laid-sector, laid-only, laid-in-fits, other-kept, below-kept, only-same}
+use Rattle.flash.proofs.Geometry.{length-sector, laid-sector, laid-only, laid-in-fits, other-kept, below-kept, only-same}
 use Rattle.flash.proofs.Statuses.{empty-blanks, empty-append, empty-word, first-word, status-empty, status-erasing, status-quiet, erasing-this, erasing-other}
 use Rattle.flash.proofs.Entries.{entry-local, entry-quiet, directory-update}
 
@@ -186,112 +185,3 @@ directory-begun flash s sector =
     (λ t q n. entry-quiet Erasing.Nothing (Erasing.Sector (progress s 0)) t (sectorOf flash t) refl (erasing-other (progress s 0) t n))
     ∙ ap (entered (directoryOf flash Erasing.Nothing) s (firstOf (sectorOf flash s))) (status-erasing (Erasing.Sector (progress s 0)) s (sectorOf flash s) (erasing-this (progress s 0)))
 
--- a row of steps
-
-none-by : (flash : List ℕ) (budgets : List ℕ) → erasedBy flash Erasing.Nothing budgets ≡ flash
-unfolding erasedBy erased erasingAfter
-none-by flash [] = refl
-none-by flash (b ∷ budgets) = none-by flash budgets
-
-none-counted : (u : ℕ) (budgets : List ℕ) → countedBy u Erasing.Nothing budgets ≡ 0
-unfolding countedBy eraseCount erasingAfter
-none-counted u [] = refl
-none-counted u (b ∷ budgets) = ap (λ (n : ℕ). 0 + n) (none-counted u budgets)
-
-none-erasing : (u : ℕ) (budgets : List ℕ) → erasingBy u Erasing.Nothing budgets ≡ Erasing.Nothing
-unfolding erasingBy erasingAfter
-none-erasing u [] = refl
-none-erasing u (b ∷ budgets) = none-erasing u budgets
-
--- the counts sum to the budgets' sum or the rest
-pub counted-by : (u : ℕ) (p : Progress) (budgets : List ℕ) → countedBy u (Erasing.Sector p) budgets ≡ min (sum budgets) (restOf u p)
-unfolding countedBy eraseCount erasingAfter
-counted-by u p [] = omega arith
-counted-by u p (b ∷ budgets) = by (leb (restOf u p) b) refl (counted-by u (progress (p .sector) (p .done + b)) budgets)
-  where
-    by : (t : Bool) → leb (restOf u p) b ≡ t → countedBy u (Erasing.Sector (progress (p .sector) (p .done + b))) budgets ≡ min (sum budgets) (restOf u (progress (p .sector) (p .done + b)))
-        → min b (restOf u p) + countedBy u (pick t Erasing.Nothing (Erasing.Sector (progress (p .sector) (p .done + b)))) budgets ≡ min (b + sum budgets) (restOf u p)
-    by true e f = omega (arith, leb-true (restOf u p) b e, none-counted u budgets)
-    by false e f = omega (arith, leb-false (restOf u p) b e)
-
--- the erasure is over when the budgets reach the rest
-pub erasing-by : (u : ℕ) (p : Progress) (budgets : List ℕ) → 0 < restOf u p
-    → erasingBy u (Erasing.Sector p) budgets ≡ pick (leb (restOf u p) (sum budgets)) Erasing.Nothing (Erasing.Sector (progress (p .sector) (p .done + sum budgets)))
-unfolding erasingBy erasingAfter
-erasing-by u p [] h = no _ (lt-leb (restOf u p) 0 h) (λ i. Erasing.Sector (progress (p .sector) (sym (add-zero (p .done)) i)))
-erasing-by u p (b ∷ budgets) h = by (leb (restOf u p) b) refl (erasing-by u (progress (p .sector) (p .done + b)) budgets)
-  where
-    by : (t : Bool) → leb (restOf u p) b ≡ t
-        → (0 < restOf u (progress (p .sector) (p .done + b)) → erasingBy u (Erasing.Sector (progress (p .sector) (p .done + b))) budgets ≡ pick (leb (restOf u (progress (p .sector) (p .done + b))) (sum budgets)) Erasing.Nothing (Erasing.Sector (progress (p .sector) (p .done + b + sum budgets))))
-        → erasingBy u (pick t Erasing.Nothing (Erasing.Sector (progress (p .sector) (p .done + b)))) budgets ≡ pick (leb (restOf u p) (b + sum budgets)) Erasing.Nothing (Erasing.Sector (progress (p .sector) (p .done + (b + sum budgets))))
-    by true e f = none-erasing u budgets ∙ yes _ (le-leb (restOf u p) (b + sum budgets) (omega (arith, leb-true (restOf u p) b e))) refl
-    by false e f =
-        let l = leb-false (restOf u p) b e in
-        let z : p .done + b + sum budgets ≡ p .done + (b + sum budgets) = omega arith in
-        f (omega arith) ∙ (λ i. pick (same i) Erasing.Nothing (Erasing.Sector (progress (p .sector) (z i))))
-      where
-        same : leb (restOf u (progress (p .sector) (p .done + b))) (sum budgets) ≡ leb (restOf u p) (b + sum budgets)
-        same = over (decLe (restOf u p) (b + sum budgets))
-          where
-            over : Dec (restOf u p ≤ b + sum budgets) → leb (restOf u (progress (p .sector) (p .done + b))) (sum budgets) ≡ leb (restOf u p) (b + sum budgets)
-            over (Dec.yes q) = le-leb (restOf u (progress (p .sector) (p .done + b))) (sum budgets) (omega arith) ∙ sym (le-leb (restOf u p) (b + sum budgets) q)
-            over (Dec.no q) = lt-leb (restOf u (progress (p .sector) (p .done + b))) (sum budgets) (omega arith) ∙ sym (lt-leb (restOf u p) (b + sum budgets) (omega arith))
-
--- and so many words are FFFF as the counts sum to, from the low end, and the rest as before
-pub erased-by : (flash : List ℕ) (p : Progress) (budgets : List ℕ) → p .done ≤ sizeOf (unitOf flash) (p .sector)
-    → erasedBy flash (Erasing.Sector p) budgets ≡ laid flash (startOf (unitOf flash) (p .sector) + p .done) (blanks (min (sum budgets) (restOf (unitOf flash) p)))
-unfolding erasedBy erasingAfter
-erased-by flash p [] h =
-    let z : 0 ≡ min 0 (restOf (unitOf flash) p) = omega arith in
-    laid-none flash (startOf (unitOf flash) (p .sector) + p .done) ∙ ap (λ (n : ℕ). laid flash (startOf (unitOf flash) (p .sector) + p .done) (blanks n)) z
-erased-by flash p (b ∷ budgets) h = by (leb (restOf (unitOf flash) p) b) refl (erased-by (erased flash (Erasing.Sector p) b) (progress (p .sector) (p .done + b)) budgets)
-  where
-    at : ℕ
-    at = startOf (unitOf flash) (p .sector) + p .done
-
-    next : List ℕ
-    next = erased flash (Erasing.Sector p) b
-
-    unit : unitOf next ≡ unitOf flash
-    unit = ap (λ (k : ℕ). k / 16) (erased-only flash p b .size)
-
-    by : (t : Bool) → leb (restOf (unitOf flash) p) b ≡ t
-        → (p .done + b ≤ sizeOf (unitOf next) (p .sector) → erasedBy next (Erasing.Sector (progress (p .sector) (p .done + b))) budgets ≡ laid next (startOf (unitOf next) (p .sector) + (p .done + b)) (blanks (min (sum budgets) (restOf (unitOf next) (progress (p .sector) (p .done + b))))))
-        → erasedBy next (pick t Erasing.Nothing (Erasing.Sector (progress (p .sector) (p .done + b)))) budgets ≡ laid flash at (blanks (min (b + sum budgets) (restOf (unitOf flash) p)))
-    by true e f =
-        let l = leb-true (restOf (unitOf flash) p) b e in
-        let n : min b (restOf (unitOf flash) p) ≡ min (b + sum budgets) (restOf (unitOf flash) p) = omega arith in
-        none-by next budgets ∙ erased-laid flash p b ∙ ap (λ (k : ℕ). laid flash at (blanks k)) n
-    by false e f =
-        let l = leb-false (restOf (unitOf flash) p) b e in
-        let z = ap (λ (k : ℕ). sizeOf k (p .sector)) unit in
-        let m : ℕ = min (sum budgets) (restOf (unitOf flash) (progress (p .sector) (p .done + b))) in
-        let r = length-replicate {A = ℕ} b 0xFFFF in
-        let q = length-replicate {A = ℕ} m 0xFFFF in
-        let c : min b (restOf (unitOf flash) p) ≡ b = omega arith in
-        let w : startOf (unitOf flash) (p .sector) + (p .done + b) ≡ at + length (blanks b) = omega arith in
-        let n : b + m ≡ min (b + sum budgets) (restOf (unitOf flash) p) = omega arith in
-        f (omega arith)
-        ∙ ap (λ (k : ℕ). laid next (startOf k (p .sector) + (p .done + b)) (blanks (min (sum budgets) (restOf k (progress (p .sector) (p .done + b)))))) unit
-        ∙ (λ i. laid ((erased-laid flash p b ∙ ap (λ (k : ℕ). laid flash at (blanks k)) c) i) (w i) (blanks m))
-        ∙ laid-laid flash at (blanks b) (blanks m) (omega (arith, sector-fits (unitOf flash) (p .sector)))
-        ∙ ap (laid flash at) (replicate-append-replicate b m 0xFFFF)
-        ∙ ap (λ (k : ℕ). laid flash at (blanks k)) n
-
--- all of it, from the start of an erasure: so many words as the budgets sum to, or the sector's size, are FFFF, the rest as before; the
--- answers sum to that; and once they sum to the size the erasure is over
-pub erased-from-start : (flash : List ℕ) (s : ℕ) (budgets : List ℕ)
-    → erasedBy flash (Erasing.Sector (progress s 0)) budgets ≡ laid flash (startOf (unitOf flash) s) (blanks (min (sum budgets) (sizeOf (unitOf flash) s)))
-erased-from-start flash s budgets =
-    let a : startOf (unitOf flash) s + 0 ≡ startOf (unitOf flash) s = omega arith in
-    let n : min (sum budgets) (sizeOf (unitOf flash) s - 0) ≡ min (sum budgets) (sizeOf (unitOf flash) s) = omega arith in
-    erased-by flash (progress s 0) budgets (omega arith) ∙ (λ i. laid flash (a i) (blanks (n i)))
-
-pub counted-from-start : (u s : ℕ) (budgets : List ℕ) → countedBy u (Erasing.Sector (progress s 0)) budgets ≡ min (sum budgets) (sizeOf u s)
-counted-from-start u s budgets =
-    let n : min (sum budgets) (sizeOf u s - 0) ≡ min (sum budgets) (sizeOf u s) = omega arith in
-    counted-by u (progress s 0) budgets ∙ n
-
-pub ended-from-start : (u s : ℕ) (budgets : List ℕ) → 0 < sizeOf u s → sizeOf u s ≤ sum budgets → erasingBy u (Erasing.Sector (progress s 0)) budgets ≡ Erasing.Nothing
-ended-from-start u s budgets h q =
-    erasing-by u (progress s 0) budgets (omega arith) ∙ sym (yes _ (le-leb (restOf u (progress s 0)) (sum budgets) (omega arith)) refl)

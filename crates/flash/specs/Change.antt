@@ -79,23 +79,6 @@ pub record Erased (flash : List ℕ) (p : Progress) : Type 0 where
   pub below : p .done < sizeOf (unitOf flash) (p .sector)
   pub blank : isEmpty (take (p .done) (sectorOf flash (p .sector))) ≡ true
 
--- A row of erase-progress calls, each with its budget: the flash and the erasure after them, and the sum of what they answer.
-unfoldable pub erasedBy : List ℕ → Erasing → List ℕ → List ℕ
-erasedBy flash erasing [] = flash
-erasedBy flash erasing (b ∷ budgets) = erasedBy (erased flash erasing b) (erasingAfter (unitOf flash) erasing b) budgets
-
-unfoldable pub erasingBy : ℕ → Erasing → List ℕ → Erasing
-erasingBy u erasing [] = erasing
-erasingBy u erasing (b ∷ budgets) = erasingBy u (erasingAfter u erasing b) budgets
-
-unfoldable pub countedBy : ℕ → Erasing → List ℕ → ℕ
-countedBy u erasing [] = 0
-countedBy u erasing (b ∷ budgets) = eraseCount u erasing b + countedBy u (erasingAfter u erasing b) budgets
-
-abbrev pub sum : List ℕ → ℕ
-sum [] = 0
-sum (b ∷ budgets) = b + sum budgets
-
 -- A flash that differs from another in words of one sector alone.
 pub record OnlySector (s : ℕ) (old new : List ℕ) : Type 0 where
   pub size : length new ≡ length old

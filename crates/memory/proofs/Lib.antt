@@ -9,3 +9,4 @@ pub mod Command
 pub mod Laws
 pub mod Numbers
 pub mod Examples
+pub mod Segments
