@@ -13,6 +13,7 @@ ghost use Rattle.logodwen.specs.Bytes.{wordsOf};
 ghost use Rattle.logodwen.specs.Entry.{runWords, inBytes};
 use crate::answers::refuse;
 use crate::files::on_file;
+use crate::filing::on_filing;
 use crate::settings::on_settings;
 use crate::whole::needs_flash;
 use crate::whole::needs_memories;
@@ -48,6 +49,9 @@ fn on_own(
     }
     if (id == 0x05) | (id == 0x06) {
         return on_file(node, id, packet, flash, reply);
+    }
+    if (id == 0x45) | (id == 0x47) | (id == 0x48) {
+        return on_filing(node, id, packet, flash);
     }
     on_whole(
         node,
