@@ -1,9 +1,9 @@
 // Words in runs of bytes, low byte first: two bytes a word, and four.
 ghost use mathlib.Core.Path.{_≡_};
 ghost use Prim.Native.Nat.{_+_, _*_, _/_, _≤_, _<_};
-ghost use lib.ListN.{length};
-ghost use Rattle.base.specs.Words.{laid};
-ghost use Rattle.logodwen.specs.Bytes.{Loaded, numberAt, digitsOf, storeWords};
+ghost use lib.ListN.{length, getD};
+ghost use Rattle.base.specs.Words.{laid, blanks};
+ghost use Rattle.logodwen.specs.Bytes.{Loaded, numberAt, digitsOf, wordsOf, bytesOf, storeWords};
 
 fn wide16(byte: u8) -> u16
     ensures { λ r. ⌜ (r ≡ byte) × (r < 256) ⌝ }
@@ -133,4 +133,27 @@ pub fn store32(words: &[u32], bytes: &mut [u8])
         put32(bytes, i * 4, long32(words[i]));
         i += 1;
     }
+}
+
+// Sets n words of bytes to FFFF, from a byte on.
+pub fn blank16(bytes: &mut [u8], at: usize, n: usize)
+    requires { ⌜ at + n * 2 ≤ length (now bytes) ⌝ }
+    ensures { λ _. ⌜ now (bytes .exit) ≡ laid (now (bytes .entry)) at (bytesOf 2 (blanks n)) ⌝ }
+{
+    let mut i = 0;
+    while i < n {
+        put16(bytes, at + i * 2, 65535);
+        i += 1;
+    }
+}
+
+// A word of a packet; 0 where it has none.
+pub fn packet_word(packet: &[u8], at: usize) -> u16
+    requires { ⌜ at < 8193 ⌝ }
+    ensures { λ r. ⌜ r ≡ getD (wordsOf 2 (now (packet .entry))) at 0 ⌝ }
+{
+    if packet.len() / 2 <= at {
+        return 0;
+    }
+    word16(packet, at * 2)
 }

@@ -1,0 +1,103 @@
+-- A request by its verdict and its route, off the lengths of what is lent and the packet's first two words. Assumes nothing.
+use Prim.Native.Nat.{ℕ, _-_, _/_, _≤_, _<_}
+use mathlib.Core.Path.{_≡_, refl, sym, ap, _∙_}
+use mathlib.Core.Bool.{Bool, true, false, false≢true}
+use mathlib.Core.List.{List}
+use native.Mathlib.Omega.{arith}
+use native.Mathlib.Decide.{decLe}
+use lib.ListN.{length, getD}
+use borrow.Author.Tests.{ne-eqb, lt-ltb}
+use Rattle.node.specs.State.{turn}
+use Rattle.node.specs.Effect.{Lent, Outcome, outcome, applied}
+use Rattle.node.specs.Refusals.{requestVerdict}
+use Rattle.node.specs.Route.{routeBy, routeOf}
+use Rattle.node.specs.Calls.{judged, routed, passedBy, requestOf}
+use Rattle.node.specs.declared.Answer.{Answer}
+use Rattle.node.specs.declared.Node.{Node}
+use Rattle.node.specs.declared.Refusal.{Refusal}
+use Rattle.node.specs.declared.Route.{Route}
+use Rattle.node.specs.declared.Turn.{Turn}
+use Rattle.node.specs.declared.Verdict.{Verdict}
+use Rattle.logodwen.specs.Bytes.{wordsOf}
+use Rattle.logodwen.specs.Entry.{replyWords, runWords, inBytes}
+use Rattle.logodwen.proofs.Runs.{length-words-of}
+use Rattle.logodwen.proofs.Touch.{Lends, length-reply, runs-kept}
+
+-- a request by its verdict and its route
+
+module _ (n : Node) (clock link bc : ℕ) (errors : Bool) (packet : List ℕ) (l : Lent) where
+  -- the verdict, by the lengths in bytes
+  abbrev pub verdictIn : Verdict
+  verdictIn = requestVerdict n link (length packet / 2) (length (l .flash) / 2) (length (l .memories .pm) / 4) (length (l .memories .dm) / 2) (length (l .memories .io) / 2) 12288
+
+  abbrev pub routeIn : Route
+  routeIn = routeOf n link bc errors (wordsOf 2 packet)
+
+  abbrev pub asked : Outcome
+  asked = requestOf n clock link bc errors (wordsOf 2 packet) (runWords l)
+
+  verdict-in : Lends l
+      → verdictIn ≡ requestVerdict n link (length (wordsOf 2 packet)) (length (wordsOf 2 (l .flash))) (length (wordsOf 4 (l .memories .pm))) (length (wordsOf 2 (l .memories .dm))) (length (wordsOf 2 (l .memories .io))) (length (replyWords (l .reply)))
+  verdict-in b =
+      sym (λ i. requestVerdict n link (length-words-of 2 packet i) (length-words-of 2 (l .flash) i) (length-words-of 4 (l .memories .pm) i) (length-words-of 2 (l .memories .dm) i) (length-words-of 2 (l .memories .io) i) (length-reply (l .reply) (b .buffer) i))
+
+  pub route-in : routeBy n link bc errors (length packet / 2) (getD (wordsOf 2 packet) 0 0) (getD (wordsOf 2 packet) 1 0) ≡ routeIn
+  unfolding routeOf
+  route-in = ap (λ (k : ℕ). routeBy n link bc errors k (getD (wordsOf 2 packet) 0 0) (getD (wordsOf 2 packet) 1 0)) (sym (length-words-of 2 packet))
+
+  judged-in : Lends l → asked ≡ judged verdictIn n (runWords l) (routed routeIn n clock link (wordsOf 2 packet) (runWords l))
+  unfolding requestOf
+  judged-in b = sym (ap (λ (v : Verdict). judged v n (runWords l) (routed routeIn n clock link (wordsOf 2 packet) (runWords l))) (verdict-in b))
+
+  -- refused: nothing is touched
+  pub refused-left : Lends l → (r : Refusal) {t : Turn} → verdictIn ≡ Verdict.No r → t ≡ turn n (Answer.Refused r) → outcome t l ≡ inBytes asked l
+  refused-left b r {t} v e =
+      ap (λ (x : Turn). outcome x l) e ∙ runs-kept (turn n (Answer.Refused r)) l b
+      ∙ sym (ap (λ (o : Outcome). inBytes o l) (judged-in b ∙ ap (λ (x : Verdict). judged x n (runWords l) (routed routeIn n clock link (wordsOf 2 packet) (runWords l))) v))
+
+  -- taken, by the route
+  pub taken-in : Lends l → verdictIn ≡ Verdict.Fine → {r : Route} → routeIn ≡ r → asked ≡ applied n (runWords l) (routed r n clock link (wordsOf 2 packet) (runWords l))
+  taken-in b v e =
+      judged-in b ∙ ap (λ (x : Verdict). judged x n (runWords l) (routed routeIn n clock link (wordsOf 2 packet) (runWords l))) v
+      ∙ ap (λ (x : Route). applied n (runWords l) (routed x n clock link (wordsOf 2 packet) (runWords l))) e
+
+  -- no command of the node's own: nothing is touched
+  abbrev pub passes : Route → Bool
+  passes Route.Wrong = true
+  passes Route.Unserved = true
+  passes Route.Dropped = true
+  passes (Route.Slave a) = true
+  passes (Route.Group a set) = true
+  passes (Route.Own id) = false
+
+  passed : (r : Route) → passes r ≡ true → outcome (passedBy r n clock link) (runWords l) ≡ applied n (runWords l) (routed r n clock link (wordsOf 2 packet) (runWords l))
+  passed Route.Wrong h = refl
+  passed Route.Unserved h = refl
+  passed Route.Dropped h = refl
+  passed (Route.Slave a) h = refl
+  passed (Route.Group a set) h = refl
+  passed (Route.Own id) h = absurd (false≢true h)
+
+  pub passed-left : Lends l → verdictIn ≡ Verdict.Fine → {route r : Route} {t : Turn} → route ≡ routeIn → route ≡ r → passes r ≡ true → t ≡ passedBy route n clock link
+      → outcome t l ≡ inBytes asked l
+  passed-left b v {route} {r} {t} e f p m =
+      ap (λ (x : Turn). outcome x l) (m ∙ ap (λ (x : Route). passedBy x n clock link) f)
+      ∙ runs-kept (passedBy r n clock link) l b
+      ∙ ap (λ (o : Outcome). inBytes o l) (passed r p ∙ sym (taken-in b v (sym e ∙ f)))
+
+  -- an own command has a word, and no more than 8,192
+  long-route : 8192 < length (wordsOf 2 packet) → (t : Bool) → routeOf n link bc t (wordsOf 2 packet) ≡ Route.Wrong
+  unfolding routeOf
+  long-route h true = refl
+  long-route h false =
+      let some : length (wordsOf 2 packet) ≡ 0 → ⊥ = λ e. omega arith in
+      rw (ne-eqb (length (wordsOf 2 packet)) 0 some, lt-ltb 8192 (length (wordsOf 2 packet)) h)
+
+  pub own-short : (id : ℕ) → routeIn ≡ Route.Own id → length (wordsOf 2 packet) ≤ 8192
+  own-short id e = by (decLe (length (wordsOf 2 packet)) 8192)
+    where
+      by : Dec (length (wordsOf 2 packet) ≤ 8192) → length (wordsOf 2 packet) ≤ 8192
+      by (Dec.yes h) = h
+      by (Dec.no h) =
+          let w : Route.Wrong ≡ Route.Own id = sym (long-route (omega arith) errors) ∙ e in
+          let z : _≡_ {A = ℕ} 0 1 = cc in absurd (omega arith)

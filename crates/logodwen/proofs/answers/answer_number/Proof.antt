@@ -1,0 +1,95 @@
+-- `logodwen::calls::answer_number` meets its contract. Assumes nothing.
+use Rattle.base.proofs.Pick.{via}
+use Rattle.logodwen.specs.Number.{answerNumber}
+use borrow.Author.Needs.{needs}
+use Rattle.logodwen.proofs.answers.answer_number.Statement.{statement}
+use Rattle.logodwen.proofs.answers.answer_number.Tie as tie
+
+enum-known-answer : tie.Need-enum-known-answer
+enum-known-answer c = search needs
+
+refusal-number-requires : tie.Need-refusal-number-requires
+refusal-number-requires c κs = search needs
+
+cast-result : tie.Need-cast-result
+cast-result c = search needs
+
+enum-told : tie.Need-enum-told
+enum-told c = search needs
+
+enum-known-answer-2 : tie.Need-enum-known-answer-2
+enum-known-answer-2 c = search needs
+
+cast-done : tie.Need-cast-done
+cast-done c = search needs
+
+done-requires : tie.Need-done-requires
+done-requires c κs = search needs
+
+enum-known-answer-3 : tie.Need-enum-known-answer-3
+enum-known-answer-3 c = search needs
+
+cast-done-2 : tie.Need-cast-done-2
+cast-done-2 c = search needs
+
+cast-done-3 : tie.Need-cast-done-3
+cast-done-3 c = search needs
+
+done-requires-2 : tie.Need-done-requires-2
+done-requires-2 c κs = search needs
+
+enum-told-2 : tie.Need-enum-told-2
+enum-told-2 c = search needs
+
+done-requires-3 : tie.Need-done-requires-3
+done-requires-3 c κs = search needs
+
+enum-known-answer-4 : tie.Need-enum-known-answer-4
+enum-known-answer-4 c = search needs
+
+done-requires-4 : tie.Need-done-requires-4
+done-requires-4 c κs = search needs
+
+returns : tie.Need-returns
+returns c = search needs
+
+returns-2 : tie.Need-returns-2
+returns-2 c = search needs
+
+returns-3 : tie.Need-returns-3
+returns-3 c = via answerNumber (c .before .before .before .answer2 .given .1) (c .done .ensures)
+
+returns-4 : tie.Need-returns-4
+returns-4 c = via answerNumber (c .before .before .before .before .answer3 .given .1) (c .done2 .ensures)
+
+returns-5 : tie.Need-returns-5
+returns-5 c = search needs
+
+returns-6 : tie.Need-returns-6
+returns-6 c = via answerNumber (c .before .before .answer4 .given .1) (c .done4 .ensures)
+
+pub answer-number-spec : {M : Type 1} → statement M
+answer-number-spec =
+    tie.close
+    (tie.spec
+    enum-known-answer
+    refusal-number-requires
+    cast-result
+    enum-told
+    enum-known-answer-2
+    cast-done
+    done-requires
+    enum-known-answer-3
+    cast-done-2
+    cast-done-3
+    done-requires-2
+    enum-told-2
+    done-requires-3
+    enum-known-answer-4
+    done-requires-4
+    returns
+    returns-2
+    returns-3
+    returns-4
+    returns-5
+    returns-6)

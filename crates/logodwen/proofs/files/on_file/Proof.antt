@@ -1,0 +1,96 @@
+use mathlib.Core.Path.{_≡_, refl, sym, ap, _∙_}
+use mathlib.Core.Bool.{Bool, false, not, _&&_}
+use lib.ListN.{length, getD}
+use lib.Dec.{eqb}
+use Prim.Native.Nat.{ℕ, _/_}
+use borrow.Author.Tests.{not-true, not-false}
+use Rattle.group.specs.declared.ZeroLength.{ZeroLength}
+use Rattle.node.specs.State.{turn}
+use Rattle.node.specs.Effect.{says}
+use Rattle.node.specs.Files.{isErasing, namedBy}
+use Rattle.flash.specs.declared.Target.{Target}
+use Rattle.logodwen.specs.Bytes.{wordsOf}
+use Rattle.logodwen.specs.Touch.{fileAt, fileOf}
+use Rattle.logodwen.proofs.Touch.{quiet-is, quiet-says}
+use Rattle.logodwen.proofs.OneFile.{missing-says, file-unserved, file-served}
+use borrow.Author.Needs.{needs}
+use Rattle.logodwen.proofs.files.on_file.Statement.{statement}
+use Rattle.logodwen.proofs.files.on_file.Tie as tie
+use Rattle.logodwen.proofs.files.on_file.Reads as reads
+use Rattle.logodwen.proofs.files.on_file.Lts as lts
+use Rattle.logodwen.proofs.files.missing.Reads as missing-reads
+use Rattle.logodwen.proofs.files.on_sector.Reads as on-sector-reads
+use Rattle.logodwen.proofs.words.packet_word.Reads as packet-word-reads
+use Rattle.node.proofs.answering.says.Reads as says-reads
+use Rattle.node.proofs.files.is_served.Reads as is-served-reads
+use Rattle.node.proofs.files.named_by.Reads as named-by-reads
+
+-- src/files.rt:585:9
+is-served-requires : tie.Need-is-served-requires
+is-served-requires c κs = search needs
+
+-- src/files.rt:586:9
+says-requires : tie.Need-says-requires
+says-requires c κs = search needs
+
+-- src/files.rt:586:9
+returns : tie.Need-returns
+returns c = let a = c .before .before .before .before .before .before .args in quiet-is (a .node) (a .reply .now) (quiet-says (a .node) ZeroLength.Abort (a .reply .now) (c .says .ensures)) (file-unserved (a .id) (a .node) (wordsOf 2 (a .flash .now)) (a .packet .now) (sym (c .before .before .is-served .ensures) ∙ not-true _ (c .before .if1 .taken)))
+
+-- src/files.rt:588:46
+packet-word-requires : tie.Need-packet-word-requires
+packet-word-requires c κs = search needs
+
+-- src/files.rt:588:9
+named-by-requires : tie.Need-named-by-requires
+named-by-requires c κs = search needs
+
+-- src/files.rt:590:56
+enum-told : tie.Need-enum-told
+enum-told c = search needs
+
+-- src/files.rt:590:56
+missing-requires : tie.Need-missing-requires
+missing-requires c κs = search needs
+
+-- src/files.rt:590:28
+says-requires-2 : tie.Need-says-requires-2
+says-requires-2 c κs = search needs
+
+-- src/files.rt:591:20
+enum-known-target : tie.Need-enum-known-target
+enum-known-target c = search needs
+
+-- src/files.rt:591:31
+on-sector-requires : tie.Need-on-sector-requires
+on-sector-requires c κs = search needs
+
+-- src/files.rt:580:1
+returns-2 : tie.Need-returns-2
+returns-2 c = let a = c .before .before .before .before .before .before .before .before .before .before .before .args in quiet-is (a .node) (a .reply .now) (quiet-says (a .node) (c .before .missing .result) (a .reply .now) (c .says2 .ensures)) (ap says (c .before .missing .ensures) ∙ missing-says (a .id) (a .node) (wordsOf 2 (a .flash .now)) ∙ file-served (a .id) (a .node) (wordsOf 2 (a .flash .now)) (a .packet .now) (sym (c .before .before .before .before .before .before .before .is-served .ensures) ∙ not-false _ (c .before .before .before .before .before .before .if1 .left)) (sym (c .before .before .enum-told .given .1) ∙ c .before .before .before .before .named-by .ensures ∙ ap (namedBy (a .node)) (c .before .before .before .before .before .packet-word .ensures)))
+
+-- src/files.rt:580:1
+same-length : tie.Need-same-length
+same-length c = search needs
+
+-- src/files.rt:580:1
+returns-3 : tie.Need-returns-3
+returns-3 c = let a = c .before .before .before .before .before .before .before .before .before .before .before .before .before .before .args in quiet-is (a .node) (a .reply .now) (c .before .before .on-sector .ensures) (file-served (a .id) (a .node) (wordsOf 2 (a .flash .now)) (a .packet .now) (sym (c .before .before .before .before .before .before .before .before .before .before .is-served .ensures) ∙ not-false _ (c .before .before .before .before .before .before .before .before .before .if1 .left)) (sym (c .before .before .before .before .before .target .given .1) ∙ c .before .before .before .before .before .before .before .named-by .ensures ∙ ap (namedBy (a .node)) (c .before .before .before .before .before .before .before .before .packet-word .ensures)))
+
+pub on-file-spec : {M : Type 1} → statement M
+on-file-spec =
+    tie.close
+    (tie.spec
+    is-served-requires
+    says-requires
+    returns
+    packet-word-requires
+    named-by-requires
+    enum-told
+    missing-requires
+    says-requires-2
+    enum-known-target
+    on-sector-requires
+    returns-2
+    same-length
+    returns-3)

@@ -1,0 +1,55 @@
+// What a call answers, as one number, and how many words of the reply buffer it has laid.
+ghost use mathlib.Core.Path.{_≡_};
+ghost use Rattle.node.specs.State.{turn};
+ghost use Rattle.node.specs.declared.Answer.{Answer};
+ghost use Rattle.logodwen.specs.Number.{fields, answerNumber};
+ghost use Rattle.logodwen.specs.Touch.{repliedWords};
+use node::Answer;
+use node::Node;
+use node::Refusal;
+use node::Turn;
+use node::refusals::refusal_number;
+
+fn done(kind: u64, who: u64, from: u64, words: u64) -> u64
+    ensures { λ r. ⌜ r ≡ fields kind who from words ⌝ }
+{
+    kind % 256 * 256 + who % 256 * 65536 + from % 256 * 16777216 + words % 4294967296 * 4294967296
+}
+
+// What a call answers, as one number.
+pub fn answer_number(answer: Answer) -> u64
+    ensures { λ r. ⌜ r ≡ answerNumber answer ⌝ }
+{
+    match answer {
+        Answer::Refused(refusal) => refusal_number(refusal) as u64,
+        Answer::Started => 0,
+        Answer::Reply(reply) => done(1, reply.bc as u64, 0, reply.words as u64),
+        Answer::Ask(asking) => done(2, asking.slave as u64, asking.from as u64, 0),
+        Answer::Waiting => done(3, 0, 0, 0),
+        Answer::Erased(count) => done(0, 0, 0, count as u64),
+    }
+}
+
+// How many words an answer has laid at the front of the reply buffer.
+pub fn answer_words(answer: Answer) -> usize
+    ensures { λ r. ⌜ r ≡ repliedWords answer ⌝ }
+{
+    match answer {
+        Answer::Refused(_) => 0,
+        Answer::Started => 0,
+        Answer::Reply(reply) => reply.words,
+        Answer::Ask(_) => 0,
+        Answer::Waiting => 0,
+        Answer::Erased(_) => 0,
+    }
+}
+
+// A refused call: the same node.
+pub fn refuse(node: Node, refusal: Refusal) -> Turn
+    ensures { λ r. ⌜ r ≡ turn node (Answer.Refused refusal) ⌝ }
+{
+    Turn {
+        node,
+        answer: Answer::Refused(refusal),
+    }
+}

@@ -1,0 +1,164 @@
+// A request: what it is, off the packet's length and first two words, and the runs that its command touches.
+ghost use mathlib.Core.Path.{_≡_};
+ghost use Prim.Native.Nat.{_/_, _≤_};
+ghost use lib.ListN.{length};
+ghost use Rattle.memory.specs.Segment.{memories};
+ghost use Rattle.node.specs.Effect.{lent, outcome};
+ghost use Rattle.node.specs.Refusals.{requestVerdict};
+ghost use Rattle.node.specs.Route.{routeOf};
+ghost use Rattle.node.specs.declared.Route.{Route};
+ghost use Rattle.node.specs.declared.Verdict.{Verdict};
+ghost use Rattle.node.specs.Calls.{requestOf};
+ghost use Rattle.logodwen.specs.Bytes.{wordsOf};
+ghost use Rattle.logodwen.specs.Entry.{runWords, inBytes};
+use crate::answers::refuse;
+use crate::files::on_file;
+use crate::filing::on_filing;
+use crate::settings::on_settings;
+use crate::whole::needs_flash;
+use crate::whole::needs_memories;
+use crate::whole::on_whole;
+use crate::words::packet_word;
+use node::Node;
+use node::Route;
+use node::Turn;
+use node::Verdict;
+
+// An own command: on the runs that it touches.
+fn on_own(
+    node: Node,
+    id: u16,
+    clock: u32,
+    link: u32,
+    bc: u32,
+    errors: bool,
+    packet: &[u8],
+    flash: &mut [u8],
+    pm: &mut [u8],
+    dm: &mut [u8],
+    io: &mut [u8],
+    reply: &mut [u8],
+) -> Turn
+    requires { ⌜ (length (now flash) / 2 ≡ 32768) × (12288 ≤ length (now reply) / 2) × (length (now pm) / 4 ≤ 8192) × (length (now dm) / 2 ≤ 8192) × (length (now io) / 2 ≤ 4096) ⌝ }
+    requires { ⌜ requestVerdict node link (length (now packet) / 2) (length (now flash) / 2) (length (now pm) / 4) (length (now dm) / 2) (length (now io) / 2) 12288 ≡ Verdict.Fine ⌝ }
+    requires { ⌜ routeOf node link bc errors (wordsOf 2 (now packet)) ≡ Route.Own id ⌝ }
+    ensures { λ r. ⌜ outcome r (lent (now (flash .exit)) (memories (now (pm .exit)) (now (dm .exit)) (now (io .exit))) (now (reply .exit))) ≡ inBytes (requestOf node clock link bc errors (wordsOf 2 (now (packet .entry))) (runWords (lent (now (flash .entry)) (memories (now (pm .entry)) (now (dm .entry)) (now (io .entry))) (now (reply .entry))))) (lent (now (flash .entry)) (memories (now (pm .entry)) (now (dm .entry)) (now (io .entry))) (now (reply .entry))) ⌝ }
+{
+    if !(needs_memories(id) | needs_flash(id)) {
+        return on_settings(node, id, clock, link, packet, reply);
+    }
+    if (id == 0x05) | (id == 0x06) {
+        return on_file(node, id, packet, flash, reply);
+    }
+    if (id == 0x45) | (id == 0x47) | (id == 0x48) {
+        return on_filing(node, id, packet, flash);
+    }
+    on_whole(
+        node,
+        clock,
+        link,
+        bc,
+        errors,
+        packet,
+        flash,
+        pm,
+        dm,
+        io,
+        reply,
+    )
+}
+
+// A request that is taken, by its route, which its first two words and its length tell.
+fn on_taken(
+    node: Node,
+    clock: u32,
+    link: u32,
+    bc: u32,
+    errors: bool,
+    packet: &[u8],
+    flash: &mut [u8],
+    pm: &mut [u8],
+    dm: &mut [u8],
+    io: &mut [u8],
+    reply: &mut [u8],
+) -> Turn
+    requires { ⌜ (length (now flash) / 2 ≡ 32768) × (12288 ≤ length (now reply) / 2) × (length (now pm) / 4 ≤ 8192) × (length (now dm) / 2 ≤ 8192) × (length (now io) / 2 ≤ 4096) ⌝ }
+    requires { ⌜ requestVerdict node link (length (now packet) / 2) (length (now flash) / 2) (length (now pm) / 4) (length (now dm) / 2) (length (now io) / 2) 12288 ≡ Verdict.Fine ⌝ }
+    ensures { λ r. ⌜ outcome r (lent (now (flash .exit)) (memories (now (pm .exit)) (now (dm .exit)) (now (io .exit))) (now (reply .exit))) ≡ inBytes (requestOf node clock link bc errors (wordsOf 2 (now (packet .entry))) (runWords (lent (now (flash .entry)) (memories (now (pm .entry)) (now (dm .entry)) (now (io .entry))) (now (reply .entry))))) (lent (now (flash .entry)) (memories (now (pm .entry)) (now (dm .entry)) (now (io .entry))) (now (reply .entry))) ⌝ }
+{
+    let route = node::routing::route_by(
+        node,
+        link,
+        bc,
+        errors,
+        packet.len() / 2,
+        packet_word(packet, 0),
+        packet_word(packet, 1),
+    );
+    match route {
+        Route::Wrong => node::requests::pass_by(node, route, clock, link),
+        Route::Unserved => node::requests::pass_by(node, route, clock, link),
+        Route::Dropped => node::requests::pass_by(node, route, clock, link),
+        Route::Slave(_) => node::requests::pass_by(node, route, clock, link),
+        Route::Group(_, _) => node::requests::pass_by(node, route, clock, link),
+        Route::Own(id) => on_own(
+            node,
+            id,
+            clock,
+            link,
+            bc,
+            errors,
+            packet,
+            flash,
+            pm,
+            dm,
+            io,
+            reply,
+        ),
+    }
+}
+
+// A request.
+pub fn on_request(
+    node: Node,
+    clock: u32,
+    link: u32,
+    bc: u32,
+    errors: bool,
+    packet: &[u8],
+    flash: &mut [u8],
+    pm: &mut [u8],
+    dm: &mut [u8],
+    io: &mut [u8],
+    reply: &mut [u8],
+) -> Turn
+    requires { ⌜ (length (now flash) / 2 ≡ 32768) × (12288 ≤ length (now reply) / 2) × (length (now pm) / 4 ≤ 8192) × (length (now dm) / 2 ≤ 8192) × (length (now io) / 2 ≤ 4096) ⌝ }
+    ensures { λ r. ⌜ outcome r (lent (now (flash .exit)) (memories (now (pm .exit)) (now (dm .exit)) (now (io .exit))) (now (reply .exit))) ≡ inBytes (requestOf node clock link bc errors (wordsOf 2 (now (packet .entry))) (runWords (lent (now (flash .entry)) (memories (now (pm .entry)) (now (dm .entry)) (now (io .entry))) (now (reply .entry))))) (lent (now (flash .entry)) (memories (now (pm .entry)) (now (dm .entry)) (now (io .entry))) (now (reply .entry))) ⌝ }
+{
+    let verdict = node::refusals::request_verdict(
+        node,
+        link,
+        packet.len() / 2,
+        flash.len() / 2,
+        pm.len() / 4,
+        dm.len() / 2,
+        io.len() / 2,
+        12288,
+    );
+    match verdict {
+        Verdict::Fine => on_taken(
+            node,
+            clock,
+            link,
+            bc,
+            errors,
+            packet,
+            flash,
+            pm,
+            dm,
+            io,
+            reply,
+        ),
+        Verdict::No(refusal) => refuse(node, refusal),
+    }
+}
