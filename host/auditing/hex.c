@@ -18,19 +18,21 @@ static const uint8_t mark[3] = {0xEF, 0xBB, 0xBF}; /* the byte-order mark in UTF
 
 static bool has_mark(const uint8_t *bytes, size_t count) { return count >= sizeof mark && memcmp(bytes, mark, sizeof mark) == 0; }
 
-/* UTF-16, by its byte-order mark, or by a zero in each pair of bytes at one side: the place of the low byte in a pair, or -1. */
+/* How many characters of UTF-16 from a place on are text in ASCII. */
+static size_t wide_ascii(const uint8_t *bytes, size_t count, size_t at, size_t low) {
+    size_t from = at;
+    while (at < count && bytes[at + 1 - low] == 0 && hex_is_ascii(bytes + at + low, 1))
+        at += 2;
+    return (at - from) / 2;
+}
+
+/* UTF-16: a byte-order mark with ASCII behind it, or no mark and ASCII alone. The place of the low byte in a pair, or -1. */
 static int low_byte(const uint8_t *bytes, size_t count) {
-    if (count < 2 || count % 2 != 0)
+    if (count < 4 || count % 2 != 0)
         return -1;
-    if (bytes[0] == 0xFF && bytes[1] == 0xFE)
-        return 0;
-    if (bytes[0] == 0xFE && bytes[1] == 0xFF)
-        return 1;
     for (int low = 0; low < 2; low++) {
-        size_t at = 0;
-        while (at < count && bytes[at + !low] == 0 && bytes[at + (size_t)low] != 0)
-            at += 2;
-        if (at == count)
+        bool is_marked = bytes[low] == 0xFF && bytes[1 - low] == 0xFE;
+        if (is_marked ? wide_ascii(bytes, count, 2, (size_t)low) > 0 : wide_ascii(bytes, count, 0, (size_t)low) == count / 2)
             return low;
     }
     return -1;
