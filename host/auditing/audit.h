@@ -31,6 +31,18 @@ struct text {
 const char *shown(const char *name, struct text *text);
 const char *in_json(const char *name, struct text *text); /* always between quotes */
 
+/* What a file is (look.c); false where that can't be told, with errno. */
+
+struct look {
+    bool is_file, is_folder, is_link, is_fifo;
+    unsigned mode, owner, group;
+    uint64_t names, bytes, inode, device;
+};
+
+bool look_at(const char *path, struct look *look);      /* where links lead */
+bool look_at_name(const char *path, struct look *look); /* a link itself */
+bool look_into(int file, struct look *look);
+
 /* Options (options.c). */
 
 enum reading { BY_CONTENT, AS_HEX, AS_RAW };
@@ -160,8 +172,8 @@ struct flash_file {
     char *beside;     /* what is written, and takes its place */
     char *lock_path;
     int lock; /* -1 where it isn't locked */
-    bool is_new, is_kept;
-    unsigned mode, owner, group; /* of the file that stands there */
+    bool is_new;
+    struct look look; /* at the file that stands there */
 };
 
 /* Reads it; to be kept it is locked first, which may mean waiting for another audit. */

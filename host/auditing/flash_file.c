@@ -11,7 +11,7 @@
 #include <fcntl.h>
 #include <stdlib.h>
 #include <string.h>
-#include <sys/stat.h>
+#include <sys/stat.h> /* fchmod */
 #include <unistd.h>
 
 /* Why a file is not kept, by the system's error. */
@@ -56,9 +56,9 @@ static char *place_of_new(const char *path) {
 }
 
 static bool is_placed(struct flash_file *file, char *why) {
-    struct stat kind;
+    struct look look;
     file->real = realpath(file->path, NULL);
-    if (file->real == NULL && errno == ENOENT && lstat(file->path, &kind) == 0)
+    if (file->real == NULL && errno == ENOENT && look_at_name(file->path, &look))
         return can_not_be_kept(file, "a link that leads nowhere", why);
     if (file->real == NULL && errno == ENOENT)
         file->real = place_of_new(file->path);
@@ -93,14 +93,17 @@ static bool is_waited_for(const struct flash_file *file, int lock) {
 
 /* Whether the file that was locked still has its name: the one before may have taken it away. */
 static bool is_there(const char *path, int lock) {
-    struct stat named, locked;
-    return stat(path, &named) == 0 && fstat(lock, &locked) == 0 && named.st_dev == locked.st_dev && named.st_ino == locked.st_ino;
+    struct look named, locked;
+    return look_at_name(path, &named) && look_into(lock, &locked) && named.device == locked.device && named.inode == locked.inode;
 }
 
 static bool is_locked(struct flash_file *file, char *why) {
     for (;;) {
         struct flock held;
-        int lock = open(file->lock_path, O_RDWR | O_CREAT | O_NOFOLLOW | O_NONBLOCK, 0666);
+        struct look look;
+        if (look_at_name(file->lock_path, &look) && !look.is_file)
+            return can_not_be_kept(file, "something stands where its lock should", why);
+        int lock = open(file->lock_path, O_RDWR | O_CREAT | O_NONBLOCK, 0666);
         if (lock < 0)
             return is_not_kept(file, file->lock_path, why);
         if (!is_held(lock, F_SETLK, &held) && ((errno != EACCES && errno != EAGAIN) || !is_waited_for(file, lock))) {
@@ -118,10 +121,10 @@ static bool is_locked(struct flash_file *file, char *why) {
 
 /* The lock goes while it is held, so that nobody holds one on a file without a name and believes it good. */
 static void unlock(struct flash_file *file) {
-    struct stat kind;
+    struct look look;
     if (file->lock < 0)
         return;
-    if (fstat(file->lock, &kind) == 0 && S_ISREG(kind.st_mode) && kind.st_size == 0)
+    if (look_into(file->lock, &look) && look.is_file && look.bytes == 0)
         unlink(file->lock_path);
     close(file->lock);
     file->lock = -1;
@@ -129,21 +132,16 @@ static void unlock(struct flash_file *file) {
 
 /* Whether it may be written over by another that has its name, mode and owner. */
 static bool may_be_kept(struct flash_file *file, char *why) {
-    struct stat kind;
-    if (stat(file->real, &kind) != 0) {
-        file->is_new = errno == ENOENT;
-        return file->is_new || is_not_kept(file, file->real, why);
-    }
-    file->mode = kind.st_mode & 07777u;
-    file->owner = kind.st_uid;
-    file->group = kind.st_gid;
-    if (!S_ISREG(kind.st_mode))
+    file->is_new = !look_at(file->real, &file->look);
+    if (file->is_new)
+        return errno == ENOENT || is_not_kept(file, file->real, why);
+    if (!file->look.is_file)
         return can_not_be_kept(file, "no regular file, so it can't be kept", why);
-    if ((kind.st_mode & 0222u) == 0 || access(file->real, W_OK) != 0)
+    if ((file->look.mode & 0222u) == 0 || access(file->real, W_OK) != 0)
         return can_not_be_kept(file, "read-only, so it is not kept; to allow it: chmod u+w", why);
-    if (kind.st_nlink > 1)
+    if (file->look.names > 1)
         return can_not_be_kept(file, "it has more than one name (hard links), of which only one would be kept", why);
-    return (kind.st_uid == geteuid() || geteuid() == 0) || can_not_be_kept(file, "another user owns it, and would not any more", why);
+    return (file->look.owner == geteuid() || geteuid() == 0) || can_not_be_kept(file, "another user owns it, and would not any more", why);
 }
 
 /* Reading. */
@@ -172,7 +170,7 @@ static bool is_read(struct flash_file *file, struct node *node, char *why) {
 }
 
 bool flash_file_open(struct flash_file *file, const char *path, bool is_kept, struct node *node, char *why) {
-    *file = (struct flash_file){.path = path, .is_kept = is_kept, .lock = -1};
+    *file = (struct flash_file){.path = path, .lock = -1};
     if (is_kept && !(is_placed(file, why) && is_locked(file, why) && may_be_kept(file, why)))
         return false;
     if (!file->is_new)
@@ -206,18 +204,18 @@ static bool are_written(int out, const uint8_t *bytes, size_t count) {
 
 /* The mode and owner of the file that it takes the place of. */
 static bool is_alike(const struct flash_file *file, int out) {
-    struct stat kind;
+    struct look made;
     if (file->is_new)
         return true;
-    if (fstat(out, &kind) != 0)
+    if (!look_into(out, &made))
         return false;
-    bool is_owned = (kind.st_uid == file->owner && kind.st_gid == file->group) || fchown(out, file->owner, file->group) == 0;
-    return is_owned && fchmod(out, file->mode) == 0;
+    bool is_owned = made.owner == file->look.owner && made.group == file->look.group;
+    return (is_owned || fchown(out, file->look.owner, file->look.group) == 0) && fchmod(out, file->look.mode) == 0;
 }
 
-/* The file beside it, anew: one that stands there was left by an audit that was killed, since the lock is ours. */
+/* The file beside it, anew (O_EXCL follows no link): one that stands there was left by an audit that was killed, since the lock is ours. */
 static int made_beside(const struct flash_file *file) {
-    int flags = O_WRONLY | O_CREAT | O_EXCL | O_NOFOLLOW, out = open(file->beside, flags, file->is_new ? 0666 : 0600);
+    int flags = O_WRONLY | O_CREAT | O_EXCL, out = open(file->beside, flags, file->is_new ? 0666 : 0600);
     if (out < 0 && errno == EEXIST && unlink(file->beside) == 0)
         out = open(file->beside, flags, file->is_new ? 0666 : 0600);
     return out;

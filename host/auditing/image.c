@@ -5,7 +5,6 @@
 #include <errno.h>
 #include <fcntl.h>
 #include <string.h>
-#include <sys/stat.h>
 #include <unistd.h>
 
 static bool take_hex(struct image *image, size_t count, char *why) { return hex_take(image->bytes, count, &image->words, why); }
@@ -38,8 +37,8 @@ static int opened(const char *path) {
 }
 
 static bool is_fifo(int file) {
-    struct stat kind;
-    return fstat(file, &kind) == 0 && S_ISFIFO(kind.st_mode);
+    struct look look;
+    return look_into(file, &look) && look.is_fifo;
 }
 
 /* Reads to the end, or as much as there is room for. */

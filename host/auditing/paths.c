@@ -6,7 +6,6 @@
 #include <dirent.h>
 #include <stdlib.h>
 #include <string.h>
-#include <sys/stat.h>
 
 static void *or_stop(void *room) {
     if (room == NULL) {
@@ -35,27 +34,23 @@ static int is_listed(const struct dirent *entry) { return strcmp(entry->d_name, 
 
 static int by_name(const struct dirent **one, const struct dirent **other) { return strcmp((*one)->d_name, (*other)->d_name); }
 
-static bool is_link(const char *path) {
-    struct stat kind;
-    return lstat(path, &kind) == 0 && S_ISLNK(kind.st_mode);
+/* A folder by its own name, and not by a link. */
+static bool is_folder(const char *path) {
+    struct look look;
+    return look_at_name(path, &look) && look.is_folder;
 }
 
 /* Why something in a folder is left out, NULL where it is an image. A link is followed to a file; one that leads nowhere is an image that
    can't be read. */
 static const char *why_left_out(const char *path, const char *name) {
-    struct stat kind;
+    struct look look;
     if (name[0] == '.')
         return "its name begins with a dot; name it to have it audited";
-    if (stat(path, &kind) != 0 || S_ISREG(kind.st_mode))
+    if (!look_at(path, &look) || look.is_file)
         return NULL;
-    if (S_ISDIR(kind.st_mode))
-        return is_link(path) ? "a link to a folder; name it to have its files audited" : "a folder; -r goes into it";
+    if (look.is_folder)
+        return is_folder(path) ? "a folder; -r goes into it" : "a link to a folder; name it to have its files audited";
     return "a FIFO, a socket or a device, and no file";
-}
-
-static bool is_folder(const char *path) {
-    struct stat kind;
-    return lstat(path, &kind) == 0 && S_ISDIR(kind.st_mode);
 }
 
 /* What a folder holds; false where it is none that can be read. */
