@@ -6,6 +6,10 @@ use Rattle.io.specs.Counts.{clamped}
 use Rattle.feed.specs.declared.Came.{Came}
 use Rattle.feed.specs.declared.Line.{Line}
 
+-- No line, no byte read, and no failure yet.
+abbrev pub beforeAll : Line
+beforeAll = record { start = 0; end = 0; next = 0; have = 0; some = true; cut = false; failed = false }
+
 -- The line stands inside a buffer of n bytes.
 pub record Within (line : Line) (n : ℕ) : Type 0 where
   pub ordered : line .start ≤ line .end

@@ -1,10 +1,10 @@
 // Standard input for the bench and for the programs that run stored vectors: one line after the other; and for stored vectors a line as a
 // row of words of four hex digits with one byte between them. What a line holds is compared with the model's answers, so the contracts
 // here say only what a caller needs to stay inside its buffers.
-ghost use Prim.Native.Nat.{_+_, _≤_, _<_};
+ghost use Prim.Native.Nat.{_+_, _*_, _%_, _≤_, _<_};
 ghost use mathlib.Core.Path.{_≡_};
-ghost use lib.ListN.{length};
-ghost use Rattle.feed.specs.Bounds.{Within, readAs};
+ghost use lib.ListN.{length, getD};
+ghost use Rattle.feed.specs.Bounds.{Within, beforeAll, readAs};
 
 // What a read came to: how many bytes it put at the start of what it was handed, none at the end of the input, and whether it failed.
 pub struct Came {
@@ -26,7 +26,9 @@ pub struct Line {
 }
 
 // Before the first line.
-pub fn before() -> Line {
+pub fn before() -> Line
+    ensures { λ r. ⌜ r ≡ beforeAll ⌝ }
+{
     Line {
         start: 0,
         end: 0,
@@ -214,7 +216,9 @@ pub fn words_of(line: &[u8], words: &mut [u16]) -> usize
 }
 
 // A word of a line; 0 where it has none.
-pub fn item(line: &[u16], at: usize) -> u16 {
+pub fn item(line: &[u16], at: usize) -> u16
+    ensures { λ r. ⌜ r ≡ getD (now (line .entry)) at 0 ⌝ }
+{
     if at < line.len() {
         return line[at];
     }
@@ -222,7 +226,9 @@ pub fn item(line: &[u16], at: usize) -> u16 {
 }
 
 // The word after another in the rule by which lines give long runs: 25,173 times it and 13,849, modulo 65,536.
-pub fn next_word(word: u16) -> u16 {
+pub fn next_word(word: u16) -> u16
+    ensures { λ r. ⌜ r ≡ (word * 25173 + 13849) % 65536 ⌝ }
+{
     ((word as u32 * 25173 + 13849) % 65536) as u16
 }
 
@@ -239,7 +245,9 @@ pub fn seed_words(run: &mut [u16], seed: u16) {
 }
 
 // One word more of a digest.
-pub fn mixed(digest: u16, word: u16) -> u16 {
+pub fn mixed(digest: u16, word: u16) -> u16
+    ensures { λ r. ⌜ r ≡ (digest * 17 + word) % 65521 ⌝ }
+{
     ((digest as u32 * 17 + word as u32) % 65521) as u16
 }
 
