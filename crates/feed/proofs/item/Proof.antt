@@ -15,7 +15,7 @@ returns : tie.Need-returns
 returns c = search needs
 
 returns-2 : tie.Need-returns-2
-returns-2 c = sym (List·getD-eq-default _ 0 (c .if1 .left))
+returns-2 c = sym (List·getD-eq-default (c .before .args .line .now) 0 (c .if1 .left))
 
 pub item-spec : {M : Type 1} → statement M
 item-spec = tie.close (tie.spec mul-result shared-slice-read-result returns returns-2)
