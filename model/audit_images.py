@@ -43,7 +43,12 @@ def in_rows(words):
     return "\r\n".join(rows).encode()
 
 
-FORMS = (raw, in_hex, in_rows)
+def in_old_rows(words):
+    """Lines that end as they once did on a Mac."""
+    return in_rows(words).replace(b"\r\n", b"\r")
+
+
+FORMS = (raw, in_hex, in_rows, in_old_rows)
 
 
 # Valid images.
@@ -171,6 +176,11 @@ def unreadable(pick):
     yield "prose", b"# a list\n\nthis is no image,\nand it says so\n"
     yield "two-readings", two_readings(pick)
     yield "comments-only", b"# an image that has no words\n"
+    yield "byte-order-mark", b"\xEF\xBB\xBF" + in_hex(words)
+    for encoding in ("utf-16", "utf-16-le", "utf-16-be"):
+        yield encoding, in_hex(words).decode().encode(encoding)
+    yield "comment-in-utf-8", "# für den Prüfstand\n".encode() + in_hex(words)
+    yield "comment-in-latin-1", in_hex(words) + "# für den Prüfstand\n".encode("latin-1")
     yield "huge", b"\xFF" * ((1 << 20) + 1)
     yield "as-long-as-it-may-be", b"\xFF" * (1 << 20)
 

@@ -26,6 +26,28 @@ def is_text(data):
     return re.fullmatch(rb"[\x20-\x7E\t\n\v\f\r]+", data) is not None
 
 
+def is_wide(data):
+    """UTF-16: a byte-order mark with ASCII behind it, or no mark and ASCII alone."""
+    if len(data) < 4 or len(data) % 2:
+        return False
+    if data[:2] in (b"\xFF\xFE", b"\xFE\xFF"):
+        return is_text(data.decode("utf-16", "replace")[:1].encode("ascii", "replace")) and 0 in data[2:4]
+    zeros, others = (data[1::2], data[::2]) if data[1] == 0 else (data[::2], data[1::2])
+    return set(zeros) == {0} and is_text(others)
+
+
+def kind_of_text(data):
+    """What bytes are that are no ASCII but look like hex text, or None: a byte-order mark or UTF-16 tells it, or a first word in hex."""
+    if is_wide(data):
+        return "text in UTF-16"
+    if data.startswith(b"\xEF\xBB\xBF"):
+        return "text with a byte-order mark"
+    if re.search(rb"[\x00-\x08\x0E-\x1F\x7F]", data):
+        return None
+    first = re.match(rb"(?:\s|#[^\r\n]*)*([^\s#]*)", data).group(1)
+    return "hex text with characters that are not in ASCII" if re.fullmatch(rb"[0-9A-Fa-f]{4}", first) else None
+
+
 def raw_words(data):
     if len(data) % 2:
         raise Unreadable("%d bytes; a raw word has two, so one is missing or left over" % len(data))
@@ -34,7 +56,7 @@ def raw_words(data):
 
 def hex_words(data):
     words = []
-    for number, line in enumerate(data.decode("ascii").split("\n"), 1):
+    for number, line in enumerate(re.split("\r\n|\r|\n", data.decode("ascii")), 1):
         for word in line.split("#")[0].split():
             if not re.fullmatch("[0-9A-Fa-f]{4}", word):
                 shown = word if len(word) <= 12 else word[:12] + ".."
@@ -46,6 +68,9 @@ def hex_words(data):
 def words_of(data):
     """The words of an image."""
     if not is_text(data):
+        kind = None if len(data) % 2 == 0 and broken_rule(raw_words(data)) is None else kind_of_text(data)
+        if kind and data:
+            raise Unreadable("%s; to have it read as hex text give --hex, as raw words --raw" % kind)
         return raw_words(data)
     words = hex_words(data)
     if len(data) % 2 == 0 and broken_rule(raw_words(data)) is None:

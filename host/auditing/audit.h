@@ -11,8 +11,37 @@
 
 enum { TEXT = 5000 }; /* bytes of a detail or a message, at most: a path can have 4,096 */
 
+#define RELEASE "1.0" /* of the audit and the bench: the tools around the node */
+
 /* What a bench flash holds, for people. */
 #define FLASH_HOLDS "a bench flash holds eight files, one of at most 2,048 and seven of at most 4,096 words"
+
+/* Texts (text.c). */
+
+/* A text in a room of TEXT bytes; answers false, so that what fails can say why in one line. */
+bool say(char *room, const char *form, ...);
+
+/* Room for a name: a path of 4,096 bytes, each of them six between quotes. What is longer is cut. */
+struct text {
+    char room[32768];
+};
+
+/* A name as it is, or between quotes where it could be taken for something else: for a comment, for the number of a sector, for another
+   field or line. Quoted, a byte that is no text is \xHH, a control character \uHHHH or as C has it. */
+const char *shown(const char *name, struct text *text);
+const char *in_json(const char *name, struct text *text); /* always between quotes */
+
+/* What a file is (look.c); false where that can't be told, with errno. */
+
+struct look {
+    bool is_file, is_folder, is_link, is_fifo;
+    unsigned mode, owner, group;
+    uint64_t names, bytes, inode, device;
+};
+
+bool look_at(const char *path, struct look *look);      /* where links lead */
+bool look_at_name(const char *path, struct look *look); /* a link itself */
+bool look_into(int file, struct look *look);
 
 /* Options (options.c). */
 
@@ -25,10 +54,9 @@ struct erasure {
 };
 
 struct options {
-    bool together, keep, summary, quiet;
+    bool together, keep, summary, quiet, json, recursive, version;
     enum reading reading;
-    const char *flash;   /* the flash file, or NULL */
-    const char *archive; /* what is said of the archive at the top */
+    const char *flash; /* the flash file, or NULL */
     struct erasure *erasures;
     size_t erasure_count;
     char **paths; /* images and folders, as they were given */
@@ -40,13 +68,20 @@ bool options_read(int count, char **arguments, struct options *options, char *wh
 
 /* Which images (paths.c). */
 
-struct paths {
-    char **at;
-    size_t count;
+/* An image, or what a folder has beside its images. */
+struct path {
+    char *name;
+    const char *left_out; /* why it is left out; NULL for an image */
 };
 
-/* Adds an image, or every file in a folder by order of name. False where a folder has none or can't be read. */
-bool paths_add(struct paths *paths, const char *path, char *why);
+struct paths {
+    struct path *at;
+    size_t count, images;
+};
+
+/* Adds an image, or what a folder holds, by order of name: each file, and what is left out; with `recursive` what the folders in it hold
+   too. False where a folder has no image or can't be read. */
+bool paths_add(struct paths *paths, const char *path, bool recursive, char *why);
 
 /* Reading an image (image.c). */
 
@@ -58,8 +93,17 @@ struct image {
     bool is_too_long;
 };
 
-/* The words of a file, raw or in hex; or why it can't be read. */
+/* The words of a file, raw or in hex; or why it can't be read. The path - is standard input. */
 bool image_read(const char *path, enum reading reading, struct image *image, char *why);
+
+/* Hex text to words, in place: the text may begin with a byte-order mark, and be in UTF-16 (hex.c). */
+bool hex_take(uint8_t *bytes, size_t count, size_t *words, char *why);
+
+/* What kind of text the bytes are that are not plain ASCII but look like hex text, or NULL (hex.c). */
+const char *hex_kind(const uint8_t *bytes, size_t count);
+
+/* Whether each byte is a printable character of ASCII or white space (hex.c). */
+bool hex_is_ascii(const uint8_t *bytes, size_t count);
 
 /* The rules for a file (rules.c). */
 
@@ -121,19 +165,34 @@ void verdict_on_image(struct node *node, const struct image *image, struct findi
 
 /* The flash file (flash_file.c). */
 
-bool flash_file_read(const char *path, bool may_be_new, struct node *node, bool *is_new, char *why);
-bool flash_file_write(const char *path, const struct node *node, char *why);
+/* A flash file. One that is to be kept is locked from reading to writing, so that no two audits write over each other's. */
+struct flash_file {
+    const char *path; /* as it was given */
+    char *real;       /* where it stands, links followed */
+    char *beside;     /* what is written, and takes its place */
+    char *lock_path;
+    int lock; /* -1 where it isn't locked */
+    bool is_new;
+    struct look look; /* at the file that stands there */
+};
 
-/* What is printed (report.c). */
+/* Reads it; to be kept it is locked first, which may mean waiting for another audit. */
+bool flash_file_open(struct flash_file *file, const char *path, bool is_kept, struct node *node, char *why);
+bool flash_file_write(struct flash_file *file, const struct node *node, char *why);
+void flash_file_close(struct flash_file *file);
 
-/* A text in a room of TEXT bytes; answers false, so that what fails can say why in one line. */
-bool say(char *room, const char *form, ...);
+/* What is printed (report.c): lines parted by tabs, or an object of JSON each. */
 
+void report_as(bool json);
 void report_head(const struct options *options);
+void report_new_flash(const char *path);
 void report_columns(void);
+void report_erased(unsigned sector, unsigned words);
+void report_left_out(const char *path, const char *why);
 void report_finding(const char *path, const struct finding *finding);
 bool report_directory(struct node *node, char *why);
-void report_totals(const size_t *totals);
+void report_totals(const size_t *totals, size_t left_out);
+void report_version(void);
 void report_progress(size_t done, size_t of);
 void report_progress_end(void);
 

@@ -1,48 +1,250 @@
-/* The flash file: 65,536 bytes, the words of a bench flash, low byte first. It is written whole to a file beside it, which then takes its
-   name, so that at no time a part of it stands there. */
-#define _POSIX_C_SOURCE 200809L
+/* The flash file: 65,536 bytes, the words of a bench flash, low byte first.
+
+   One that is kept is written whole to a file beside it, .NAME.audit-new, which then takes its name: at no time a part of it stands there.
+   It keeps its mode and its owner, and a link that leads to it stays. From reading to writing it is locked, by a lock on the empty file
+   .NAME.audit-lock beside it: a second audit waits, and reads what the first has written. The system ends the lock of an audit that was
+   killed, so what that leaves behind keeps nobody out. */
+#define _XOPEN_SOURCE 700
 #include "audit.h"
 
 #include <errno.h>
+#include <fcntl.h>
+#include <stdlib.h>
 #include <string.h>
+#include <sys/stat.h> /* fchmod */
 #include <unistd.h>
 
-bool flash_file_read(const char *path, bool may_be_new, struct node *node, bool *is_new, char *why) {
-    FILE *file = fopen(path, "rb");
-    *is_new = file == NULL && errno == ENOENT && may_be_new;
-    if (*is_new) {
-        node_blank(node);
-        return true;
+/* Why a file is not kept, by the system's error. */
+static bool is_not_kept(const struct flash_file *file, const char *what, char *why) {
+    struct text one, other;
+    const char *cause = strerror(errno);
+    return say(why, "%s is not kept: %s: %s", shown(file->path, &one), shown(what, &other), cause);
+}
+
+/* Why it can't be kept, in words. */
+static bool can_not_be_kept(const struct flash_file *file, const char *cause, char *why) {
+    struct text text;
+    return say(why, "%s: %s; without --keep it is only read", shown(file->path, &text), cause);
+}
+
+/* Where it stands. */
+
+/* A file of another name in the folder of the flash. */
+static char *beside(const char *real, const char *ending) {
+    size_t room = strlen(real) + strlen(ending) + 2, folder = (size_t)(strrchr(real, '/') + 1 - real);
+    char *path = malloc(room);
+    if (path != NULL)
+        snprintf(path, room, "%.*s.%s%s", (int)folder, real, real + folder, ending);
+    return path;
+}
+
+/* The place of a file that isn't there: its folder's, and its name. */
+static char *place_of_new(const char *path) {
+    const char *slash = strrchr(path, '/'), *name = slash == NULL ? path : slash + 1;
+    size_t length = strlen(path) + 3;
+    char *folder = malloc(length), *real = NULL;
+    if (folder == NULL)
+        return NULL;
+    snprintf(folder, length, "%.*s.", (int)(name - path), path);
+    char *found = realpath(folder, NULL);
+    free(folder);
+    if (found == NULL || (real = malloc(strlen(found) + strlen(name) + 2)) == NULL)
+        return NULL;
+    sprintf(real, "%s/%s", strcmp(found, "/") == 0 ? "" : found, name);
+    free(found);
+    return real;
+}
+
+static bool is_placed(struct flash_file *file, char *why) {
+    struct look look;
+    file->real = realpath(file->path, NULL);
+    if (file->real == NULL && errno == ENOENT && look_at_name(file->path, &look))
+        return can_not_be_kept(file, "a link that leads nowhere", why);
+    if (file->real == NULL && errno == ENOENT)
+        file->real = place_of_new(file->path);
+    if (file->real == NULL)
+        return is_not_kept(file, file->path, why);
+    file->lock_path = beside(file->real, ".audit-lock");
+    file->beside = beside(file->real, ".audit-new");
+    return (file->lock_path != NULL && file->beside != NULL) || say(why, "out of memory");
+}
+
+/* The lock. */
+
+static bool is_held(int lock, int command, struct flock *held) {
+    *held = (struct flock){.l_type = F_WRLCK, .l_whence = SEEK_SET};
+    return fcntl(lock, command, held) != -1;
+}
+
+/* Says who holds the lock, and waits. */
+static bool is_waited_for(const struct flash_file *file, int lock) {
+    struct flock other;
+    struct text text;
+    if (is_held(lock, F_GETLK, &other) && other.l_type != F_UNLCK && other.l_pid > 0)
+        fprintf(stderr, "audit: waiting for %s, which process %ld keeps\n", shown(file->path, &text), (long)other.l_pid);
+    else
+        fprintf(stderr, "audit: waiting for %s, which another process keeps\n", shown(file->path, &text));
+    bool is_locked;
+    do
+        is_locked = is_held(lock, F_SETLKW, &other);
+    while (!is_locked && errno == EINTR);
+    return is_locked;
+}
+
+/* Whether the file that was locked still has its name: the one before may have taken it away. */
+static bool is_there(const char *path, int lock) {
+    struct look named, locked;
+    return look_at_name(path, &named) && look_into(lock, &locked) && named.device == locked.device && named.inode == locked.inode;
+}
+
+static bool is_locked(struct flash_file *file, char *why) {
+    for (;;) {
+        struct flock held;
+        struct look look;
+        if (look_at_name(file->lock_path, &look) && !look.is_file)
+            return can_not_be_kept(file, "something stands where its lock should", why);
+        int lock = open(file->lock_path, O_RDWR | O_CREAT | O_NONBLOCK, 0666);
+        if (lock < 0)
+            return is_not_kept(file, file->lock_path, why);
+        if (!is_held(lock, F_SETLK, &held) && ((errno != EACCES && errno != EAGAIN) || !is_waited_for(file, lock))) {
+            is_not_kept(file, file->lock_path, why);
+            close(lock);
+            return false;
+        }
+        if (is_there(file->lock_path, lock)) {
+            file->lock = lock;
+            return true;
+        }
+        close(lock);
     }
-    if (file == NULL)
-        return say(why, "%s: %s; with --keep a flash file that isn't there is made, blank", path, strerror(errno));
-    size_t count = fread(node->flash, 1, sizeof node->flash, file);
-    bool is_longer = count == sizeof node->flash && fgetc(file) != EOF, is_wrong = ferror(file) != 0;
-    fclose(file);
-    if (is_wrong)
-        return say(why, "%s: can't be read", path);
+}
+
+/* The lock goes while it is held, so that nobody holds one on a file without a name and believes it good. */
+static void unlock(struct flash_file *file) {
+    struct look look;
+    if (file->lock < 0)
+        return;
+    if (look_into(file->lock, &look) && look.is_file && look.bytes == 0)
+        unlink(file->lock_path);
+    close(file->lock);
+    file->lock = -1;
+}
+
+/* Whether it may be written over by another that has its name, mode and owner. */
+static bool may_be_kept(struct flash_file *file, char *why) {
+    file->is_new = !look_at(file->real, &file->look);
+    if (file->is_new)
+        return errno == ENOENT || is_not_kept(file, file->real, why);
+    if (!file->look.is_file)
+        return can_not_be_kept(file, "no regular file, so it can't be kept", why);
+    if ((file->look.mode & 0222u) == 0 || access(file->real, W_OK) != 0)
+        return can_not_be_kept(file, "read-only, so it is not kept; to allow it: chmod u+w", why);
+    if (file->look.names > 1)
+        return can_not_be_kept(file, "it has more than one name (hard links), of which only one would be kept", why);
+    return (file->look.owner == geteuid() || geteuid() == 0) || can_not_be_kept(file, "another user owns it, and would not any more", why);
+}
+
+/* Reading. */
+
+static bool is_read(struct flash_file *file, struct node *node, char *why) {
+    struct text text;
+    int bytes = open(file->path, O_RDONLY | O_NONBLOCK);
+    if (bytes < 0)
+        return say(why, "%s: %s; with --keep a flash file that isn't there is made, blank", shown(file->path, &text), strerror(errno));
+    fcntl(bytes, F_SETFL, 0);
+    uint8_t more;
+    size_t count = 0;
+    ssize_t got = 1;
+    while (got > 0 && count < sizeof node->flash) {
+        got = read(bytes, node->flash + count, sizeof node->flash - count);
+        count += got > 0 ? (size_t)got : 0;
+    }
+    bool is_longer = got > 0 && read(bytes, &more, 1) == 1;
+    close(bytes);
+    if (got < 0)
+        return say(why, "%s: can't be read", shown(file->path, &text));
     if (is_longer || count != sizeof node->flash)
-        return say(why, "%s: %s bytes; a bench flash has 65,536 bytes, 32,768 words with the low byte first", path,
+        return say(why, "%s: %s bytes; a bench flash has 65,536 bytes, 32,768 words with the low byte first", shown(file->path, &text),
                    is_longer ? "too many" : "too few");
     return true;
 }
 
-/* Writes the bytes through to the disk. */
-static bool is_written(FILE *file, const struct node *node) {
-    bool is_done = fwrite(node->flash, 1, sizeof node->flash, file) == sizeof node->flash && fflush(file) == 0 && fsync(fileno(file)) == 0;
-    return (fclose(file) == 0) && is_done;
+bool flash_file_open(struct flash_file *file, const char *path, bool is_kept, struct node *node, char *why) {
+    *file = (struct flash_file){.path = path, .lock = -1};
+    if (is_kept && !(is_placed(file, why) && is_locked(file, why) && may_be_kept(file, why)))
+        return false;
+    if (!file->is_new)
+        return is_read(file, node, why);
+    node_blank(node);
+    return true;
 }
 
-bool flash_file_write(const char *path, const struct node *node, char *why) {
-    char beside[TEXT];
-    if (snprintf(beside, sizeof beside, "%s.new", path) >= (int)sizeof beside)
-        return say(why, "%.60s..: too long a name to keep a flash in", path);
-    FILE *file = fopen(beside, "wbx"); /* x: what stands there already is not written over */
-    if (file == NULL)
-        return say(why, "%s is not kept: %s: %s", path, beside, strerror(errno));
-    if (is_written(file, node) && rename(beside, path) == 0)
+void flash_file_close(struct flash_file *file) {
+    unlock(file);
+    free(file->real);
+    free(file->beside);
+    free(file->lock_path);
+    *file = (struct flash_file){.lock = -1};
+}
+
+/* Writing. */
+
+static bool are_written(int out, const uint8_t *bytes, size_t count) {
+    while (count > 0) {
+        ssize_t put = write(out, bytes, count);
+        if (put < 0 && errno == EINTR)
+            continue;
+        if (put <= 0)
+            return false;
+        bytes += put;
+        count -= (size_t)put;
+    }
+    return true;
+}
+
+/* The mode and owner of the file that it takes the place of. */
+static bool is_alike(const struct flash_file *file, int out) {
+    struct look made;
+    if (file->is_new)
         return true;
-    say(why, "%s is not kept: %s: %s", path, beside, strerror(errno));
-    remove(beside);
+    if (!look_into(out, &made))
+        return false;
+    bool is_owned = made.owner == file->look.owner && made.group == file->look.group;
+    return (is_owned || fchown(out, file->look.owner, file->look.group) == 0) && fchmod(out, file->look.mode) == 0;
+}
+
+/* The file beside it, anew (O_EXCL follows no link): one that stands there was left by an audit that was killed, since the lock is ours. */
+static int made_beside(const struct flash_file *file) {
+    int flags = O_WRONLY | O_CREAT | O_EXCL, out = open(file->beside, flags, file->is_new ? 0666 : 0600);
+    if (out < 0 && errno == EEXIST && unlink(file->beside) == 0)
+        out = open(file->beside, flags, file->is_new ? 0666 : 0600);
+    return out;
+}
+
+/* The name's change, written through to the disk as far as the system can. */
+static void settle_folder(const char *real) {
+    char *folder = strdup(real);
+    if (folder == NULL)
+        return;
+    strrchr(folder, '/')[1] = 0;
+    int at = open(folder, O_RDONLY);
+    if (at >= 0) {
+        fsync(at);
+        close(at);
+    }
+    free(folder);
+}
+
+bool flash_file_write(struct flash_file *file, const struct node *node, char *why) {
+    int out = made_beside(file);
+    if (out < 0)
+        return is_not_kept(file, file->beside, why);
+    bool is_done = are_written(out, node->flash, sizeof node->flash) && is_alike(file, out) && fsync(out) == 0;
+    if (close(out) == 0 && is_done && rename(file->beside, file->real) == 0) {
+        settle_folder(file->real);
+        return true;
+    }
+    is_not_kept(file, file->beside, why);
+    unlink(file->beside);
     return false;
 }

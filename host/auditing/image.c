@@ -1,88 +1,66 @@
-/* Reading an image: raw words, the low byte first, or hex text: words of four hex digits, parted by white space, with comments from #
-   to the end of the line. */
+/* Reading an image: raw words, the low byte first, or hex text (hex.c). */
+#define _POSIX_C_SOURCE 200809L
 #include "audit.h"
 
-#include <ctype.h>
 #include <errno.h>
+#include <fcntl.h>
 #include <string.h>
+#include <unistd.h>
 
-/* Whether each byte is a printable character of ASCII or white space. Raw words that are so cannot be told from text. */
-static bool is_text(const uint8_t *bytes, size_t count) {
-    for (size_t i = 0; i < count; i++)
-        if (bytes[i] > 0x7E || (bytes[i] < 0x20 && !isspace(bytes[i])))
-            return false;
-    return true;
-}
-
-static unsigned hex_digit(uint8_t c) { return c <= '9' ? c - (unsigned)'0' : (c | 0x20u) - (unsigned)'a' + 10u; }
-
-/* Whether four hex digits stand at a place, and nothing of the word behind them. */
-static bool is_hex_word(const uint8_t *at, size_t length) {
-    return length == 4 && isxdigit(at[0]) && isxdigit(at[1]) && isxdigit(at[2]) && isxdigit(at[3]);
-}
-
-/* What stands between white space and comments, from a place on. */
-static size_t token_length(const uint8_t *bytes, size_t count, size_t at) {
-    size_t end = at;
-    while (end < count && !isspace(bytes[end]) && bytes[end] != '#')
-        end++;
-    return end - at;
-}
-
-static bool say_no_word(const uint8_t *at, size_t length, size_t line, char *why) {
-    enum { SHOWN = 12 };
-    char shown[SHOWN + 1] = "";
-    for (size_t i = 0; i < length && i < SHOWN; i++)
-        shown[i] = (char)(isprint(at[i]) ? at[i] : '?');
-    return say(why, "line %zu: '%s%s' is no word of four hex digits; for raw words give --raw", line, shown, length > SHOWN ? ".." : "");
-}
-
-/* Hex text to words, in place: a word takes four bytes of text or more. */
-static bool take_hex(struct image *image, size_t count, char *why) {
-    uint8_t *bytes = image->bytes;
-    size_t at = 0, line = 1;
-    image->words = 0;
-    while (at < count) {
-        size_t length = token_length(bytes, count, at);
-        if (length == 0 && bytes[at] == '#') {
-            while (at < count && bytes[at] != '\n')
-                at++;
-        } else if (length == 0) {
-            line += bytes[at++] == '\n';
-        } else if (is_hex_word(bytes + at, length)) {
-            unsigned high = hex_digit(bytes[at]) << 4 | hex_digit(bytes[at + 1]);
-            unsigned low = hex_digit(bytes[at + 2]) << 4 | hex_digit(bytes[at + 3]);
-            logodwen_put(bytes, image->words++, (uint16_t)(high << 8 | low));
-            at += length;
-        } else {
-            return say_no_word(bytes + at, length, line, why);
-        }
-    }
-    return true;
-}
+static bool take_hex(struct image *image, size_t count, char *why) { return hex_take(image->bytes, count, &image->words, why); }
 
 static bool take_raw(struct image *image, size_t count, char *why) {
     image->words = count / 2;
     return count % 2 == 0 || say(why, "%zu bytes; a raw word has two, so one is missing or left over", count);
 }
 
-/* Text that is hex and, taken as raw words, a valid file too could be meant either way. */
+/* Text that is hex and, taken as raw words, a valid file too could be meant either way. What looks like hex text but isn't ASCII, and is no
+   valid file as raw words, is not guessed at. */
 static bool take_by_content(struct image *image, size_t count, char *why) {
-    if (count == 0 || !is_text(image->bytes, count))
+    bool is_raw = count % 2 == 0 && rules_is_file(image->bytes, count / 2, why), is_ascii = hex_is_ascii(image->bytes, count);
+    const char *kind = is_raw || is_ascii ? NULL : hex_kind(image->bytes, count);
+    if (kind != NULL)
+        return say(why, "%s; to have it read as hex text give --hex, as raw words --raw", kind);
+    if (count == 0 || !is_ascii)
         return take_raw(image, count, why);
-    bool is_raw_too = count % 2 == 0 && rules_is_file(image->bytes, count / 2, why);
     if (!take_hex(image, count, why))
         return false;
-    return !is_raw_too || say(why, "a valid file as raw words, and hex text too; say which by --raw or --hex");
+    return !is_raw || say(why, "a valid file as raw words, and hex text too; say which by --raw or --hex");
+}
+
+/* Opens a file without waiting, as for a FIFO that nobody writes to; the reading itself waits. -1 where it can't be opened. */
+static int opened(const char *path) {
+    int file = strcmp(path, "-") == 0 ? dup(STDIN_FILENO) : open(path, O_RDONLY | O_NONBLOCK | O_NOCTTY);
+    if (file >= 0 && strcmp(path, "-") != 0)
+        fcntl(file, F_SETFL, fcntl(file, F_GETFL) & ~O_NONBLOCK);
+    return file;
+}
+
+static bool is_fifo(int file) {
+    struct look look;
+    return look_into(file, &look) && look.is_fifo;
+}
+
+/* Reads to the end, or as much as there is room for. */
+static bool read_all(int file, struct image *image, size_t *count, char *why) {
+    ssize_t got = 1;
+    for (*count = 0; got != 0 && *count < sizeof image->bytes;) {
+        got = read(file, image->bytes + *count, sizeof image->bytes - *count);
+        if (got < 0 && errno != EINTR)
+            return say(why, "%s", strerror(errno));
+        *count += got > 0 ? (size_t)got : 0;
+    }
+    return true;
 }
 
 static bool load(const char *path, struct image *image, size_t *count, char *why) {
-    FILE *file = fopen(path, "rb");
-    if (file == NULL)
+    int file = opened(path);
+    if (file < 0)
         return say(why, "%s", strerror(errno));
-    *count = fread(image->bytes, 1, sizeof image->bytes, file);
-    bool is_read = !ferror(file) || say(why, "%s", strerror(errno));
-    fclose(file);
+    bool is_read = read_all(file, image, count, why);
+    if (is_read && *count == 0 && is_fifo(file) && strcmp(path, "-") != 0)
+        is_read = say(why, "a FIFO that nobody writes to");
+    close(file);
     return is_read;
 }
 

@@ -7,6 +7,7 @@ enum { ALL_AGREE = 0, SOME_DIFFER = 1, NOT_READ = 2, NOT_TRUSTED = 3 }; /* the e
 struct audit {
     struct options options;
     struct paths paths;
+    struct flash_file file;
     struct node node;
     size_t totals[VERDICTS];
     int status;
@@ -36,16 +37,15 @@ static bool is_started(struct audit *audit) {
 }
 
 static bool is_flash_there(struct audit *audit) {
-    const char *path = audit->options.flash;
-    bool is_new = false;
-    if (path == NULL) {
+    const struct options *options = &audit->options;
+    if (options->flash == NULL) {
         node_blank(&audit->node);
-    } else if (!flash_file_read(path, audit->options.keep, &audit->node, &is_new, audit->why)) {
+    } else if (!flash_file_open(&audit->file, options->flash, options->keep, &audit->node, audit->why)) {
         complain(audit, NOT_READ);
         return false;
     }
-    if (is_new && !audit->options.quiet)
-        printf("# flash: %s isn't there yet, and begins blank\n", path);
+    if (audit->file.is_new && !options->quiet)
+        report_new_flash(options->flash);
     return is_started(audit);
 }
 
@@ -62,21 +62,31 @@ static bool is_empty_now(struct node *node, unsigned sector) {
     return sector != 0 && node_directory(node, directory) && entry_is_empty(directory[sector - SECTOR_FIRST]);
 }
 
-static void erase(struct audit *audit, struct erasure erasure) {
+/* Erases one file or sector; false where that could not be done. */
+static bool is_erased(struct audit *audit, struct erasure erasure) {
     unsigned sector = sector_to_erase(&audit->node, erasure);
     uint64_t answered = node_erase(&audit->node, erasure);
     if (sector == 0 && logodwen_answer(answered) == LOGODWEN_REPLY && logodwen_bc(answered) == LOGODWEN_BC_ABORT) {
-        say(audit->why, "--erase %02X: no file has this name; --summary shows the names", erasure.which);
+        say(audit->why, "--erase %02X: no file has this name, so nothing is erased, audited or kept; --summary shows the names",
+            erasure.which);
         complain(audit, SOME_DIFFER);
-        return;
+        return false;
     }
     unsigned set = node_erase_on(&audit->node);
     if (is_empty_now(&audit->node, sector) && set == sector_words(sector)) {
-        printf("# erased: sector %u, %u words\n", sector, set);
-        return;
+        report_erased(sector, set);
+        return true;
     }
     say(audit->why, "DISPUTED: sector %u should be erased and empty, but is not; words set: %u", sector, set);
     complain(audit, NOT_TRUSTED);
+    return false;
+}
+
+static bool are_erased(struct audit *audit) {
+    for (size_t i = 0; i < audit->options.erasure_count; i++)
+        if (!is_erased(audit, audit->options.erasures[i]))
+            return false;
+    return true;
 }
 
 static void count(struct audit *audit, const char *path, const struct finding *finding) {
@@ -85,7 +95,9 @@ static void count(struct audit *audit, const char *path, const struct finding *f
     audit->totals[finding->verdict]++;
     ends_with(audit, finding->verdict == AGREES ? ALL_AGREE : finding->verdict == UNREADABLE ? NOT_READ : SOME_DIFFER);
     if (finding->verdict == DISPUTED) {
-        say(audit->why, "%s: DISPUTED: the node and this program disagree, so one has a fault; please report it with the image", path);
+        struct text text;
+        say(audit->why, "%s: DISPUTED: the node and this program disagree, so one has a fault; please report it with the image",
+            shown(path, &text));
         complain(audit, NOT_TRUSTED);
     }
 }
@@ -105,34 +117,44 @@ static void audit_image(struct audit *audit, const char *path) {
 
 static void keep(struct audit *audit) {
     if (audit->status == NOT_TRUSTED || audit->totals[DIFFERS] != 0) {
-        say(audit->why, "%s is not written back, since the node did not do as it should", audit->options.flash);
+        struct text text;
+        say(audit->why, "%s is not written back, since the node did not do as it should", shown(audit->options.flash, &text));
         complain(audit, SOME_DIFFER);
-    } else if (!flash_file_write(audit->options.flash, &audit->node, audit->why)) {
+    } else if (!flash_file_write(&audit->file, &audit->node, audit->why)) {
         complain(audit, NOT_READ);
+    }
+}
+
+static void audit_paths(struct audit *audit) {
+    size_t done = 0;
+    for (size_t i = 0; i < audit->paths.count; i++) {
+        const struct path *path = &audit->paths.at[i];
+        if (path->left_out != NULL) {
+            report_progress_end();
+            report_left_out(path->name, path->left_out);
+        } else {
+            report_progress(done++, audit->paths.images);
+            audit_image(audit, path->name);
+        }
     }
 }
 
 static void audit_images(struct audit *audit) {
     for (size_t i = 0; i < audit->options.path_count; i++)
-        if (!paths_add(&audit->paths, audit->options.paths[i], audit->why))
+        if (!paths_add(&audit->paths, audit->options.paths[i], audit->options.recursive, audit->why))
             complain(audit, NOT_READ);
     if (!audit->options.quiet)
         report_columns();
-    for (size_t i = 0; i < audit->paths.count; i++) {
-        report_progress(i, audit->paths.count);
-        audit_image(audit, audit->paths.at[i]);
-    }
-    report_totals(audit->totals);
+    audit_paths(audit);
+    report_totals(audit->totals, audit->paths.count - audit->paths.images);
 }
 
 static void run(struct audit *audit) {
     const struct options *options = &audit->options;
     if (!options->quiet)
         report_head(options);
-    if (!is_flash_there(audit))
+    if (!is_flash_there(audit) || !are_erased(audit))
         return;
-    for (size_t i = 0; i < options->erasure_count; i++)
-        erase(audit, options->erasures[i]);
     if (options->path_count > 0)
         audit_images(audit);
     if (options->summary && !report_directory(&audit->node, audit->why))
@@ -142,14 +164,19 @@ static void run(struct audit *audit) {
 }
 
 int main(int count, char **arguments) {
-    static struct audit audit;
+    static struct audit audit = {.file = {.lock = -1}};
     if (!options_read(count - 1, arguments + 1, &audit.options, audit.why)) {
         complain(&audit, NOT_READ);
         fprintf(stderr, "usage: host/audit [OPTION..] IMAGE..    as in: host/audit examples/images\n"
                         "host/audit --help tells the options, the verdicts and the exit status\n");
         return NOT_READ;
     }
-    run(&audit);
+    report_as(audit.options.json);
+    if (audit.options.version)
+        report_version();
+    else
+        run(&audit);
+    flash_file_close(&audit.file);
     if (fflush(stdout) != 0 || ferror(stdout)) {
         say(audit.why, "the report can't be written");
         complain(&audit, NOT_READ);

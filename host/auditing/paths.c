@@ -1,45 +1,83 @@
 /* Which images: those that are named, and every file in a folder that is named, by order of name. What begins with a dot, folders in a
-   folder, and what is no file at all are left out. */
-#define _DEFAULT_SOURCE
+   folder unless they are asked for, and what is no file are left out, and that is said of each. */
+#define _POSIX_C_SOURCE 200809L
 #include "audit.h"
 
 #include <dirent.h>
 #include <stdlib.h>
 #include <string.h>
 
-static void add(struct paths *paths, const char *folder, const char *parting, const char *name) {
-    size_t room = strlen(folder) + strlen(parting) + strlen(name) + 1;
-    char *path = malloc(room), **more = realloc(paths->at, (paths->count + 1) * sizeof *more);
-    if (path == NULL || more == NULL) {
+static void *or_stop(void *room) {
+    if (room == NULL) {
         fprintf(stderr, "audit: out of memory\n");
         exit(2);
     }
+    return room;
+}
+
+/* Takes over the name. */
+static void add(struct paths *paths, char *name, const char *left_out) {
+    paths->at = or_stop(realloc(paths->at, (paths->count + 1) * sizeof *paths->at));
+    paths->at[paths->count++] = (struct path){name, left_out};
+    paths->images += left_out == NULL;
+}
+
+static char *joined(const char *folder, const char *name) {
+    const char *parting = folder[strlen(folder) - 1] == '/' ? "" : "/";
+    size_t room = strlen(folder) + strlen(parting) + strlen(name) + 1;
+    char *path = or_stop(malloc(room));
     snprintf(path, room, "%s%s%s", folder, parting, name);
-    paths->at = more;
-    paths->at[paths->count++] = path;
+    return path;
 }
 
-/* By the kind that the folder keeps of it; a link is followed when it is read, and so is what the folder doesn't know. */
-static bool may_be_file(const struct dirent *entry) {
-    return entry->d_name[0] != '.' && (entry->d_type == DT_REG || entry->d_type == DT_LNK || entry->d_type == DT_UNKNOWN);
+static int is_listed(const struct dirent *entry) { return strcmp(entry->d_name, ".") != 0 && strcmp(entry->d_name, "..") != 0; }
+
+static int by_name(const struct dirent **one, const struct dirent **other) { return strcmp((*one)->d_name, (*other)->d_name); }
+
+/* A folder by its own name, and not by a link. */
+static bool is_folder(const char *path) {
+    struct look look;
+    return look_at_name(path, &look) && look.is_folder;
 }
 
-static int by_name(const void *one, const void *other) { return strcmp(*(char *const *)one, *(char *const *)other); }
+/* Why something in a folder is left out, NULL where it is an image. A link is followed to a file; one that leads nowhere is an image that
+   can't be read. */
+static const char *why_left_out(const char *path, const char *name) {
+    struct look look;
+    if (name[0] == '.')
+        return "its name begins with a dot; name it to have it audited";
+    if (!look_at(path, &look) || look.is_file)
+        return NULL;
+    if (look.is_folder)
+        return is_folder(path) ? "a folder; -r goes into it" : "a link to a folder; name it to have its files audited";
+    return "a FIFO, a socket or a device, and no file";
+}
 
-bool paths_add(struct paths *paths, const char *path, char *why) {
-    DIR *folder = opendir(path);
-    if (folder == NULL) { /* a file, or nothing: reading it tells */
-        add(paths, "", "", path);
+/* What a folder holds; false where it is none that can be read. */
+static bool add_folder(struct paths *paths, const char *folder, bool recursive) {
+    struct dirent **entries;
+    int count = scandir(folder, &entries, is_listed, by_name);
+    if (count < 0)
+        return false;
+    for (int i = 0; i < count; i++) {
+        char *path = joined(folder, entries[i]->d_name);
+        bool is_entered = recursive && entries[i]->d_name[0] != '.' && is_folder(path) && add_folder(paths, path, recursive);
+        if (is_entered)
+            free(path);
+        else
+            add(paths, path, why_left_out(path, entries[i]->d_name));
+        free(entries[i]);
+    }
+    free(entries);
+    return true;
+}
+
+bool paths_add(struct paths *paths, const char *path, bool recursive, char *why) {
+    size_t before = paths->images;
+    if (!add_folder(paths, path, recursive)) { /* a file, or nothing: reading it tells */
+        add(paths, strcpy(or_stop(malloc(strlen(path) + 1)), path), NULL);
         return true;
     }
-    size_t before = paths->count;
-    const char *parting = path[strlen(path) - 1] == '/' ? "" : "/";
-    for (struct dirent *entry; (entry = readdir(folder)) != NULL;)
-        if (may_be_file(entry))
-            add(paths, path, parting, entry->d_name);
-    closedir(folder);
-    if (paths->count == before)
-        return say(why, "%s: a folder without files; give images, or a folder that has some", path);
-    qsort(paths->at + before, paths->count - before, sizeof *paths->at, by_name);
-    return true;
+    struct text text;
+    return paths->images > before || say(why, "%s: a folder without files; give images, or a folder that has some", shown(path, &text));
 }

@@ -567,13 +567,23 @@ static void print_tallies(void) {
                    commands[id][2]);
 }
 
+/* A number of digits alone, at most 18 of them. */
+static uint64_t number(const char *text) {
+    size_t digits = strspn(text, "0123456789");
+    if (digits == 0 || digits > 18 || text[digits] != 0) {
+        fprintf(stderr, "differ: '%s' is no number of 1 to 18 digits\n", text);
+        exit(2);
+    }
+    return strtoull(text, NULL, 10);
+}
+
 int main(int count, char **arguments) {
     if (count != 3) {
         fprintf(stderr, "differ SEED COUNT: two numbers\n");
         return 2;
     }
-    seed = strtoull(arguments[1], NULL, 10);
-    unsigned long wanted = strtoul(arguments[2], NULL, 10);
+    seed = number(arguments[1]);
+    unsigned long wanted = number(arguments[2]);
     chance = seed * 0xD1342543DE82EF95u + 1;
     make_worlds();
     while (calls < wanted) {

@@ -30,8 +30,8 @@ fn answered(turn: Turn, kept: Kept, held: &[u16], reply: &[u16]) -> After {
     let node = turn.node;
     let answer = turn.answer;
     let n = base::least(kept.held, held.len());
-    say_answer(kept.number, answer, &held[0..n], reply);
-    After { node, kept }
+    let told = say_answer(kept.number, answer, &held[0..n], reply);
+    After { node, kept, told }
 }
 
 // A request. The receive error is this one's, whatever it is answered.

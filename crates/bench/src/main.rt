@@ -1,14 +1,21 @@
 // The bench: a node at work. It reads lines, makes a call for each, and prints what the node answers; docs/BENCH.md has the lines and the
 // answers in full. What a line says is proved in `lines`, and what a call comes to in `node`. No contract can say what is printed, so that
-// is compared with the model's answers, and the contracts here say only what keeps every place inside its run.
+// is compared with the model's answers, and the contracts here say what the rooms hold, and what keeps every place inside its run.
+//
+// A Rattle program has no exit status. So it says on descriptor 3 that it has come to the end, all lines read and each answer written, and
+// says nothing there where it has not; host/bench gives the exit status by that.
 ghost use mathlib.Core.Path.{_≡_};
-ghost use lib.ListN.{length};
+ghost use lib.ListN.{length, replicate};
+ghost use Rattle.base.specs.Words.{blanks};
 use crate::calls::ask;
 use crate::calls::erase;
 use crate::calls::hear;
 use crate::calls::poll;
+use crate::saying::say_done;
 use crate::saying::say_help;
 use crate::saying::say_long;
+use crate::saying::say_unread;
+use crate::saying::say_unwritten;
 use crate::saying::say_wrong;
 use lines::Said;
 use node::Node;
@@ -26,32 +33,37 @@ struct Kept {
     cut: bool,
 }
 
-// The node and what is kept, after a line.
+// The node and what is kept, after a line, and whether all that was to be said of it is written.
 struct After {
     node: Node,
     kept: Kept,
+    told: bool,
 }
 
 // A blank flash of bench size, and the memories, all zero.
 fn flash_room() -> [u16; 32768]
+    ensures { λ r. ⌜ r ≡ blanks 32768 ⌝ }
     ensures { λ r. ⌜ length r ≡ 32768 ⌝ }
 {
     [0xFFFF; 32768]
 }
 
 fn pm_room() -> [u32; 32768]
+    ensures { λ r. ⌜ r ≡ replicate 32768 0 ⌝ }
     ensures { λ r. ⌜ length r ≡ 32768 ⌝ }
 {
     [0; 32768]
 }
 
 fn dm_room() -> [u16; 32768]
+    ensures { λ r. ⌜ r ≡ replicate 32768 0 ⌝ }
     ensures { λ r. ⌜ length r ≡ 32768 ⌝ }
 {
     [0; 32768]
 }
 
 fn io_room() -> [u16; 4096]
+    ensures { λ r. ⌜ r ≡ replicate 4096 0 ⌝ }
     ensures { λ r. ⌜ length r ≡ 4096 ⌝ }
 {
     [0; 4096]
@@ -59,6 +71,7 @@ fn io_room() -> [u16; 4096]
 
 // The assembly area, zeroed at power-up, which is lent as the reply buffer.
 fn reply_room() -> [u16; 12288]
+    ensures { λ r. ⌜ r ≡ replicate 12288 0 ⌝ }
     ensures { λ r. ⌜ length r ≡ 12288 ⌝ }
 {
     [0; 12288]
@@ -66,12 +79,14 @@ fn reply_room() -> [u16; 12288]
 
 // A line with its end, and as many words as such a line can have, which are five bytes each.
 fn line_room() -> [u8; 200000]
+    ensures { λ r. ⌜ r ≡ replicate 200000 0 ⌝ }
     ensures { λ r. ⌜ length r ≡ 200000 ⌝ }
 {
     [0; 200000]
 }
 
 fn words_room() -> [u16; 40000]
+    ensures { λ r. ⌜ r ≡ replicate 40000 0 ⌝ }
     ensures { λ r. ⌜ length r ≡ 40000 ⌝ }
 {
     [0; 40000]
@@ -79,6 +94,7 @@ fn words_room() -> [u16; 40000]
 
 // The longest request that is sent on to a slave.
 fn held_room() -> [u16; 8192]
+    ensures { λ r. ⌜ r ≡ replicate 8192 0 ⌝ }
     ensures { λ r. ⌜ length r ≡ 8192 ⌝ }
 {
     [0; 8192]
@@ -124,6 +140,15 @@ fn with_fault(kept: Kept) -> Kept {
     }
 }
 
+// A line of which there is nothing to say.
+fn quiet(node: Node, kept: Kept) -> After {
+    After {
+        node,
+        kept,
+        told: true,
+    }
+}
+
 // Does what a line says.
 fn act(
     said: Said,
@@ -138,27 +163,23 @@ fn act(
     reply: &mut [u16],
 ) -> After {
     match said {
-        Said::Nothing => After { node, kept },
+        Said::Nothing => quiet(node, kept),
         Said::Request(asked) => ask(asked, node, kept, words, held, flash, pm, dm, io, reply),
         Said::Reply(heard) => hear(heard, node, kept, words, held, reply),
         Said::Poll => poll(node, kept, held, reply),
         Said::Erase(budget) => erase(budget, node, kept, flash),
-        Said::Clock(ticks) => After {
+        Said::Clock(ticks) => quiet(node, with_clock(kept, ticks)),
+        Said::Fault => quiet(node, with_fault(kept)),
+        Said::Help => After {
             node,
-            kept: with_clock(kept, ticks),
+            kept,
+            told: say_help(),
         },
-        Said::Fault => After {
+        Said::Wrong(wrong) => After {
             node,
-            kept: with_fault(kept),
+            kept,
+            told: say_wrong(kept.number, wrong),
         },
-        Said::Help => {
-            say_help();
-            After { node, kept }
-        }
-        Said::Wrong(wrong) => {
-            say_wrong(kept.number, wrong);
-            After { node, kept }
-        }
     }
 }
 
@@ -178,14 +199,25 @@ fn turn(
 ) -> After {
     let kept = counted(before, cut);
     if before.cut {
-        return After { node, kept };
+        return quiet(node, kept);
     }
     if cut {
-        say_long(kept.number);
-        return After { node, kept };
+        return After {
+            node,
+            kept,
+            told: say_long(kept.number),
+        };
     }
     let said = lines::parse(line, words);
     act(said, node, kept, words, held, flash, pm, dm, io, reply)
+}
+
+// The end of the input, after so many lines: whether it was read to its end.
+fn end(failed: bool, number: u64) -> bool {
+    if failed {
+        return say_unread(number);
+    }
+    say_done()
 }
 
 fn main() {
@@ -206,6 +238,7 @@ fn main() {
             held: 0,
             cut: false,
         },
+        told: true,
     };
     let mut line = feed::before();
     let mut turns = u64::MAX;
@@ -213,6 +246,7 @@ fn main() {
         turns -= 1;
         line = feed::next_line(&mut bytes, line);
         if !line.some {
+            end(line.failed, after.kept.number);
             return;
         }
         let start = line.start;
@@ -232,5 +266,9 @@ fn main() {
             &mut io,
             &mut reply,
         );
+        if !after.told {
+            say_unwritten(after.kept.number);
+            return;
+        }
     }
 }

@@ -1,4 +1,5 @@
-// What the bench prints. Every part of an answer has a tab before it.
+// What the bench prints. Every part of an answer has a tab before it. Each function here says whether all of it could be written, and writes
+// nothing more where something could not.
 ghost use Prim.Native.Nat.{_+_, _*_, _≤_, _<_};
 ghost use lib.ListN.{length};
 use group::Reply;
@@ -8,13 +9,16 @@ use node::Answer;
 use node::Asking;
 use node::refusals::refusal_number;
 
-fn say(text: &[u8]) {
-    io::write_all(1, text);
+fn say(text: &[u8]) -> bool {
+    io::write_all(1, text)
 }
 
-fn say_number(number: u64) {
-    say(b"\t");
-    io::print_decimal(1, number);
+fn say_decimal(number: u64) -> bool {
+    io::print_decimal(1, number)
+}
+
+fn say_number(number: u64) -> bool {
+    say(b"\t") && say_decimal(number)
 }
 
 // A hex digit, as a capital.
@@ -46,19 +50,22 @@ fn spell(words: &[u16], text: &mut [u8]) -> usize
 }
 
 // The words of a reply or a request, 800 of them at a time.
-fn say_words(words: &[u16]) {
+fn say_words(words: &[u16]) -> bool {
     let mut text = io::buffer();
     let mut at = 0;
     while at < words.len() {
         let end = at + base::least(words.len() - at, 800);
         let n = spell(&words[at..end], &mut text);
-        say(&text[0..n]);
+        if !say(&text[0..n]) {
+            return false;
+        }
         at = end;
     }
+    true
 }
 
 // A reply of 0 words, by its BC.
-fn say_zero(bc: u32) {
+fn say_zero(bc: u32) -> bool {
     match bc {
         0 => say(b"\tNEXT"),
         1 => say(b"\tERROR"),
@@ -68,49 +75,46 @@ fn say_zero(bc: u32) {
 }
 
 // A reply: its words, behind its BC where that isn't 3.
-fn say_reply(sent: Reply, buffer: &[u16]) {
+fn say_reply(sent: Reply, buffer: &[u16]) -> bool {
     if sent.words == 0 {
-        say_zero(sent.bc);
-        return;
-    }
-    if sent.bc != 3 {
-        say(b"\tBC ");
-        io::print_decimal(1, sent.bc as u64);
+        return say_zero(sent.bc);
     }
     let n = base::least(sent.words, buffer.len());
-    say_words(&buffer[0..n]);
+    say_bc(sent.bc) && say_words(&buffer[0..n])
+}
+
+// The BC of a reply with words, where it isn't 3.
+fn say_bc(bc: u32) -> bool {
+    bc == 3 || say(b"\tBC ") && say_decimal(bc as u64)
 }
 
 // The slave to ask, and the words sent on to it.
-fn say_asking(asking: Asking, held: &[u16]) {
-    say(b"\tASK");
-    say_number(asking.slave as u64);
+fn say_asking(asking: Asking, held: &[u16]) -> bool {
     let from = base::least(asking.from as usize, held.len());
-    say_words(&held[from..]);
+    say(b"\tASK") && say_number(asking.slave as u64) && say_words(&held[from..])
 }
 
-// The answer of a call, behind the line's number. A start is none of the lines' calls.
-pub fn say_answer(number: u64, answer: Answer, held: &[u16], buffer: &[u16]) {
-    io::print_decimal(1, number);
+// What a call comes to. A start is none of the lines' calls.
+fn say_come(answer: Answer, held: &[u16], buffer: &[u16]) -> bool {
     match answer {
         Answer::Started => say(b"\tSTARTED"),
         Answer::Reply(sent) => say_reply(sent, buffer),
         Answer::Ask(asking) => say_asking(asking, held),
         Answer::Waiting => say(b"\tWAITING"),
-        Answer::Erased(words) => {
-            say(b"\tERASED");
-            say_number(words as u64);
-        }
+        Answer::Erased(words) => say(b"\tERASED") && say_number(words as u64),
         Answer::Refused(refusal) => {
-            say(b"\tREFUSED");
-            say_number(refusal_number(refusal) as u64);
+            say(b"\tREFUSED") && say_number(refusal_number(refusal) as u64)
         }
     }
-    say(b"\n");
+}
+
+// The answer of a call, behind the line's number.
+pub fn say_answer(number: u64, answer: Answer, held: &[u16], buffer: &[u16]) -> bool {
+    say_decimal(number) && say_come(answer, held, buffer) && say(b"\n")
 }
 
 // What is wrong with a field.
-fn say_what(what: What) {
+fn say_what(what: What) -> bool {
     match what {
         What::NoLink => say(
             b"no link, and none of reply, poll, erase, clock, error, help; fields are parted by tabs",
@@ -128,39 +132,63 @@ fn say_what(what: What) {
 }
 
 // A line that can't be read, by its first wrong field.
-pub fn say_wrong(number: u64, wrong: Wrong) {
-    io::print_decimal(1, number);
-    say(b"\tUNREADABLE\tfield ");
-    io::print_decimal(1, wrong.field as u64);
-    say(b": ");
+pub fn say_wrong(number: u64, wrong: Wrong) -> bool {
     let what = wrong.what;
-    say_what(what);
-    say(b"\n");
+    say_decimal(number)
+        && say(b"\tUNREADABLE\tfield ")
+        && say_decimal(wrong.field as u64)
+        && say(b": ")
+        && say_what(what)
+        && say(b"\n")
 }
 
 // A line that is too long.
-pub fn say_long(number: u64) {
-    io::print_decimal(1, number);
-    say(b"\tUNREADABLE\tthe line has 200,000 bytes or more\n");
+pub fn say_long(number: u64) -> bool {
+    say_decimal(number) && say(b"\tUNREADABLE\tthe line has 200,000 bytes or more\n")
 }
 
 // The lines that the bench takes.
-pub fn say_help() {
-    say(b"LINK BC [WORD..]                              a request from a link\n");
-    say(b"reply SLAVE BC ERROR STATUS ADDRESS [WORD..]  what a slave replied\n");
-    say(
-        b"poll                                          a poll, while the node waits for a slave\n",
-    );
-    say(b"erase BUDGET                                  erase progress, with a budget in words\n");
-    say(b"clock TICKS                                   the clock of the calls from here on\n");
-    say(
-        b"error                                         the next request comes with a receive error\n",
-    );
-    say(b"help                                          these lines\n");
-    say(
-        b"Fields are parted by tabs. LINK, SLAVE and BUDGET are decimal, BC is 0 to 3, ERROR 0 or 1, the others are hex.\n",
-    );
-    say(
-        b"For example 0 3 0D2E 1234, with tabs for the spaces, is a Ping from link 0, and answers 1234 0020 4F08.\n",
-    );
+pub fn say_help() -> bool {
+    say(b"LINK BC [WORD..]                              a request from a link\n")
+        && say(b"reply SLAVE BC ERROR STATUS ADDRESS [WORD..]  what a slave replied\n")
+        && say(
+            b"poll                                          a poll, while the node waits for a slave\n",
+        )
+        && say(
+            b"erase BUDGET                                  erase progress, with a budget in words\n",
+        )
+        && say(
+            b"clock TICKS                                   the clock of the calls from here on\n",
+        )
+        && say(
+            b"error                                         the next request comes with a receive error\n",
+        )
+        && say(b"help                                          these lines\n")
+        && say(
+            b"Fields are parted by tabs. LINK, SLAVE and BUDGET are decimal, BC is 0 to 3, ERROR 0 or 1, the others are hex.\n",
+        )
+        && say(
+            b"For example 0 3 0D2E 1234, with tabs for the spaces, is a Ping from link 0, and answers 1234 0020 4F08.\n",
+        )
+}
+
+// Why the bench stopped, on standard error; and on descriptor 3, where host/bench waits for it, that it has come to the end.
+fn complain(text: &[u8]) -> bool {
+    io::write_all(2, text)
+}
+
+pub fn say_unread(number: u64) -> bool {
+    complain(b"bench: standard input can't be read; lines read before that: ")
+        && io::print_decimal(2, number)
+        && complain(b"\n")
+}
+
+pub fn say_unwritten(number: u64) -> bool {
+    complain(b"bench: standard output can't be written; stopped at the answer to line ")
+        && io::print_decimal(2, number)
+        && complain(b"\n")
+}
+
+pub fn say_done() -> bool {
+    io::write_all(3, b"done\n")
 }

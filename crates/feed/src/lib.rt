@@ -1,12 +1,20 @@
 // Standard input for the bench and for the programs that run stored vectors: one line after the other; and for stored vectors a line as a
 // row of words of four hex digits with one byte between them. What a line holds is compared with the model's answers, so the contracts
 // here say only what a caller needs to stay inside its buffers.
-ghost use Prim.Native.Nat.{_+_, _≤_, _<_};
-ghost use lib.ListN.{length};
-ghost use Rattle.feed.specs.Bounds.{Within};
+ghost use Prim.Native.Nat.{_+_, _*_, _%_, _≤_, _<_};
+ghost use mathlib.Core.Path.{_≡_};
+ghost use lib.ListN.{length, getD};
+ghost use Rattle.feed.specs.Bounds.{Within, beforeAll, readAs};
+
+// What a read came to: how many bytes it put at the start of what it was handed, none at the end of the input, and whether it failed.
+pub struct Came {
+    pub bytes: usize,
+    pub failed: bool,
+}
 
 // A line: where it stands in the buffer, and the bytes behind it that were read already, from `next` up to `have`. There is no
-// line where `some` is false. A line that is as long as the buffer or longer is cut there, and what follows it is taken for the next one.
+// line where `some` is false: then the input has ended, or, where `failed` is true, could not be read on, and what stood in front of the
+// failure is no line. A line that is as long as the buffer or longer is cut there, and what follows it is taken for the next one.
 pub struct Line {
     pub start: usize,
     pub end: usize,
@@ -14,10 +22,13 @@ pub struct Line {
     pub have: usize,
     pub some: bool,
     pub cut: bool,
+    pub failed: bool,
 }
 
 // Before the first line.
-pub fn before() -> Line {
+pub fn before() -> Line
+    ensures { λ r. ⌜ r ≡ beforeAll ⌝ }
+{
     Line {
         start: 0,
         end: 0,
@@ -25,6 +36,7 @@ pub fn before() -> Line {
         have: 0,
         some: true,
         cut: false,
+        failed: false,
     }
 }
 
@@ -54,36 +66,63 @@ fn shift(buffer: &mut [u8], start: usize, end: usize)
     }
 }
 
-// Reads once behind the first `have` bytes, and says how many bytes came: 0 at the end of the input.
-fn read_more(buffer: &mut [u8], have: usize) -> usize
+// What an answer of `read` says, that was handed a run of bytes.
+fn read_as(got: isize, run: &[u8]) -> Came
+    ensures { λ r. ⌜ r ≡ readAs got (length (now (run .entry))) ⌝ }
+    ensures { λ r. ⌜ r .bytes ≤ length (now (run .entry)) ⌝ }
+{
+    Came {
+        bytes: io::count(got, run),
+        failed: got < 0,
+    }
+}
+
+// Reads once behind the first `have` bytes, and says what that came to.
+fn read_more(buffer: &mut [u8], have: usize) -> Came
     requires { ⌜ have ≤ length (now buffer) ⌝ }
-    ensures { λ r. ⌜ have + r ≤ length (now (buffer .exit)) ⌝ }
+    ensures { λ r. ⌜ have + r .bytes ≤ length (now (buffer .exit)) ⌝ }
 {
     let rest = &mut buffer[have..];
     let got = libc::read(0, rest);
-    io::count(got, rest)
+    read_as(got, rest)
+}
+
+// How many bytes the buffer holds, and whether a read failed.
+struct Filled {
+    held: usize,
+    failed: bool,
 }
 
 // Reads behind the first `have` bytes, and says how many bytes it then holds. It stops as soon as the end of a line has come, so that a
-// person at a terminal is answered line by line; and where the buffer is full or the input ends.
-fn fill(buffer: &mut [u8], have: usize) -> usize
+// person at a terminal is answered line by line; where the buffer is full or the input ends; and where a read fails.
+fn fill(buffer: &mut [u8], have: usize) -> Filled
     requires { ⌜ have ≤ length (now buffer) ⌝ }
-    ensures { λ r. ⌜ r ≤ length (now (buffer .exit)) ⌝ }
+    ensures { λ r. ⌜ r .held ≤ length (now (buffer .exit)) ⌝ }
 {
     let n = buffer.len();
     let mut held = have;
     while held < n {
-        let got = read_more(buffer, held);
+        let came = read_more(buffer, held);
+        let got = came.bytes;
         if got == 0 {
-            return held;
+            return Filled {
+                held,
+                failed: came.failed,
+            };
         }
         let before = held;
         held += got;
         if line_end(&buffer[before..held]) < got {
-            return held;
+            return Filled {
+                held,
+                failed: false,
+            };
         }
     }
-    held
+    Filled {
+        held,
+        failed: false,
+    }
 }
 
 // The next line of standard input, after the one before it.
@@ -101,10 +140,12 @@ pub fn next_line(buffer: &mut [u8], line: Line) -> Line
             have: end,
             some: true,
             cut: false,
+            failed: false,
         };
     }
     shift(buffer, start, end);
-    let have = fill(buffer, end - start);
+    let filled = fill(buffer, end - start);
+    let have = filled.held;
     let first = line_end(&buffer[0..have]);
     if first < have {
         return Line {
@@ -114,6 +155,7 @@ pub fn next_line(buffer: &mut [u8], line: Line) -> Line
             have,
             some: true,
             cut: false,
+            failed: false,
         };
     }
     Line {
@@ -121,8 +163,9 @@ pub fn next_line(buffer: &mut [u8], line: Line) -> Line
         end: have,
         next: have,
         have,
-        some: 0 < have,
+        some: 0 < have && !filled.failed,
         cut: have == buffer.len(),
+        failed: filled.failed,
     }
 }
 
@@ -173,7 +216,9 @@ pub fn words_of(line: &[u8], words: &mut [u16]) -> usize
 }
 
 // A word of a line; 0 where it has none.
-pub fn item(line: &[u16], at: usize) -> u16 {
+pub fn item(line: &[u16], at: usize) -> u16
+    ensures { λ r. ⌜ r ≡ getD (now (line .entry)) at 0 ⌝ }
+{
     if at < line.len() {
         return line[at];
     }
@@ -181,7 +226,9 @@ pub fn item(line: &[u16], at: usize) -> u16 {
 }
 
 // The word after another in the rule by which lines give long runs: 25,173 times it and 13,849, modulo 65,536.
-pub fn next_word(word: u16) -> u16 {
+pub fn next_word(word: u16) -> u16
+    ensures { λ r. ⌜ r ≡ (word * 25173 + 13849) % 65536 ⌝ }
+{
     ((word as u32 * 25173 + 13849) % 65536) as u16
 }
 
@@ -198,7 +245,9 @@ pub fn seed_words(run: &mut [u16], seed: u16) {
 }
 
 // One word more of a digest.
-pub fn mixed(digest: u16, word: u16) -> u16 {
+pub fn mixed(digest: u16, word: u16) -> u16
+    ensures { λ r. ⌜ r ≡ (digest * 17 + word) % 65521 ⌝ }
+{
     ((digest as u32 * 17 + word as u32) % 65521) as u16
 }
 

@@ -1,7 +1,6 @@
 -- `bench::main` meets its contract: the line, the words and all memories keep their lengths. The measure is how many turns are left.
 -- Assumes nothing.
 use mathlib.Core.Path.{_∙_, _≡_}
-use mathlib.Core.Path.{_∙_, _≡_}
 use native.Mathlib.Omega.{arith}
 use borrow.Author.Needs.{needs}
 use lib.ListN.{length}
@@ -61,6 +60,9 @@ slice-aggregate-next-line c = search needs
 next-line-requires : tie.Need-next-line-requires Inv-loop μ-loop
 next-line-requires c κs = search needs
 
+end-requires : tie.Need-end-requires Inv-loop μ-loop
+end-requires c κs = search needs
+
 returns : tie.Need-returns Inv-loop μ-loop
 returns c = search needs
 
@@ -97,31 +99,23 @@ slice-aggregate-turn-7 c = search needs
 turn-requires : tie.Need-turn-requires Inv-loop μ-loop
 turn-requires c κs = search needs
 
-loop-less : tie.Need-loop-less Inv-loop μ-loop
-loop-less c =
-    omega (
-      arith,
-      c .before .before .before .before .before .before .before .before .before .before .before .before .before .before
-          .before .before .before .before .before .before .before .before .before .before .loop-test .taken,
-    )
-
-loop-again : tie.Need-loop-again Inv-loop μ-loop
-loop-again c = (
-  (
-    (
-      c .before .before .before .before .before .before .before .before .before .before .before .before .before .before .before .before
-          .before .before .before .before .before .before .next-line .kept .0
-          ∙ c .before .before .before .before .before .before .before .before .before .before .before .before .before .before .before .before
-          .before .before .before .before .before .before .before .before .before .loop .inv .0 .0 .0,
-      search needs,
-    ),
-    (search needs, search needs),
-  ),
-  ((search needs, search needs), (search needs, search needs)),
-)
+say-unwritten-requires : tie.Need-say-unwritten-requires Inv-loop μ-loop
+say-unwritten-requires c κs = search needs
 
 returns-2 : tie.Need-returns-2 Inv-loop μ-loop
 returns-2 c = search needs
+
+loop-less : tie.Need-loop-less Inv-loop μ-loop
+loop-less c = omega (arith, c .before .before .before .before .before .before .before .before .before .before .before .before .before .before .before .before .before .before .before .before .before .before .before .before .before .before .loop-test .taken)
+
+loop-again : tie.Need-loop-again Inv-loop μ-loop
+loop-again c = (
+  ((c .before .before .before .before .before .before .before .before .before .before .before .before .before .before .before .before .before .before .before .before .before .before .before .before .next-line .kept .0 ∙ c .before .before .before .before .before .before .before .before .before .before .before .before .before .before .before .before .before .before .before .before .before .before .before .before .before .before .before .loop .inv .0 .0 .0, search needs), (search needs, search needs)),
+  ((search needs, search needs), (search needs, search needs)),
+)
+
+returns-3 : tie.Need-returns-3 Inv-loop μ-loop
+returns-3 c = search needs
 
 pub main-spec : {M : Type 1} → statement M
 main-spec =
@@ -144,6 +138,7 @@ main-spec =
     sub-turns
     slice-aggregate-next-line
     next-line-requires
+    end-requires
     returns
     sub-turn
     part-turn-start
@@ -156,6 +151,8 @@ main-spec =
     slice-aggregate-turn-6
     slice-aggregate-turn-7
     turn-requires
+    say-unwritten-requires
+    returns-2
     loop-less
     loop-again
-    returns-2)
+    returns-3)

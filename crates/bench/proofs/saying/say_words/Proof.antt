@@ -57,14 +57,17 @@ part-say-end c = search needs
 say-requires : tie.Need-say-requires Inv-loop μ-loop
 say-requires c κs = search needs
 
+returns : tie.Need-returns Inv-loop μ-loop
+returns c = search needs
+
 loop-less : tie.Need-loop-less Inv-loop μ-loop
 loop-less c = search needs
 
 loop-again : tie.Need-loop-again Inv-loop μ-loop
 loop-again c = search needs
 
-returns : tie.Need-returns Inv-loop μ-loop
-returns c = search needs
+returns-2 : tie.Need-returns-2 Inv-loop μ-loop
+returns-2 c = search needs
 
 pub say-words-spec : {M : Type 1} → statement M
 say-words-spec =
@@ -87,6 +90,7 @@ say-words-spec =
     part-say-start
     part-say-end
     say-requires
+    returns
     loop-less
     loop-again
-    returns)
+    returns-2)
