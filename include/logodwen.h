@@ -521,7 +521,8 @@ static inline bool logodwen_file_io(struct logodwen_file *file, const uint16_t *
 }
 
 /* ---- Requests. A builder lays a request, and answers how many words it has; 0 where a number is out of its range or there is no room,
-   and then it lays nothing. Those without `room` lay three words at most: LOGODWEN_COMMAND_BYTES. ---- */
+   and then it lays nothing; sent all the same, a request of no words is answered ABORT. Those without `room` lay three words at most:
+   LOGODWEN_COMMAND_BYTES. ---- */
 
 #define LOGODWEN_COMMAND_BYTES 6u
 

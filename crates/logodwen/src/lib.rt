@@ -25,7 +25,7 @@ use node::refusals::refusal_number;
 mod calls;
 mod checks;
 mod codec;
-mod sequence;
+pub mod sequence;
 mod words;
 
 // What is pending, as the numbers in the state bytes: 0 nothing, 1 one slave, 2 a group; what the case does not use is 0.
