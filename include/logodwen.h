@@ -1,16 +1,21 @@
 /* logodwen.h: the reference node for a host in C (liblogodwen.a).
 
    A node is a state machine without memory of its own: the host keeps the node's state as 172 bytes, its flash and its memories as
-   runs of bytes, and lends them to each call. There are five calls:
+   runs of bytes, and lends them to each call. There are five calls, and one that works out a check sequence:
 
        logodwen_start      a node starts on a flash
        logodwen_request    a packet from a master came in on a link
        logodwen_reply      a packet from a slave came in
        logodwen_poll       time went by while a slave is being asked
        logodwen_erase      a bit of an erasure that is going on is done
+       logodwen_fcs        the check sequence of words
 
    A call either does all that it answers, or is refused and changes nothing. Every call ends, gives an answer for any numbers and any
    bytes that it is lent, and touches no byte outside the lent runs: that is proved, so no input has to be kept away from it.
+
+   Around the calls stand helpers in plain C, in the order in which a host needs them: what was answered, taken apart; words in bytes; a
+   node in one struct, with the calls on it; files and segments, built and read; requests; replies, read. They are tested, not proved.
+   None of them reads or writes past the length that it is given, whatever the bytes say.
 
    What the host must see to
    - Before the first start the state bytes are zero: zero is no node's state, and every other call refuses it.
@@ -25,14 +30,17 @@
    at the same time in different threads; calls that share a run (the state above all) may not.
 
    Words: a word is two bytes, a word of program memory (PM) four, the low byte first. Of a PM word the low 24 bits count, and a store
-   clears the others. Lengths are in bytes. Bytes that are not a whole word at the end of a run are ignored, and stay as they are.
+   clears the others. The five calls take lengths in bytes (`_len`); bytes that are not a whole word at the end of a run are ignored, and
+   stay as they are. The helpers count in words (`words`, `count`, `room`).
 
    Times are in ticks of 10 ms and count modulo 2^32. A slave that has not answered 60 ticks after it was asked is late. */
 #ifndef LOGODWEN_H
 #define LOGODWEN_H
 
+#include <stdbool.h>
 #include <stddef.h>
 #include <stdint.h>
+#include <string.h>
 
 #ifdef __cplusplus
 extern "C" {
@@ -59,6 +67,7 @@ extern "C" {
 #define LOGODWEN_SLAVE_REPLY_BYTES 65536u
 #define LOGODWEN_FILE_WORDS 4096u         /* of a file that finds a sector, at most */
 #define LOGODWEN_SLAVES 24u
+#define LOGODWEN_MASKS 16u
 #define LOGODWEN_LATE_TICKS 60u
 
 /* The stack that each entry needs, in bytes. They were measured on the archive, over calls that go through all of an entry's work, in a
@@ -68,6 +77,7 @@ extern "C" {
 #define LOGODWEN_STACK_REPLY 98304u
 #define LOGODWEN_STACK_POLL 32768u
 #define LOGODWEN_STACK_ERASE 73728u
+#define LOGODWEN_STACK_FCS 4096u
 
 /* The kinds of node. */
 #define LOGODWEN_CDP 1u  /* has no slaves */
@@ -83,13 +93,13 @@ extern "C" {
 
 /* Why a call is refused. They are tested in this order, each where the call has that input, and the first that holds is answered. */
 #define LOGODWEN_DONE 0u
-#define LOGODWEN_BAD_FLASH 1u    /* the flash is not 32,768 words, or the state was started on another size */
-#define LOGODWEN_SHORT_REPLY 2u  /* the reply buffer is below 12,288 words */
-#define LOGODWEN_BAD_MEMORY 3u   /* PM or DM above 8,192 words, IO above 4,096, or a slave's reply above 32,768 */
-#define LOGODWEN_BAD_NUMBER 4u   /* a link that is no port; a slave above 23; at start a kind, ports or sub-detector that is none */
-#define LOGODWEN_BAD_STATE 5u    /* the state bytes are not 172, or not those of a node's state */
-#define LOGODWEN_PENDING 6u      /* a request with words, while a request is pending */
-#define LOGODWEN_NOT_ASKED 7u    /* a reply or a poll with nothing pending, or a reply from a slave that is not being asked */
+#define LOGODWEN_REFUSED_FLASH_SIZE 1u  /* the flash is not 32,768 words, or the state was started on another size */
+#define LOGODWEN_REFUSED_REPLY_SIZE 2u  /* the reply buffer is below 12,288 words */
+#define LOGODWEN_REFUSED_MEMORY_SIZE 3u /* PM or DM above 8,192 words, IO above 4,096, or a slave's reply above 32,768 */
+#define LOGODWEN_REFUSED_NUMBER 4u      /* a link that is no port; a slave above 23; at start a kind, ports or sub-detector that is none */
+#define LOGODWEN_REFUSED_STATE 5u       /* the state bytes are not 172, or not those of a node's state */
+#define LOGODWEN_REFUSED_BUSY 6u        /* a request with words, while a request is pending */
+#define LOGODWEN_REFUSED_UNASKED 7u     /* a reply or a poll with nothing pending, or a reply from a slave that is not being asked */
 
 /* What a call that is not refused answers: see logodwen_answer and those below it. */
 #define LOGODWEN_REPLY 1u   /* a reply to the master stands in the reply buffer, or has no words */
@@ -153,13 +163,23 @@ uint64_t logodwen1_erase(uint64_t budget,
                          uint8_t *state, size_t state_len,
                          uint8_t *flash, size_t flash_len);
 
+/* The check sequence (FCS) of the words of bytes: polynomial 0x1021, start 0xFFFF, high byte of each word first. A last byte alone is
+   ignored. */
+uint16_t logodwen1_fcs(const uint8_t *bytes, size_t len);
+
 #define logodwen_start logodwen1_start
 #define logodwen_request logodwen1_request
 #define logodwen_reply logodwen1_reply
 #define logodwen_poll logodwen1_poll
 #define logodwen_erase logodwen1_erase
 
-/* What was answered, taken apart. A call that is refused has no other part. */
+/* The same of so many words. It ends a segment's body and every reply that has words. */
+static inline uint16_t logodwen_fcs(const uint8_t *bytes, size_t words) { return logodwen1_fcs(bytes, 2 * words); }
+
+/* ---- What was answered, taken apart. A call that is refused has no other part. ---- */
+
+/* What a part that an answer doesn't have is: no BC, no slave and no place. */
+#define LOGODWEN_NONE 0xFFFFFFFFu
 
 /* Why the call was refused, or LOGODWEN_DONE. */
 static inline unsigned logodwen_refusal(uint64_t answered) { return (unsigned)(answered & 0xFFu); }
@@ -167,29 +187,35 @@ static inline unsigned logodwen_refusal(uint64_t answered) { return (unsigned)(a
 /* LOGODWEN_REPLY, LOGODWEN_ASK or LOGODWEN_WAITING; 0 of a call that was refused, and of logodwen_erase. */
 static inline unsigned logodwen_answer(uint64_t answered) { return (unsigned)(answered >> 8 & 0xFFu); }
 
-/* Of LOGODWEN_REPLY: its BC. */
-static inline unsigned logodwen_bc(uint64_t answered) { return (unsigned)(answered >> 16 & 0xFFu); }
+/* Of LOGODWEN_REPLY: its BC. Else LOGODWEN_NONE. */
+static inline unsigned logodwen_bc(uint64_t answered) {
+    return logodwen_answer(answered) == LOGODWEN_REPLY ? (unsigned)(answered >> 16 & 0xFFu) : LOGODWEN_NONE;
+}
 
-/* Of LOGODWEN_REPLY: how many words of the reply buffer it has, from word 0 on. Of logodwen_erase: how many words were set. */
+/* Of LOGODWEN_REPLY: how many words of the reply buffer it has, from word 0 on. Of logodwen_erase: how many words were set. Else 0. */
 static inline uint32_t logodwen_words(uint64_t answered) { return (uint32_t)(answered >> 32); }
 
-/* Of LOGODWEN_ASK: the slave. */
-static inline unsigned logodwen_slave(uint64_t answered) { return (unsigned)(answered >> 16 & 0xFFu); }
+/* Of LOGODWEN_ASK: the slave. Else LOGODWEN_NONE. */
+static inline unsigned logodwen_slave(uint64_t answered) {
+    return logodwen_answer(answered) == LOGODWEN_ASK ? (unsigned)(answered >> 16 & 0xFFu) : LOGODWEN_NONE;
+}
 
-/* Of LOGODWEN_ASK: the word of the request from which it is sent on, 1 or 2. */
-static inline unsigned logodwen_from(uint64_t answered) { return (unsigned)(answered >> 24 & 0xFFu); }
+/* Of LOGODWEN_ASK: the word of the request from which it is sent on, 1 or 2. Else LOGODWEN_NONE. */
+static inline unsigned logodwen_from(uint64_t answered) {
+    return logodwen_answer(answered) == LOGODWEN_ASK ? (unsigned)(answered >> 24 & 0xFFu) : LOGODWEN_NONE;
+}
 
 /* A refusal as text. */
 static inline const char *logodwen_refusal_text(unsigned refusal) {
     switch (refusal) {
     case LOGODWEN_DONE: return "done";
-    case LOGODWEN_BAD_FLASH: return "1: the flash is not 32,768 words, or not of the size used at start";
-    case LOGODWEN_SHORT_REPLY: return "2: the reply buffer is below 12,288 words";
-    case LOGODWEN_BAD_MEMORY: return "3: PM, DM, IO or a slave's reply is too long";
-    case LOGODWEN_BAD_NUMBER: return "4: a link, slave, kind, port count or sub-detector that is none";
-    case LOGODWEN_BAD_STATE: return "5: the state bytes are not those of a node's state";
-    case LOGODWEN_PENDING: return "6: a request while one is pending";
-    case LOGODWEN_NOT_ASKED: return "7: nothing is pending, or another slave is being asked";
+    case LOGODWEN_REFUSED_FLASH_SIZE: return "1: the flash is not 32,768 words, or not of the size used at start";
+    case LOGODWEN_REFUSED_REPLY_SIZE: return "2: the reply buffer is below 12,288 words";
+    case LOGODWEN_REFUSED_MEMORY_SIZE: return "3: PM, DM, IO or a slave's reply is too long";
+    case LOGODWEN_REFUSED_NUMBER: return "4: a link, slave, kind, port count or sub-detector that is none";
+    case LOGODWEN_REFUSED_STATE: return "5: the state bytes are not those of a node's state";
+    case LOGODWEN_REFUSED_BUSY: return "6: a request while one is pending";
+    case LOGODWEN_REFUSED_UNASKED: return "7: nothing is pending, or another slave is being asked";
     default: return "not a refusal";
     }
 }
@@ -206,7 +232,7 @@ static inline const char *logodwen_reply_text(uint64_t answered) {
     }
 }
 
-/* Words in bytes. */
+/* ---- Words in bytes. ---- */
 
 static inline uint16_t logodwen_get(const uint8_t *bytes, size_t word) {
     return (uint16_t)(bytes[2 * word] | bytes[2 * word + 1] << 8);
@@ -227,19 +253,624 @@ static inline void logodwen_put_pm(uint8_t *bytes, size_t word, uint32_t value) 
     logodwen_put(bytes, 2 * word + 1, (uint16_t)(value >> 16));
 }
 
-/* The check sequence (FCS) of words in bytes: polynomial 0x1021, start 0xFFFF, high byte of each word first. It ends a segment's body
-   and every reply that has words. */
-static inline uint16_t logodwen_fcs(const uint8_t *bytes, size_t words) {
-    unsigned value = 0xFFFFu;
-    for (size_t i = 0; i < words; i++) {
-        value ^= logodwen_get(bytes, i);
-        for (int bit = 0; bit < 16; bit++) value = (value & 0x8000u ? value << 1 ^ 0x1021u : value << 1) & 0xFFFFu;
-    }
-    return (uint16_t)value;
+/* ---- A node in one struct, with all that is lent to it, and the calls on it. ---- */
+
+/* All zero it is a node before its first start, without PM, DM and IO. A host that has such memories lends its own bytes. */
+struct logodwen_node {
+    uint8_t state[LOGODWEN_STATE_BYTES], flash[LOGODWEN_FLASH_BYTES], reply[LOGODWEN_REPLY_BYTES];
+    uint8_t *pm, *dm, *io;
+    size_t pm_len, dm_len, io_len; /* in bytes */
+};
+
+/* What is given at start: see logodwen1_start. */
+struct logodwen_given {
+    uint32_t kind, ports, subdetector;
+    uint16_t program_version, subdetector_version, start_tests;
+    uint32_t clock;
+};
+
+/* A flash as it comes: every bit set, so every sector empty. The node is to be started on it. */
+static inline void logodwen_node_blank(struct logodwen_node *node) { memset(node->flash, 0xFF, sizeof node->flash); }
+
+static inline uint32_t logodwen_node_start(struct logodwen_node *node, const struct logodwen_given *given) {
+    return logodwen_start(given->kind, given->ports, given->subdetector, given->program_version, given->subdetector_version,
+                          given->start_tests, given->clock, node->flash, sizeof node->flash, node->state, sizeof node->state);
 }
 
-/* The state bytes, low byte first, for a host that wants to look into them, keep them or send them. What a case does not use is 0, and
-   bytes that are not as told here are refused by 5. Their form belongs to LOGODWEN_VERSION. */
+/* A packet with all that the receiver said of it. */
+static inline uint64_t logodwen_node_request(struct logodwen_node *node, uint32_t now, uint32_t link, uint32_t bc,
+                                             uint32_t receive_error, const uint8_t *packet, size_t words) {
+    return logodwen_request(now, link, bc, receive_error, packet, 2 * words, node->state, sizeof node->state, node->flash,
+                            sizeof node->flash, node->pm, node->pm_len, node->dm, node->dm_len, node->io, node->io_len, node->reply,
+                            sizeof node->reply);
+}
+
+/* A request that came in whole and without errors. */
+static inline uint64_t logodwen_node_send(struct logodwen_node *node, uint32_t now, uint32_t link, const uint8_t *packet,
+                                          size_t words) {
+    return logodwen_node_request(node, now, link, LOGODWEN_BC_WHOLE, 0, packet, words);
+}
+
+static inline uint64_t logodwen_node_reply(struct logodwen_node *node, uint32_t now, uint32_t slave, uint32_t bc,
+                                           uint32_t receive_error, uint16_t rx_status, uint16_t rx_address, const uint8_t *packet,
+                                           size_t words) {
+    return logodwen_reply(now, slave, bc, receive_error, rx_status, rx_address, packet, 2 * words, node->state, sizeof node->state,
+                          node->reply, sizeof node->reply);
+}
+
+static inline uint64_t logodwen_node_poll(struct logodwen_node *node, uint32_t now) {
+    return logodwen_poll(now, node->state, sizeof node->state, node->reply, sizeof node->reply);
+}
+
+static inline uint64_t logodwen_node_erase(struct logodwen_node *node, uint64_t budget) {
+    return logodwen_erase(budget, node->state, sizeof node->state, node->flash, sizeof node->flash);
+}
+
+/* ---- Sectors. The flash has the file sectors 3 to 10; the words before them never change. ---- */
+
+#define LOGODWEN_SECTOR_FIRST 3u
+#define LOGODWEN_SECTOR_LAST 10u
+#define LOGODWEN_SECTORS 8u
+
+static inline bool logodwen_is_sector(unsigned sector) { return LOGODWEN_SECTOR_FIRST <= sector && sector <= LOGODWEN_SECTOR_LAST; }
+
+/* How many words a sector has, at which word of the flash it begins, and its address in Summary and Erase; 0 of a number that is none. */
+static inline size_t logodwen_sector_words(unsigned sector) {
+    return !logodwen_is_sector(sector) ? 0 : sector == LOGODWEN_SECTOR_FIRST ? LOGODWEN_FLASH_WORDS / 16 : LOGODWEN_FLASH_WORDS / 8;
+}
+
+static inline size_t logodwen_sector_start(unsigned sector) {
+    return !logodwen_is_sector(sector)       ? 0
+           : sector == LOGODWEN_SECTOR_FIRST ? LOGODWEN_FLASH_WORDS / 16
+                                             : LOGODWEN_FLASH_WORDS / 8 * (size_t)(sector - LOGODWEN_SECTOR_FIRST);
+}
+
+static inline unsigned logodwen_sector_address(unsigned sector) {
+    return !logodwen_is_sector(sector) ? 0 : sector == LOGODWEN_SECTOR_FIRST ? 0x0200u : 0x0400u * (sector - LOGODWEN_SECTOR_FIRST);
+}
+
+/* ---- Files and segments.
+
+   A file is a header word and 1 to 14 segments. A segment is a run of memory words for PM or DM, or pairs of register and value for IO:
+   two header words and a body, which ends with its FCS. A body has DM and IO words as they are, and PM words of three bytes packed:
+   AABBCC DDEEFF stand as AABB CCDD EEFF, and a zero byte stands before the FCS. ---- */
+
+#define LOGODWEN_TYPE_PROGRAM 0u
+#define LOGODWEN_TYPE_DATA 1u
+
+#define LOGODWEN_ATTRIBUTE_PLAIN 3u /* 0 and 1 are plain too, and can't be set default */
+#define LOGODWEN_ATTRIBUTE_DEFAULT 2u
+
+#define LOGODWEN_SEGMENTS 14u /* of a file, at most */
+
+/* The memories, by their bits in a segment's first word; IO is 3 too. */
+#define LOGODWEN_PM 0u
+#define LOGODWEN_DM 1u
+#define LOGODWEN_IO 2u
+
+#define LOGODWEN_IO_WRITE 0x1000u /* set in a pair's first word, beside the register's number, writes the register */
+
+/* A file's header word. */
+struct logodwen_header {
+    unsigned type, attribute, name, segments; /* attribute: its two bits */
+};
+
+/* Takes a header word apart. Answers whether it can begin a file: type 0 or 1, 1 to 14 segments. */
+static inline bool logodwen_read_header(unsigned word, struct logodwen_header *header) {
+    header->type = word >> 14 & 3u;
+    header->attribute = word >> 12 & 3u;
+    header->name = word >> 4 & 0xFFu;
+    header->segments = word & 15u;
+    return header->type <= LOGODWEN_TYPE_DATA && 1 <= header->segments && header->segments <= LOGODWEN_SEGMENTS;
+}
+
+static inline uint16_t logodwen_header_word(const struct logodwen_header *header) {
+    return (uint16_t)((header->type & 3u) << 14 | (header->attribute & 3u) << 12 | (header->name & 0xFFu) << 4 | (header->segments & 15u));
+}
+
+/* A segment that stands in some words. */
+struct logodwen_segment {
+    unsigned memory;     /* LOGODWEN_PM, LOGODWEN_DM or LOGODWEN_IO */
+    unsigned page;       /* 0, 4 or 5; of IO 0 */
+    unsigned address;    /* 0 to 3FFF; of IO 0 */
+    size_t count;        /* of its memory words: see logodwen_segment_word */
+    const uint8_t *body; /* its packed words, in the words that it was read from */
+    size_t body_words;   /* with the FCS */
+};
+
+/* The page of its two bits: 00 is page 0, 10 page 4, 11 page 5, and 01 is none. And its bits, 1 for a number that is no page. */
+static inline unsigned logodwen_page_of(unsigned bits) { return bits == 0 ? 0 : bits == 2 ? 4 : bits == 3 ? 5 : LOGODWEN_NONE; }
+static inline unsigned logodwen_page_bits(unsigned page) { return page == 0 ? 0 : page == 4 ? 2 : page == 5 ? 3 : 1; }
+
+/* Whether a segment of that memory may have so many memory words: PM an odd number, DM any but 0, IO pairs. With the FCS they are at
+   most 3FFF, which is odd: so PM has one less. */
+static inline bool logodwen_permits(unsigned memory, size_t count) {
+    return memory == LOGODWEN_PM   ? count % 2 == 1 && count < 0x3FFEu
+           : memory == LOGODWEN_DM ? 1 <= count && count <= 0x3FFEu
+                                   : 2 <= count && count <= 0x3FFEu && count % 2 == 0;
+}
+
+/* The packed words that memory words take, with the FCS. */
+static inline size_t logodwen_body_words(unsigned memory, size_t count) { return memory == LOGODWEN_PM ? (count + 1) / 2 * 3 : count + 1; }
+
+/* A byte of a body, the high byte of each word first. */
+static inline size_t logodwen_body_byte(size_t at) { return at ^ 1u; }
+
+/* The valid segment at a place of some words: answers the place past it, or 0 where there is none, and then leaves `segment`. */
+static inline size_t logodwen_read_segment(const uint8_t *words, size_t count, size_t at, struct logodwen_segment *segment) {
+    if (count < 2 || at > count - 2) return 0;
+    unsigned first = logodwen_get(words, at), second = logodwen_get(words, at + 1), length = first & 0x3FFFu;
+    struct logodwen_segment found = {first >> 14 > LOGODWEN_IO ? LOGODWEN_IO : first >> 14, 0, 0, 0, words + 2 * at + 4, 0};
+    if (length == 0 || !logodwen_permits(found.memory, length - 1)) return 0;
+    if (found.memory != LOGODWEN_IO) {
+        found.page = logodwen_page_of(second >> 14);
+        found.address = second & 0x3FFFu;
+        if (found.page == LOGODWEN_NONE) return 0;
+    }
+    found.count = length - 1;
+    found.body_words = logodwen_body_words(found.memory, found.count);
+    if (found.body_words > count - at - 2) return 0;
+    if (found.memory == LOGODWEN_PM && found.body[logodwen_body_byte(3 * found.count)] != 0) return 0;
+    if (logodwen_get(found.body, found.body_words - 1) != logodwen_fcs(found.body, found.body_words - 1)) return 0;
+    *segment = found;
+    return at + 2 + found.body_words;
+}
+
+/* A memory word of a segment, unpacked; 0 past its last. */
+static inline uint32_t logodwen_segment_word(const struct logodwen_segment *segment, size_t i) {
+    if (i >= segment->count) return 0;
+    if (segment->memory != LOGODWEN_PM) return logodwen_get(segment->body, i);
+    return (uint32_t)segment->body[logodwen_body_byte(3 * i)] << 16 | (uint32_t)segment->body[logodwen_body_byte(3 * i + 1)] << 8
+           | segment->body[logodwen_body_byte(3 * i + 2)];
+}
+
+/* The length of the valid file that some words begin with, and its header; 0 where there is none. Its segments stand from word 1 on:
+
+       for (size_t at = 1; at < length; ) { at = logodwen_read_segment(words, length, at, &segment); .. } */
+static inline size_t logodwen_read_file(const uint8_t *words, size_t count, struct logodwen_header *header) {
+    struct logodwen_segment segment;
+    size_t at = 1;
+    if (count == 0 || !logodwen_read_header(logodwen_get(words, 0), header)) return 0;
+    for (unsigned left = header->segments; left > 0 && at != 0; left--) at = logodwen_read_segment(words, count, at, &segment);
+    return at;
+}
+
+/* Lays the first words of a segment: its header. For the builders below. */
+static inline bool logodwen_begin_segment(uint8_t *to, size_t room, unsigned memory, unsigned page, unsigned address, size_t count) {
+    if (!logodwen_permits(memory, count) || logodwen_page_bits(page) == 1 || address > 0x3FFFu) return false;
+    if (room < 2 + logodwen_body_words(memory, count)) return false;
+    logodwen_put(to, 0, (uint16_t)(memory << 14 | (unsigned)(count + 1)));
+    logodwen_put(to, 1, (uint16_t)(logodwen_page_bits(page) << 14 | address));
+    return true;
+}
+
+/* Lays the last word of a segment, its FCS, and answers how many words the segment has. */
+static inline size_t logodwen_end_segment(uint8_t *to, unsigned memory, size_t count) {
+    size_t words = 2 + logodwen_body_words(memory, count);
+    logodwen_put(to, words - 1, logodwen_fcs(to + 4, words - 3));
+    return words;
+}
+
+/* Lay a segment, and answer how many words it has; 0 where there is no room for it, or it would not be one: then nothing is laid. The
+   page is 0, 4 or 5, the address at most 3FFF. PM takes an odd count of words, of which the low 24 bits count; IO takes pairs, each a
+   register, with LOGODWEN_IO_WRITE to write it, and a value. */
+static inline size_t logodwen_make_pm(uint8_t *to, size_t room, unsigned page, unsigned address, const uint32_t *words, size_t count) {
+    if (!logodwen_begin_segment(to, room, LOGODWEN_PM, page, address, count)) return 0;
+    for (size_t i = 0; i < 3 * count; i++) to[4 + logodwen_body_byte(i)] = (uint8_t)(words[i / 3] >> (16 - i % 3 * 8) & 0xFFu);
+    to[4 + logodwen_body_byte(3 * count)] = 0;
+    return logodwen_end_segment(to, LOGODWEN_PM, count);
+}
+
+static inline size_t logodwen_make_dm(uint8_t *to, size_t room, unsigned page, unsigned address, const uint16_t *words, size_t count) {
+    if (!logodwen_begin_segment(to, room, LOGODWEN_DM, page, address, count)) return 0;
+    for (size_t i = 0; i < count; i++) logodwen_put(to, 2 + i, words[i]);
+    return logodwen_end_segment(to, LOGODWEN_DM, count);
+}
+
+static inline size_t logodwen_make_io(uint8_t *to, size_t room, const uint16_t *words, size_t count) {
+    if (!logodwen_begin_segment(to, room, LOGODWEN_IO, 0, 0, count)) return 0;
+    for (size_t i = 0; i < count; i++) logodwen_put(to, 2 + i, words[i]);
+    return logodwen_end_segment(to, LOGODWEN_IO, count);
+}
+
+/* A file that is being built. */
+struct logodwen_file {
+    uint8_t *bytes;
+    size_t room;  /* for words, at `bytes` */
+    size_t words; /* laid so far; 0 once something had no room or can't be in a file, and then it stays so */
+};
+
+/* Begins a file without segments. A type above 1, an attribute above 3 and a name above FF are none. */
+static inline void logodwen_file_begin(struct logodwen_file *file, uint8_t *bytes, size_t room, unsigned type, unsigned attribute,
+                                       unsigned name) {
+    struct logodwen_header header = {type, attribute, name, 0};
+    file->bytes = bytes;
+    file->room = room;
+    file->words = room >= 1 && type <= LOGODWEN_TYPE_DATA && attribute <= 3 && name <= 0xFFu ? 1 : 0;
+    if (file->words != 0) logodwen_put(bytes, 0, logodwen_header_word(&header));
+}
+
+/* Where the next segment goes, and how many words have room there; and a segment that was laid there, counted. For those below. */
+static inline uint8_t *logodwen_file_end(const struct logodwen_file *file) {
+    return file->words == 0 ? file->bytes : file->bytes + 2 * file->words;
+}
+static inline size_t logodwen_file_left(const struct logodwen_file *file) { return file->words == 0 ? 0 : file->room - file->words; }
+
+static inline bool logodwen_file_count(struct logodwen_file *file, size_t laid) {
+    if (laid == 0 || file->words == 0 || (file->bytes[0] & 15u) == LOGODWEN_SEGMENTS) {
+        file->words = 0;
+        return false;
+    }
+    file->bytes[0]++;
+    file->words += laid;
+    return true;
+}
+
+/* Add a segment, as those above lay it. Answers false where that can't be; the file then is none, and `words` 0. After the last one
+   the file is the first `words` words at `bytes`. */
+static inline bool logodwen_file_pm(struct logodwen_file *file, unsigned page, unsigned address, const uint32_t *words, size_t count) {
+    return logodwen_file_count(file, logodwen_make_pm(logodwen_file_end(file), logodwen_file_left(file), page, address, words, count));
+}
+
+static inline bool logodwen_file_dm(struct logodwen_file *file, unsigned page, unsigned address, const uint16_t *words, size_t count) {
+    return logodwen_file_count(file, logodwen_make_dm(logodwen_file_end(file), logodwen_file_left(file), page, address, words, count));
+}
+
+static inline bool logodwen_file_io(struct logodwen_file *file, const uint16_t *words, size_t count) {
+    return logodwen_file_count(file, logodwen_make_io(logodwen_file_end(file), logodwen_file_left(file), words, count));
+}
+
+/* ---- Requests. A builder lays a request, and answers how many words it has; 0 where a number is out of its range or there is no room,
+   and then it lays nothing; sent all the same, a request of no words is answered ABORT. Those without `room` lay three words at most:
+   LOGODWEN_COMMAND_BYTES. ---- */
+
+#define LOGODWEN_COMMAND_BYTES 6u
+
+/* The IDs of the node's own commands. */
+#define LOGODWEN_ID_STATUS 0x0Cu        /* answers twelve words: logodwen_read_status */
+#define LOGODWEN_ID_PING 0x0Du          /* answers the words that it has */
+#define LOGODWEN_ID_FILE_READ 0x05u     /* answers the file; END where there is none of that name, ABORT where it is bad */
+#define LOGODWEN_ID_FILE_WRITE 0x45u    /* stores a file in the lowest empty sector with room */
+#define LOGODWEN_ID_FILE_TEST 0x06u     /* answers the sector's status word: 8000 where it is bad */
+#define LOGODWEN_ID_FILE_LOAD 0x46u     /* stores a file's segments in the memories */
+#define LOGODWEN_ID_SUMMARY 0x07u       /* answers the directory: logodwen_read_entry */
+#define LOGODWEN_ID_ERASE_START 0x47u   /* begins to erase a sector; logodwen_erase goes on with it */
+#define LOGODWEN_ID_ATTRIBUTE_SET 0x48u /* makes a file default or plain */
+#define LOGODWEN_ID_PERFORM_IO 0x0Fu    /* runs the pairs of an IO segment, and answers it with what was read */
+#define LOGODWEN_ID_PM_READ 0x10u       /* answers a segment: logodwen_read_segment */
+#define LOGODWEN_ID_PM_WRITE 0x50u      /* stores a segment */
+#define LOGODWEN_ID_DM_READ 0x11u
+#define LOGODWEN_ID_DM_WRITE 0x51u
+#define LOGODWEN_ID_MODE_READ 0x12u     /* answers the mode, 0 to 3 */
+#define LOGODWEN_ID_MODE_WRITE 0x52u
+#define LOGODWEN_ID_MASK_READ 0x17u     /* answers 24 words, one a slave, bit i for mask i; not on a CDP */
+#define LOGODWEN_ID_MASK_WRITE 0x57u
+
+/* The first byte of a request says whom it is for. Any other is answered ERROR. */
+#define LOGODWEN_TO_OWN 0x2Eu    /* this node; the second byte is the ID of the command */
+#define LOGODWEN_TO_MASK 0x40u   /* the slaves of a mask; the second byte is its number */
+#define LOGODWEN_TO_SLAVES 0x23u /* the slaves of a mask in the next three bytes, slaves 7-0 first */
+#define LOGODWEN_TO_ALL 0x2Au    /* all slaves */
+#define LOGODWEN_PORT_ANY 0x3Fu  /* by either port; 04 and 05 name one */
+
+/* An own command: the ID, and up to two parameters. */
+static inline size_t logodwen_make_command(uint8_t *packet, unsigned id) {
+    logodwen_put(packet, 0, (uint16_t)((id & 0xFFu) << 8 | LOGODWEN_TO_OWN));
+    return 1;
+}
+
+static inline size_t logodwen_make_command_1(uint8_t *packet, unsigned id, unsigned parameter) {
+    logodwen_put(packet, 1, (uint16_t)parameter);
+    return logodwen_make_command(packet, id) + 1;
+}
+
+static inline size_t logodwen_make_command_2(uint8_t *packet, unsigned id, unsigned parameter, unsigned another) {
+    logodwen_put(packet, 2, (uint16_t)another);
+    return logodwen_make_command_1(packet, id, parameter) + 1;
+}
+
+/* A name as a parameter. Its low four bits don't count, but for Erase, to which 0 there says that it is a sector's address. */
+static inline unsigned logodwen_name_word(unsigned name) { return name << 4 | 1u; }
+
+static inline size_t logodwen_make_named(uint8_t *packet, unsigned id, unsigned name) {
+    return name > 0xFFu ? 0 : logodwen_make_command_1(packet, id, logodwen_name_word(name));
+}
+
+static inline size_t logodwen_make_status(uint8_t *packet) { return logodwen_make_command(packet, LOGODWEN_ID_STATUS); }
+static inline size_t logodwen_make_summary(uint8_t *packet) { return logodwen_make_command(packet, LOGODWEN_ID_SUMMARY); }
+static inline size_t logodwen_make_mode_read(uint8_t *packet) { return logodwen_make_command(packet, LOGODWEN_ID_MODE_READ); }
+static inline size_t logodwen_make_mask_read(uint8_t *packet) { return logodwen_make_command(packet, LOGODWEN_ID_MASK_READ); }
+
+/* Of a file by its name. */
+static inline size_t logodwen_make_file_read(uint8_t *packet, unsigned name) {
+    return logodwen_make_named(packet, LOGODWEN_ID_FILE_READ, name);
+}
+static inline size_t logodwen_make_file_test(uint8_t *packet, unsigned name) {
+    return logodwen_make_named(packet, LOGODWEN_ID_FILE_TEST, name);
+}
+static inline size_t logodwen_make_file_load(uint8_t *packet, unsigned name) {
+    return logodwen_make_named(packet, LOGODWEN_ID_FILE_LOAD, name);
+}
+static inline size_t logodwen_make_erase_start(uint8_t *packet, unsigned name) {
+    return logodwen_make_named(packet, LOGODWEN_ID_ERASE_START, name);
+}
+
+/* Of a sector, 3 to 10, whatever stands in it. */
+static inline size_t logodwen_make_erase_start_at(uint8_t *packet, unsigned sector) {
+    return !logodwen_is_sector(sector) ? 0 : logodwen_make_command_1(packet, LOGODWEN_ID_ERASE_START, logodwen_sector_address(sector));
+}
+
+static inline size_t logodwen_make_attribute_set(uint8_t *packet, unsigned name, bool is_default) {
+    return name > 0xFFu ? 0 : logodwen_make_command_2(packet, LOGODWEN_ID_ATTRIBUTE_SET, logodwen_name_word(name), is_default);
+}
+
+/* Mode bit 1 is compressed, bit 0 raw. */
+static inline size_t logodwen_make_mode_write(uint8_t *packet, unsigned mode) {
+    return mode > 3 ? 0 : logodwen_make_command_1(packet, LOGODWEN_ID_MODE_WRITE, mode);
+}
+
+/* Mask 0 to 15 with a set of slaves, bit s for slave s. */
+static inline size_t logodwen_make_mask_write(uint8_t *packet, unsigned mask, uint32_t slaves) {
+    if (mask >= LOGODWEN_MASKS || slaves >> LOGODWEN_SLAVES != 0) return 0;
+    return logodwen_make_command_2(packet, LOGODWEN_ID_MASK_WRITE, mask << 8 | slaves >> 16, slaves & 0xFFFFu);
+}
+
+/* A read of so many memory words from an address on: PM an odd count. */
+static inline size_t logodwen_make_read(uint8_t *packet, unsigned id, unsigned memory, unsigned page, unsigned address, size_t count) {
+    if (!logodwen_permits(memory, count) || logodwen_page_bits(page) == 1 || address > 0x3FFFu) return 0;
+    return logodwen_make_command_2(packet, id, memory << 14 | (unsigned)(count + 1), logodwen_page_bits(page) << 14 | address);
+}
+
+static inline size_t logodwen_make_pm_read(uint8_t *packet, unsigned page, unsigned address, size_t count) {
+    return logodwen_make_read(packet, LOGODWEN_ID_PM_READ, LOGODWEN_PM, page, address, count);
+}
+
+static inline size_t logodwen_make_dm_read(uint8_t *packet, unsigned page, unsigned address, size_t count) {
+    return logodwen_make_read(packet, LOGODWEN_ID_DM_READ, LOGODWEN_DM, page, address, count);
+}
+
+/* A command before words that are there already from word 1 on; of no words, no request. For those below. */
+static inline size_t logodwen_make_before(uint8_t *packet, unsigned id, size_t words) {
+    return words == 0 ? 0 : logodwen_make_command(packet, id) + words;
+}
+
+/* Memory words to write, as a segment: see logodwen_make_pm and its like. */
+static inline size_t logodwen_make_pm_write(uint8_t *packet, size_t room, unsigned page, unsigned address, const uint32_t *words,
+                                            size_t count) {
+    if (room == 0) return 0;
+    return logodwen_make_before(packet, LOGODWEN_ID_PM_WRITE, logodwen_make_pm(packet + 2, room - 1, page, address, words, count));
+}
+
+static inline size_t logodwen_make_dm_write(uint8_t *packet, size_t room, unsigned page, unsigned address, const uint16_t *words,
+                                            size_t count) {
+    if (room == 0) return 0;
+    return logodwen_make_before(packet, LOGODWEN_ID_DM_WRITE, logodwen_make_dm(packet + 2, room - 1, page, address, words, count));
+}
+
+static inline size_t logodwen_make_perform_io(uint8_t *packet, size_t room, const uint16_t *words, size_t count) {
+    if (room == 0) return 0;
+    return logodwen_make_before(packet, LOGODWEN_ID_PERFORM_IO, logodwen_make_io(packet + 2, room - 1, words, count));
+}
+
+/* A command with words in bytes behind it: a file to write, or words that Ping answers, at most 8,000. They may stand at packet + 2
+   already. */
+static inline size_t logodwen_make_with(uint8_t *packet, size_t room, unsigned id, const uint8_t *bytes, size_t words) {
+    if (room <= words) return 0;
+    if (words != 0) memmove(packet + 2, bytes, 2 * words);
+    return logodwen_make_command(packet, id) + words;
+}
+
+static inline size_t logodwen_make_file_write(uint8_t *packet, size_t room, const uint8_t *bytes, size_t words) {
+    return words == 0 || words >= LOGODWEN_REQUEST_WORDS ? 0 : logodwen_make_with(packet, room, LOGODWEN_ID_FILE_WRITE, bytes, words);
+}
+
+static inline size_t logodwen_make_ping(uint8_t *packet, size_t room, const uint8_t *bytes, size_t words) {
+    return words > 8000u ? 0 : logodwen_make_with(packet, room, LOGODWEN_ID_PING, bytes, words);
+}
+
+/* Whom a request is for that is sent on: these words stand before it. They answer 1, logodwen_make_to_slaves 2:
+
+       size_t words = logodwen_make_to_slaves(packet, 1u << 5 | 1u << 7);
+       words += logodwen_make_status(packet + 2 * words); */
+static inline size_t logodwen_make_to_slave(uint8_t *packet, unsigned slave) {
+    if (slave >= LOGODWEN_SLAVES) return 0;
+    logodwen_put(packet, 0, (uint16_t)(LOGODWEN_PORT_ANY << 8 | slave));
+    return 1;
+}
+
+static inline size_t logodwen_make_to_mask(uint8_t *packet, unsigned mask) {
+    if (mask >= LOGODWEN_MASKS) return 0;
+    logodwen_put(packet, 0, (uint16_t)(mask << 8 | LOGODWEN_TO_MASK));
+    return 1;
+}
+
+static inline size_t logodwen_make_to_slaves(uint8_t *packet, uint32_t slaves) {
+    if (slaves == 0 || slaves >> LOGODWEN_SLAVES != 0) return 0;
+    logodwen_put(packet, 0, (uint16_t)((slaves & 0xFFu) << 8 | LOGODWEN_TO_SLAVES));
+    logodwen_put(packet, 1, (uint16_t)(slaves >> 8));
+    return 2;
+}
+
+static inline size_t logodwen_make_to_all(uint8_t *packet) {
+    logodwen_put(packet, 0, (uint16_t)LOGODWEN_TO_ALL);
+    return 1;
+}
+
+/* ---- Replies. A reply that has words ends with two that are not data: its status word, and the FCS of all words before it. ---- */
+
+#define LOGODWEN_TAIL_WORDS 2u
+
+/* A node's own status word; the FCS is the word behind it. */
+#define LOGODWEN_STATUS_TESTS 0x0100u      /* a test at start had errors */
+#define LOGODWEN_STATUS_COMPRESSED 0x0080u /* mode bit 1 */
+#define LOGODWEN_STATUS_RAW 0x0040u        /* mode bit 0 */
+#define LOGODWEN_STATUS_OWN 0x0020u        /* one node's; clear in a group's */
+#define LOGODWEN_STATUS_ASSEMBLY 0x0200u   /* a group's: some slave's fragment is not whole */
+
+/* Whether a reply has its tail, and its FCS is right. */
+static inline bool logodwen_is_sealed(const uint8_t *reply, size_t words) {
+    return words >= LOGODWEN_TAIL_WORDS && logodwen_get(reply, words - 1) == logodwen_fcs(reply, words - 1);
+}
+
+/* What Status answers. */
+struct logodwen_status {
+    unsigned program_version, program_type, kind, subdetector, ports, subdetector_version;
+    uint32_t time;        /* since the start */
+    unsigned node_status; /* the word itself: bits 13 and 12 nonzero AMSWire and FLASH errors, 11-8 start tests, 1-0 the asking link */
+    unsigned start_tests; /* its bits 11-8, in their place */
+    unsigned link;        /* its bits 1-0 */
+    unsigned event_number, build_errors, amswire_errors, flash_errors;
+    unsigned reply_status;
+};
+
+/* Reads a reply to Status; false where it is not one or its FCS is wrong, and then leaves `status`. */
+static inline bool logodwen_read_status(const uint8_t *reply, size_t words, struct logodwen_status *status) {
+    if (words != 12 || !logodwen_is_sealed(reply, words)) return false;
+    unsigned attributes = logodwen_get(reply, 1);
+    status->program_version = logodwen_get(reply, 0);
+    status->program_type = attributes >> 12;
+    status->kind = attributes >> 8 & 15u;
+    status->subdetector = attributes >> 4 & 15u;
+    status->ports = attributes & 15u;
+    status->subdetector_version = logodwen_get(reply, 2);
+    status->time = logodwen_get(reply, 3) | (uint32_t)logodwen_get(reply, 4) << 16;
+    status->node_status = logodwen_get(reply, 5);
+    status->start_tests = status->node_status & 0x0F00u;
+    status->link = status->node_status & 3u;
+    status->event_number = logodwen_get(reply, 6);
+    status->build_errors = logodwen_get(reply, 7);
+    status->amswire_errors = logodwen_get(reply, 8);
+    status->flash_errors = logodwen_get(reply, 9);
+    status->reply_status = logodwen_get(reply, 10);
+    return true;
+}
+
+/* What a sector is. */
+#define LOGODWEN_SECTOR_EMPTY 0u
+#define LOGODWEN_SECTOR_GOOD 1u
+#define LOGODWEN_SECTOR_BAD 2u
+#define LOGODWEN_SECTOR_ERASING 3u
+
+/* What the directory says of a sector. */
+struct logodwen_entry {
+    unsigned sector, address;
+    unsigned first;  /* its first word: a file's header where there is one */
+    unsigned status; /* LOGODWEN_SECTOR_EMPTY, LOGODWEN_SECTOR_GOOD, LOGODWEN_SECTOR_BAD or LOGODWEN_SECTOR_ERASING */
+};
+
+/* Reads the entry of a sector, 3 to 10, in a reply to Summary; false where the reply is not one, its FCS is wrong or the sector is none,
+   and then leaves `entry`. */
+static inline bool logodwen_read_entry(const uint8_t *reply, size_t words, unsigned sector, struct logodwen_entry *entry) {
+    if (words != 4 * LOGODWEN_SECTORS + LOGODWEN_TAIL_WORDS || !logodwen_is_sector(sector)) return false;
+    if (!logodwen_is_sealed(reply, words)) return false;
+    size_t at = 4 * (size_t)(sector - LOGODWEN_SECTOR_FIRST);
+    unsigned status = logodwen_get(reply, at + 2);
+    entry->sector = sector;
+    entry->first = logodwen_get(reply, at);
+    entry->address = logodwen_get(reply, at + 1);
+    entry->status = status & 0x4000u          ? LOGODWEN_SECTOR_ERASING
+                    : status & 0x8000u        ? LOGODWEN_SECTOR_BAD
+                    : entry->first == 0xFFFFu ? LOGODWEN_SECTOR_EMPTY
+                                              : LOGODWEN_SECTOR_GOOD;
+    return true;
+}
+
+/* What became of a slave in a group: bits 15-11 of its fragment's status word, DAT worth 10 hex and then the code. */
+#define LOGODWEN_CODE_NEXT 0x01u      /* it answered NEXT */
+#define LOGODWEN_CODE_ABORT 0x02u     /* .. ABORT */
+#define LOGODWEN_CODE_ERROR 0x03u     /* .. ERROR */
+#define LOGODWEN_CODE_END 0x04u       /* .. END */
+#define LOGODWEN_CODE_LATE 0x05u      /* it had not answered within 60 ticks */
+#define LOGODWEN_CODE_ERRORS 0x06u    /* its answer came with receive errors */
+#define LOGODWEN_CODE_WHOLE 0x10u     /* its data are there */
+#define LOGODWEN_CODE_NOT_FIRST 0x11u /* its packet was not the first of a block (BC1 clear) */
+#define LOGODWEN_CODE_NO_ROOM 0x12u   /* its data had no room */
+#define LOGODWEN_CODE_ONE_WORD 0x13u  /* its reply had one word, so no tail */
+#define LOGODWEN_CODE_WRONG_FCS 0x15u
+#define LOGODWEN_CODE_NOT_LAST 0x19u  /* its packet was not the last of a block (BC 10) */
+
+/* A slave's fragment of a group's reply. What its code does not have is 0. */
+struct logodwen_fragment {
+    unsigned slave, code;
+    unsigned slave_status;     /* of WHOLE and NO_ROOM: bits 10-5 of the slave's own status word, in their place */
+    const uint8_t *data;       /* of WHOLE, in the reply; else NULL */
+    size_t data_words;
+    unsigned rx_status;        /* of ERRORS and of codes above WHOLE: what the receiver said */
+    unsigned rx_address;       /* of ERRORS */
+    unsigned reply_words;      /* of codes above WHOLE: the length of the slave's reply, FFFF if more, and its first word */
+    unsigned first_word;
+};
+
+/* Whether a fragment of that code has so many words between its length and its status word. */
+static inline bool logodwen_code_has(unsigned code, size_t words) {
+    switch (code) {
+    case LOGODWEN_CODE_NEXT:
+    case LOGODWEN_CODE_ABORT:
+    case LOGODWEN_CODE_ERROR:
+    case LOGODWEN_CODE_END:
+    case LOGODWEN_CODE_LATE: return words == 0;
+    case LOGODWEN_CODE_ERRORS: return words == 2;
+    case LOGODWEN_CODE_WHOLE: return true;
+    case LOGODWEN_CODE_NOT_FIRST:
+    case LOGODWEN_CODE_NO_ROOM:
+    case LOGODWEN_CODE_ONE_WORD:
+    case LOGODWEN_CODE_WRONG_FCS:
+    case LOGODWEN_CODE_NOT_LAST: return words == 3;
+    default: return false;
+    }
+}
+
+static inline const char *logodwen_code_text(unsigned code) {
+    switch (code) {
+    case LOGODWEN_CODE_NEXT: return "NEXT";
+    case LOGODWEN_CODE_ABORT: return "ABORT";
+    case LOGODWEN_CODE_ERROR: return "ERROR";
+    case LOGODWEN_CODE_END: return "END";
+    case LOGODWEN_CODE_LATE: return "late";
+    case LOGODWEN_CODE_ERRORS: return "receive errors";
+    case LOGODWEN_CODE_WHOLE: return "DATA";
+    case LOGODWEN_CODE_NOT_FIRST: return "not the first packet";
+    case LOGODWEN_CODE_NO_ROOM: return "no room";
+    case LOGODWEN_CODE_ONE_WORD: return "one word";
+    case LOGODWEN_CODE_WRONG_FCS: return "wrong FCS";
+    case LOGODWEN_CODE_NOT_LAST: return "not the last packet";
+    default: return "no code";
+    }
+}
+
+/* Reads the fragment at a place of a group's reply: answers the place past it, or 0 where none stands there that a node could have laid,
+   and then leaves `fragment`. The walk over a reply, whose FCS is to be looked at first (logodwen_is_sealed):
+
+       for (size_t at = 0; at + LOGODWEN_TAIL_WORDS < words; ) {
+           at = logodwen_read_fragment(reply, words, at, &fragment);
+           if (at == 0) break; // no group's reply
+           ..
+       } */
+static inline size_t logodwen_read_fragment(const uint8_t *reply, size_t words, size_t at, struct logodwen_fragment *fragment) {
+    if (words < LOGODWEN_TAIL_WORDS + 2 || at > words - LOGODWEN_TAIL_WORDS - 2) return 0;
+    size_t length = logodwen_get(reply, at), left = words - LOGODWEN_TAIL_WORDS - at - 1;
+    if (length == 0 || length > left) return 0;
+    unsigned status = logodwen_get(reply, at + length);
+    struct logodwen_fragment found = {status & 31u, status >> 11, status & 0x07E0u, NULL, 0, 0, 0, 0, 0};
+    if (found.slave >= LOGODWEN_SLAVES || !logodwen_code_has(found.code, length - 1)) return 0;
+    if (found.slave_status != 0 && found.code != LOGODWEN_CODE_WHOLE && found.code != LOGODWEN_CODE_NO_ROOM) return 0;
+    if (found.code == LOGODWEN_CODE_WHOLE) {
+        found.data = reply + 2 * at + 2;
+        found.data_words = length - 1;
+    } else if (found.code == LOGODWEN_CODE_ERRORS) {
+        found.rx_status = logodwen_get(reply, at + 1);
+        found.rx_address = logodwen_get(reply, at + 2);
+    } else if (found.code > LOGODWEN_CODE_WHOLE) {
+        found.rx_status = logodwen_get(reply, at + 1);
+        found.reply_words = logodwen_get(reply, at + 2);
+        found.first_word = logodwen_get(reply, at + 3);
+    }
+    *fragment = found;
+    return at + 1 + length;
+}
+
+/* ---- The state bytes, low byte first, for a host that wants to look into them, keep them or send them. What a case does not use is 0, and
+   bytes that are not as told here are refused by 5. Their form belongs to LOGODWEN_VERSION. ---- */
 #define LOGODWEN_AT_KIND 0u                 /* 1 byte: 1 or 2 */
 #define LOGODWEN_AT_PORTS 1u                /* 1: 1 to 4 */
 #define LOGODWEN_AT_SUBDETECTOR 2u          /* 1: 0 to 7 */

@@ -3,9 +3,6 @@
 
 #include <string.h>
 
-enum { FILE_READ = 0x05, FILE_WRITE = 0x45, FLASH_SUMMARY = 0x07, ERASE = 0x47 }; /* request IDs */
-enum { BLANK = 0xFFFF, BAD = 0x8000, ERASING = 0x4000 };
-
 void node_blank(struct node *node) { memset(node->flash, 0xFF, sizeof node->flash); }
 
 uint32_t node_start(struct node *node) {
@@ -18,33 +15,21 @@ static uint64_t request(struct node *node, const uint8_t *packet, size_t words) 
                             sizeof node->flash, NULL, 0, NULL, 0, NULL, 0, node->reply, sizeof node->reply);
 }
 
-/* An own command: 2E, then the ID. */
-static void put_command(uint8_t *packet, unsigned id) { logodwen_put(packet, 0, (uint16_t)(id << 8 | 0x2Eu)); }
-
-/* A command with one parameter. */
-static uint64_t command(struct node *node, unsigned id, unsigned parameter) {
-    uint8_t packet[4];
-    put_command(packet, id);
-    logodwen_put(packet, 1, (uint16_t)parameter);
-    return request(node, packet, 2);
-}
-
 uint64_t node_write(struct node *node, const uint8_t *words, size_t count) {
     static uint8_t packet[2 + IMAGE_BYTES];
-    put_command(packet, FILE_WRITE);
-    memcpy(packet + 2, words, 2 * count);
-    return request(node, packet, 1 + count);
+    return request(node, packet, logodwen_make_with(packet, sizeof packet / 2, LOGODWEN_ID_FILE_WRITE, words, count)); /* of any length */
 }
 
-/* A name as a parameter; the low four bits, not zero, tell Erase that it is one. */
-static unsigned parameter_of_name(unsigned name) { return name << 4 | 1u; }
-
-uint64_t node_read(struct node *node, unsigned name) { return command(node, FILE_READ, parameter_of_name(name)); }
-
-static unsigned sector_address(unsigned sector) { return sector == SECTOR_FIRST ? 0x0200u : 0x0400u * (sector - SECTOR_FIRST); }
+uint64_t node_read(struct node *node, unsigned name) {
+    uint8_t packet[LOGODWEN_COMMAND_BYTES];
+    return request(node, packet, logodwen_make_file_read(packet, name));
+}
 
 uint64_t node_erase(struct node *node, struct erasure erasure) {
-    return command(node, ERASE, erasure.is_sector ? sector_address(erasure.which) : parameter_of_name(erasure.which));
+    uint8_t packet[LOGODWEN_COMMAND_BYTES];
+    return request(node, packet,
+                   erasure.is_sector ? logodwen_make_erase_start_at(packet, erasure.which)
+                                     : logodwen_make_erase_start(packet, erasure.which));
 }
 
 uint32_t node_erase_on(struct node *node) {
@@ -59,13 +44,14 @@ uint32_t node_erase_on(struct node *node) {
 }
 
 bool node_directory(struct node *node, struct entry *directory) {
-    uint8_t packet[2];
-    put_command(packet, FLASH_SUMMARY);
-    uint64_t answered = request(node, packet, 1);
-    if (logodwen_answer(answered) != LOGODWEN_REPLY || logodwen_words(answered) != 4 * SECTORS + 2)
-        return false;
-    for (size_t i = 0; i < SECTORS; i++)
-        directory[i] = (struct entry){logodwen_get(node->reply, 4 * i), logodwen_get(node->reply, 4 * i + 2)};
+    uint8_t packet[LOGODWEN_COMMAND_BYTES];
+    uint64_t answered = request(node, packet, logodwen_make_summary(packet));
+    for (unsigned sector = SECTOR_FIRST; sector <= SECTOR_LAST; sector++) {
+        struct logodwen_entry entry;
+        if (!logodwen_read_entry(node->reply, logodwen_words(answered), sector, &entry))
+            return false;
+        directory[sector - SECTOR_FIRST] = (struct entry){entry.first, entry.status};
+    }
     return true;
 }
 
@@ -76,19 +62,15 @@ void node_answer_text(uint64_t answered, char *text) {
         say(text, "%s", logodwen_reply_text(answered));
 }
 
-bool entry_is_empty(struct entry entry) { return entry.first == BLANK && entry.status == 0; }
+bool entry_is_empty(struct entry entry) { return entry.status == LOGODWEN_SECTOR_EMPTY; }
 
-bool entry_is_bad(struct entry entry) { return (entry.status & BAD) != 0; }
+bool entry_is_bad(struct entry entry) { return entry.status == LOGODWEN_SECTOR_BAD; }
 
-bool entry_is_erasing(struct entry entry) { return (entry.status & ERASING) != 0; }
+bool entry_is_erasing(struct entry entry) { return entry.status == LOGODWEN_SECTOR_ERASING; }
 
-/* With U a sixteenth of the flash, sector 3 has U words from word U on, sectors 4 to 10 have 2U each. */
-size_t sector_words(unsigned sector) { return sector == SECTOR_FIRST ? LOGODWEN_FLASH_WORDS / 16 : LOGODWEN_FLASH_WORDS / 8; }
+size_t sector_words(unsigned sector) { return logodwen_sector_words(sector); }
 
-const uint8_t *sector_begin(const struct node *node, unsigned sector) {
-    size_t word = sector == SECTOR_FIRST ? LOGODWEN_FLASH_WORDS / 16 : LOGODWEN_FLASH_WORDS / 8 * (sector - SECTOR_FIRST);
-    return node->flash + 2 * word;
-}
+const uint8_t *sector_begin(const struct node *node, unsigned sector) { return node->flash + 2 * logodwen_sector_start(sector); }
 
 unsigned directory_named(const struct entry *directory, unsigned name) {
     for (unsigned sector = SECTOR_FIRST; sector <= SECTOR_LAST; sector++) {

@@ -180,18 +180,18 @@ static void test_start_refusals(void) {
                                           {1, 257, 0}, {1, 1, 8}, {2, 4, 256}, {0x10002, 4, 0}};
     lay_out(0);
     for (size_t i = 0; i < sizeof numbers / sizeof *numbers; i++)
-        CHECK(START(numbers[i][0], numbers[i][1], numbers[i][2]) == LOGODWEN_BAD_NUMBER);
+        CHECK(START(numbers[i][0], numbers[i][1], numbers[i][2]) == LOGODWEN_REFUSED_NUMBER);
     lengths[STATE] = LOGODWEN_STATE_BYTES + 1;
-    CHECK(START(1, 1, 0) == LOGODWEN_BAD_STATE);
-    CHECK(START(0, 1, 0) == LOGODWEN_BAD_NUMBER);
+    CHECK(START(1, 1, 0) == LOGODWEN_REFUSED_STATE);
+    CHECK(START(0, 1, 0) == LOGODWEN_REFUSED_NUMBER);
     lengths[STATE] = LOGODWEN_STATE_BYTES - 1;
-    CHECK(START(1, 1, 0) == LOGODWEN_BAD_STATE);
+    CHECK(START(1, 1, 0) == LOGODWEN_REFUSED_STATE);
     lengths[STATE] = 0;
-    CHECK(START(1, 1, 0) == LOGODWEN_BAD_STATE);
+    CHECK(START(1, 1, 0) == LOGODWEN_REFUSED_STATE);
     static const size_t flashes[] = {0, 1, 2, LOGODWEN_FLASH_BYTES - 1, LOGODWEN_FLASH_BYTES - 2, LOGODWEN_FLASH_BYTES + 2};
     for (size_t i = 0; i < sizeof flashes / sizeof *flashes; i++) {
         lengths[FLASH] = flashes[i];
-        CHECK(START(0, 0, 9) == LOGODWEN_BAD_FLASH);
+        CHECK(START(0, 0, 9) == LOGODWEN_REFUSED_FLASH_SIZE);
     }
 }
 
@@ -246,24 +246,24 @@ static void test_each_refusal(void) {
     static const uint32_t links[] = {2, 3, 255, 256, 0x10000, 0xFFFFFFFF}, slaves[] = {24, 255, 256 + 5, 0x10005, 0xFFFFFFFF};
     lend_with(0x20);
     for (size_t i = 0; i < sizeof links / sizeof *links; i++)
-        CHECK(REQUEST(1000, links[i], LOGODWEN_BC_WHOLE, 0) == LOGODWEN_BAD_NUMBER);
+        CHECK(REQUEST(1000, links[i], LOGODWEN_BC_WHOLE, 0) == LOGODWEN_REFUSED_NUMBER);
     for (size_t i = 0; i < sizeof slaves / sizeof *slaves; i++)
-        CHECK(SLAVE_REPLY(1000, slaves[i], LOGODWEN_BC_END, 0) == LOGODWEN_BAD_NUMBER);
-    CHECK(SLAVE_REPLY(1000, 6, LOGODWEN_BC_END, 0) == LOGODWEN_NOT_ASKED);
-    CHECK(REQUEST(1000, 0, LOGODWEN_BC_WHOLE, 1) == LOGODWEN_PENDING);
+        CHECK(SLAVE_REPLY(1000, slaves[i], LOGODWEN_BC_END, 0) == LOGODWEN_REFUSED_NUMBER);
+    CHECK(SLAVE_REPLY(1000, 6, LOGODWEN_BC_END, 0) == LOGODWEN_REFUSED_UNASKED);
+    CHECK(REQUEST(1000, 0, LOGODWEN_BC_WHOLE, 1) == LOGODWEN_REFUSED_BUSY);
     lend_with(0);
     lengths[DM] = LOGODWEN_DM_BYTES + 2;
-    CHECK(REQUEST(1000, 0, LOGODWEN_BC_WHOLE, 0) == LOGODWEN_BAD_MEMORY);
+    CHECK(REQUEST(1000, 0, LOGODWEN_BC_WHOLE, 0) == LOGODWEN_REFUSED_MEMORY_SIZE);
     lengths[DM] = 0;
     lengths[IO] = LOGODWEN_IO_BYTES + 2;
-    CHECK(REQUEST(1000, 0, LOGODWEN_BC_WHOLE, 0) == LOGODWEN_BAD_MEMORY);
+    CHECK(REQUEST(1000, 0, LOGODWEN_BC_WHOLE, 0) == LOGODWEN_REFUSED_MEMORY_SIZE);
     lengths[IO] = LOGODWEN_IO_BYTES + 1;
     lengths[DM] = LOGODWEN_DM_BYTES + 1;
     lengths[PM] = LOGODWEN_PM_BYTES + 3;
     CHECK(REQUEST(1000, 0, LOGODWEN_BC_WHOLE, 0) == with_words(3));
     memset(runs[STATE], 0, LOGODWEN_STATE_BYTES); /* zero is no node's state */
-    CHECK(REQUEST(1000, 0, LOGODWEN_BC_WHOLE, 0) == LOGODWEN_BAD_FLASH);
-    CHECK(ERASE(1) == LOGODWEN_BAD_FLASH && POLL(0) == LOGODWEN_BAD_STATE && SLAVE_REPLY(0, 0, 3, 0) == LOGODWEN_BAD_STATE);
+    CHECK(REQUEST(1000, 0, LOGODWEN_BC_WHOLE, 0) == LOGODWEN_REFUSED_FLASH_SIZE);
+    CHECK(ERASE(1) == LOGODWEN_REFUSED_FLASH_SIZE && POLL(0) == LOGODWEN_REFUSED_STATE && SLAVE_REPLY(0, 0, 3, 0) == LOGODWEN_REFUSED_STATE);
 }
 
 /* Of another length than 172 bytes, the state's part of 1 and 4 is left out. */
@@ -271,16 +271,16 @@ static void test_state_length(void) {
     for (size_t length = LOGODWEN_STATE_BYTES - 2; length <= LOGODWEN_STATE_BYTES + 2; length++) {
         lend_with(0);
         lengths[STATE] = length;
-        unsigned expected = length == LOGODWEN_STATE_BYTES ? 0 : LOGODWEN_BAD_STATE;
+        unsigned expected = length == LOGODWEN_STATE_BYTES ? 0 : LOGODWEN_REFUSED_STATE;
         CHECK(logodwen_refusal(REQUEST(1000, 1, LOGODWEN_BC_WHOLE, 0)) == expected);
         CHECK(logodwen_refusal(ERASE(1)) == expected);
         if (expected == 0)
             continue;
-        CHECK(REQUEST(1000, 0xFFFFFFFF, LOGODWEN_BC_WHOLE, 0) == LOGODWEN_BAD_STATE);
-        CHECK(POLL(1000) == LOGODWEN_BAD_STATE && SLAVE_REPLY(1000, 5, 3, 0) == LOGODWEN_BAD_STATE);
-        CHECK(SLAVE_REPLY(1000, 24, 3, 0) == LOGODWEN_BAD_NUMBER);
+        CHECK(REQUEST(1000, 0xFFFFFFFF, LOGODWEN_BC_WHOLE, 0) == LOGODWEN_REFUSED_STATE);
+        CHECK(POLL(1000) == LOGODWEN_REFUSED_STATE && SLAVE_REPLY(1000, 5, 3, 0) == LOGODWEN_REFUSED_STATE);
+        CHECK(SLAVE_REPLY(1000, 24, 3, 0) == LOGODWEN_REFUSED_NUMBER);
         lengths[FLASH] = 0;
-        CHECK(ERASE(1) == LOGODWEN_BAD_FLASH);
+        CHECK(ERASE(1) == LOGODWEN_REFUSED_FLASH_SIZE);
     }
 }
 
@@ -290,14 +290,14 @@ static void test_state_bytes(void) {
     static const uint8_t unused[] = {24, 25, 26, 27, 28, 29, 30, 31, 32, 33, 34, 35, 36, 37, 38, 39, 40, 41, 42, 43};
     for (size_t i = 0; i < sizeof unused; i++) {
         runs[STATE][unused[i]] = 1;
-        CHECK(REQUEST(1000, 0, LOGODWEN_BC_WHOLE, 0) == LOGODWEN_BAD_STATE && ERASE(1) == LOGODWEN_BAD_STATE);
+        CHECK(REQUEST(1000, 0, LOGODWEN_BC_WHOLE, 0) == LOGODWEN_REFUSED_STATE && ERASE(1) == LOGODWEN_REFUSED_STATE);
         runs[STATE][unused[i]] = 0;
     }
     static const uint8_t wrong[][2] = {{0, 3}, {1, 5}, {2, 8}, {3, 4}, {14, 2}, {14, 11}, {15, 3}, {47, 1}, {107, 255}};
     for (size_t i = 0; i < sizeof wrong / sizeof *wrong; i++) {
         uint8_t before = runs[STATE][wrong[i][0]];
         runs[STATE][wrong[i][0]] = wrong[i][1];
-        CHECK(ERASE(1) == LOGODWEN_BAD_STATE && POLL(0) == LOGODWEN_BAD_STATE);
+        CHECK(ERASE(1) == LOGODWEN_REFUSED_STATE && POLL(0) == LOGODWEN_REFUSED_STATE);
         runs[STATE][wrong[i][0]] = before;
     }
     runs[STATE][LOGODWEN_AT_START_TESTS] = 0xFF;
@@ -338,12 +338,12 @@ static void test_null(void) {
     lengths[PACKET] = 0;
     CHECK(REQUEST(1000, 0, LOGODWEN_BC_WHOLE, 0) == zero_length(LOGODWEN_BC_ABORT));
     lengths[REPLY] = 0;
-    CHECK(REQUEST(1000, 0, LOGODWEN_BC_WHOLE, 0) == LOGODWEN_SHORT_REPLY && POLL(0) == LOGODWEN_SHORT_REPLY);
-    CHECK(SLAVE_REPLY(0, 0, 0, 0) == LOGODWEN_SHORT_REPLY);
+    CHECK(REQUEST(1000, 0, LOGODWEN_BC_WHOLE, 0) == LOGODWEN_REFUSED_REPLY_SIZE && POLL(0) == LOGODWEN_REFUSED_REPLY_SIZE);
+    CHECK(SLAVE_REPLY(0, 0, 0, 0) == LOGODWEN_REFUSED_REPLY_SIZE);
     lengths[FLASH] = 0;
-    CHECK(REQUEST(1000, 0, LOGODWEN_BC_WHOLE, 0) == LOGODWEN_BAD_FLASH && ERASE(1) == LOGODWEN_BAD_FLASH);
+    CHECK(REQUEST(1000, 0, LOGODWEN_BC_WHOLE, 0) == LOGODWEN_REFUSED_FLASH_SIZE && ERASE(1) == LOGODWEN_REFUSED_FLASH_SIZE);
     lengths[STATE] = 0;
-    CHECK(REQUEST(1000, 0, LOGODWEN_BC_WHOLE, 0) == LOGODWEN_BAD_FLASH);
+    CHECK(REQUEST(1000, 0, LOGODWEN_BC_WHOLE, 0) == LOGODWEN_REFUSED_FLASH_SIZE);
 }
 
 /* Write and read back with every run at every shift from an aligned place. */
@@ -386,13 +386,13 @@ static void test_group(void) {
     for (size_t i = 0; i < 9; i++)
         CHECK(reply_word(i) == words[i]);
     CHECK(reply_word(9) == logodwen_fcs(runs[REPLY], 9));
-    CHECK(POLL(0x36) == LOGODWEN_NOT_ASKED);
+    CHECK(POLL(0x36) == LOGODWEN_REFUSED_UNASKED);
 }
 
 static void test_slave_length(void) {
     lend_with(0x20);
     lengths[PACKET] = LOGODWEN_SLAVE_REPLY_BYTES + 3;
-    CHECK(SLAVE_REPLY(1000, 5, LOGODWEN_BC_WHOLE, 0) == LOGODWEN_BAD_MEMORY);
+    CHECK(SLAVE_REPLY(1000, 5, LOGODWEN_BC_WHOLE, 0) == LOGODWEN_REFUSED_MEMORY_SIZE);
     lengths[PACKET] = LOGODWEN_SLAVE_REPLY_BYTES + 1;
     CHECK(SLAVE_REPLY(1000, 5, LOGODWEN_BC_WHOLE, 0) == zero_length(LOGODWEN_BC_ABORT));
     lend_with(0x20);
@@ -413,8 +413,13 @@ static void test_texts(void) {
         CHECK((unsigned)(logodwen_refusal_text(refusal)[0] - '0') == refusal);
     CHECK(strcmp(logodwen_refusal_text(0), "done") == 0 && strcmp(logodwen_refusal_text(8), "not a refusal") == 0);
     CHECK(logodwen_slave(ask(23, 2)) == 23 && logodwen_from(ask(23, 2)) == 2 && logodwen_answer(ask(23, 2)) == LOGODWEN_ASK);
+    CHECK(logodwen_bc(ask(2, 1)) == LOGODWEN_NONE && logodwen_words(ask(2, 1)) == 0);
+    CHECK(logodwen_slave(zero_length(2)) == LOGODWEN_NONE && logodwen_from(with_words(3)) == LOGODWEN_NONE);
+    for (uint64_t other = 0; other < 8; other++) /* refused, waiting, words set */
+        CHECK(logodwen_bc(other) == LOGODWEN_NONE && logodwen_slave((uint64_t)LOGODWEN_WAITING << 8) == LOGODWEN_NONE
+              && logodwen_from(other << 32) == LOGODWEN_NONE);
     static const uint8_t text[8] = {0x32, 0x31, 0x34, 0x33, 0x36, 0x35, 0x38, 0x37};
-    CHECK(logodwen_fcs(text, 4) == 0xA12B && logodwen_fcs(NULL, 0) == 0xFFFF);
+    CHECK(logodwen_fcs(text, 4) == 0xA12B && logodwen_fcs(NULL, 0) == 0xFFFF && logodwen1_fcs(text, 7) == logodwen_fcs(text, 3));
 }
 
 int main(void) {

@@ -500,7 +500,7 @@ static void step(void) {
     if (one_in(4))
         now += below(3);
     unsigned erasing = model[STATE_RUN][LOGODWEN_AT_ERASING];
-    if (logodwen_refusal(answered) == LOGODWEN_BAD_STATE && one_in(3))
+    if (logodwen_refusal(answered) == LOGODWEN_REFUSED_STATE && one_in(3))
         step_start();
     else if (pending() != 0 && below(10) < 8)
         one_in(12) ? step_all_alike() : step_slave();

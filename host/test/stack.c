@@ -11,105 +11,77 @@
 
 enum { STACK = 4 << 20, PAINT = 0xC5 };
 
-static uint8_t state[LOGODWEN_STATE_BYTES], flash[LOGODWEN_FLASH_BYTES], pm[LOGODWEN_PM_BYTES], dm[LOGODWEN_DM_BYTES],
-    io[LOGODWEN_IO_BYTES], reply[LOGODWEN_REPLY_BYTES], packet[LOGODWEN_SLAVE_REPLY_BYTES];
-static size_t packet_words;
-
-static void word(unsigned value) { logodwen_put(packet, packet_words++, (uint16_t)value); }
-
-static uint64_t request(void) {
-    return logodwen_request(0, 0, LOGODWEN_BC_WHOLE, 0, packet, 2 * packet_words, state, sizeof state, flash, sizeof flash, pm,
-                            sizeof pm, dm, sizeof dm, io, sizeof io, reply, sizeof reply);
-}
+static uint8_t pm[LOGODWEN_PM_BYTES], dm[LOGODWEN_DM_BYTES], io[LOGODWEN_IO_BYTES], packet[LOGODWEN_SLAVE_REPLY_BYTES];
+static struct logodwen_node node = {.pm = pm, .dm = dm, .io = io, .pm_len = sizeof pm, .dm_len = sizeof dm, .io_len = sizeof io};
+static void request(size_t words) { logodwen_node_send(&node, 0, 0, packet, words); }
 
 /* The work of each entry. */
 
-static void starts(void) { logodwen_start(LOGODWEN_CDDC, 1, 0, 0, 0, 0, 0, flash, sizeof flash, state, sizeof state); }
-
-static void segment(unsigned bits, unsigned length) {
-    size_t body = packet_words + 2, size = bits == 0 ? length / 2 * 3 : length;
-    word(bits << 14 | length);
-    word(bits == 1 ? 0x2000 : 0);
-    for (size_t i = 1; i < size; i++)
-        word(0);
-    word(logodwen_fcs(packet + 2 * body, size - 1));
+static void starts(void) {
+    static const struct logodwen_given given = {LOGODWEN_CDDC, 1, 0, 0, 0, 0, 0};
+    logodwen_node_start(&node, &given);
 }
 
-static void command(unsigned id) {
-    packet_words = 0;
-    word(id << 8 | 0x2E);
+static void group_request(void) {
+    size_t words = logodwen_make_to_all(packet);
+    request(words + logodwen_make_status(packet + 2 * words));
 }
 
 static void requests(void) {
-    static const unsigned with_name[] = {0x05, 0x06, 0x46, 0x48, 0x47}, alone[] = {0x0C, 0x0D, 0x07, 0x12, 0x17};
-    command(0x45);
-    word(0x3013);
-    segment(0, 100);
-    segment(1, 100);
-    segment(2, 101);
-    request();
-    for (size_t i = 0; i < sizeof alone / sizeof *alone; i++) {
-        command(alone[i]);
-        request();
-    }
-    command(0x0D);
-    for (unsigned i = 0; i < 8000; i++)
-        word(i);
-    request();
-    static const unsigned written[] = {0x50, 0x51, 0x0F};
-    for (unsigned bits = 0; bits < 3; bits++) {
-        command(written[bits]);
-        segment(bits, 100 + bits / 2);
-        request();
-    }
-    for (unsigned bits = 0; bits < 2; bits++) {
-        command(0x10 + bits);
-        word(bits << 14 | 1000);
-        word(bits << 13);
-        request();
-    }
-    command(0x57);
-    word(0x00FF);
-    word(0xFFFF);
-    request();
-    command(0x52);
-    word(1);
-    request();
-    for (size_t i = 0; i < sizeof with_name / sizeof *with_name; i++) {
-        command(with_name[i]);
-        word(0x3011);
-        if (with_name[i] == 0x48)
-            word(1);
-        request();
-    }
-    packet_words = 0;
-    word(0x002A);
-    word(0x0C2E);
-    request();
+    enum { NAME = 1, ROOM = LOGODWEN_REQUEST_WORDS };
+    static const uint32_t code[99];
+    static const uint16_t data[100];
+    static uint8_t image[2 * ROOM];
+    struct logodwen_file file;
+    logodwen_file_begin(&file, image, ROOM, LOGODWEN_TYPE_PROGRAM, LOGODWEN_ATTRIBUTE_PLAIN, NAME);
+    logodwen_file_pm(&file, 0, 0, code, 99);
+    logodwen_file_dm(&file, 0, 0x2000, data, 99);
+    logodwen_file_io(&file, data, 100);
+    request(logodwen_make_file_write(packet, ROOM, image, file.words));
+    request(logodwen_make_status(packet));
+    request(logodwen_make_summary(packet));
+    request(logodwen_make_mode_read(packet));
+    request(logodwen_make_mask_read(packet));
+    request(logodwen_make_ping(packet, ROOM, NULL, 0));
+    request(logodwen_make_ping(packet, ROOM, image, 8000));
+    request(logodwen_make_pm_write(packet, ROOM, 0, 0, code, 99));
+    request(logodwen_make_dm_write(packet, ROOM, 0, 0x2000, data, 99));
+    request(logodwen_make_perform_io(packet, ROOM, data, 100));
+    request(logodwen_make_pm_read(packet, 0, 0, 999));
+    request(logodwen_make_dm_read(packet, 0, 0x2000, 999));
+    request(logodwen_make_mask_write(packet, 0, 0xFFFFFF));
+    request(logodwen_make_mode_write(packet, 1));
+    request(logodwen_make_file_read(packet, NAME));
+    request(logodwen_make_file_test(packet, NAME));
+    request(logodwen_make_file_load(packet, NAME));
+    request(logodwen_make_attribute_set(packet, NAME, true));
+    request(logodwen_make_erase_start(packet, NAME));
+    group_request();
 }
 
 /* All replies of the group that was asked last. */
 static void replies(void) {
     for (unsigned slave = 0; slave < LOGODWEN_SLAVES; slave++) {
-        packet_words = 0;
-        for (unsigned i = 0; i < (slave == 0 ? 12280 : slave == 1 ? 32767 : 3); i++)
-            word(i);
-        word(logodwen_fcs(packet, packet_words));
-        logodwen_reply(0, slave, slave % 4 == 3 ? 2 : 3, slave == 5, 0, 0, packet, 2 * packet_words, state, sizeof state, reply,
-                       sizeof reply);
+        size_t words = slave == 0 ? 12280 : slave == 1 ? 32767 : 3;
+        for (size_t i = 0; i < words; i++)
+            logodwen_put(packet, i, (uint16_t)i);
+        logodwen_put(packet, words, logodwen_fcs(packet, words));
+        logodwen_node_reply(&node, 0, slave, slave % 4 == 3 ? 2 : 3, slave == 5, 0, 0, packet, words + 1);
     }
 }
 
 static void polls(void) {
-    logodwen_poll(0, state, sizeof state, reply, sizeof reply);
+    logodwen_node_poll(&node, 0);
     for (uint32_t now = 0; now < 60 * 25; now += 60)
-        logodwen_poll(now, state, sizeof state, reply, sizeof reply);
+        logodwen_node_poll(&node, now);
 }
 
 static void erases(void) {
-    logodwen_erase(100, state, sizeof state, flash, sizeof flash);
-    logodwen_erase(UINT64_MAX, state, sizeof state, flash, sizeof flash);
+    logodwen_node_erase(&node, 100);
+    logodwen_node_erase(&node, UINT64_MAX);
 }
+
+static void sequences(void) { logodwen_put(packet, 0, logodwen_fcs(packet, 1000)); }
 
 /* Measuring. */
 
@@ -148,15 +120,13 @@ static int measure(const char *entry, void (*of)(void), size_t stated) {
 }
 
 int main(void) {
-    memset(flash, 0xFF, sizeof flash);
+    logodwen_node_blank(&node);
     int wrong = measure("start", starts, LOGODWEN_STACK_START);
     wrong += measure("request", requests, LOGODWEN_STACK_REQUEST);
     wrong += measure("reply", replies, LOGODWEN_STACK_REPLY);
-    packet_words = 0;
-    word(0x002A);
-    word(0x0C2E);
-    request();
+    group_request();
     wrong += measure("poll", polls, LOGODWEN_STACK_POLL);
     wrong += measure("erase", erases, LOGODWEN_STACK_ERASE);
+    wrong += measure("fcs", sequences, LOGODWEN_STACK_FCS);
     return wrong == 0 ? 0 : 1;
 }

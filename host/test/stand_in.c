@@ -66,7 +66,7 @@ uint64_t logodwen1_reply(uint32_t now, uint32_t slave, uint32_t bc, uint32_t rec
                          size_t reply_len) {
     uint64_t answered =
         model_reply(now, slave, bc, receive_error, rx_status, rx_address, packet, packet_len, state, state_len, reply, reply_len);
-    if (FAULT == REFUSED_YET_CHANGED && logodwen_refusal(answered) == LOGODWEN_NOT_ASKED)
+    if (FAULT == REFUSED_YET_CHANGED && logodwen_refusal(answered) == LOGODWEN_REFUSED_UNASKED)
         state[LOGODWEN_AT_AMSWIRE_ERRORS] ^= 1;
     if (FAULT == TALLY_FORGOTTEN && logodwen_answer(answered) == LOGODWEN_ASK)
         state[LOGODWEN_AT_TALLY] = 6;
@@ -88,3 +88,5 @@ uint64_t logodwen1_erase(uint64_t budget, uint8_t *state, size_t state_len, uint
         memcpy(state + LOGODWEN_AT_DIRECTORY, before, sizeof before);
     return answered;
 }
+
+uint16_t logodwen1_fcs(const uint8_t *bytes, size_t len) { return model_fcs(bytes, len / 2); }

@@ -1,6 +1,6 @@
 -- The entries are settled: each contract gives the number and what is left in every run as one value, and two results equal to one value
 -- are equal. Assumes nothing.
-use mathlib.Core.Path.{sym, ap, _∙_}
+use mathlib.Core.Path.{refl, sym, ap, _∙_}
 use Rattle.logodwen.specs.Entry.{Answered}
 use Rattle.border.specs.Settled.{EntriesSettled, LinesSettled}
 
@@ -11,6 +11,7 @@ entries-settled =
       request = λ κs given x y v w p q. (ap (λ (a : Answered). a .number) (p ∙ sym q), λ i. (v .0, (v .1 .0, (v .1 .1 .0, (v .1 .1 .1 .0, (v .1 .1 .1 .1 .0, ((p ∙ sym q) i .state, ((p ∙ sym q) i .runs .flash, ((p ∙ sym q) i .runs .memories .pm, ((p ∙ sym q) i .runs .memories .dm, ((p ∙ sym q) i .runs .memories .io, ((p ∙ sym q) i .runs .reply, v .1 .1 .1 .1 .1 .1 .1 .1 .1 .1 .1))))))))))));
       reply = λ κs given x y v w p q. (ap (λ (a : Answered). a .number) (p ∙ sym q), λ i. (v .0, (v .1 .0, (v .1 .1 .0, (v .1 .1 .1 .0, (v .1 .1 .1 .1 .0, (v .1 .1 .1 .1 .1 .0, (v .1 .1 .1 .1 .1 .1 .0, ((p ∙ sym q) i .state, ((p ∙ sym q) i .runs .reply, v .1 .1 .1 .1 .1 .1 .1 .1 .1))))))))));
       poll = λ κs given x y v w p q. (ap (λ (a : Answered). a .number) (p ∙ sym q), λ i. (v .0, ((p ∙ sym q) i .state, ((p ∙ sym q) i .runs .reply, v .1 .1 .1))));
+      fcs = λ κs given x y v w p q. (p ∙ sym q, refl);
       erase = λ κs given x y v w p q. (ap (λ (a : Answered). a .number) (p ∙ sym q), λ i. (v .0, ((p ∙ sym q) i .state, ((p ∙ sym q) i .runs .flash, v .1 .1 .1))));
     }
 

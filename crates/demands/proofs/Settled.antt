@@ -21,6 +21,7 @@ fcs-settled =
     record {
       fcs-from = λ κs given x y v w p q. (p ∙ sym q, refl);
       fcs = λ κs given x y v w p q. (p ∙ sym q, refl);
+      fcs-bytes = λ κs given x y v w p q. (p ∙ sym q, refl);
     }
 
 pub image-settled : ImageSettled

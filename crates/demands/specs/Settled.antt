@@ -37,6 +37,7 @@ pub record BaseSettled : Type 0 where
 pub record FcsSettled : Type 0 where
   pub fcs-from : Settles Fcs.fcs_from.Kinds.ps Fcs.fcs_from.Kinds.r Fcs.fcs_from.Reads.Learnt
   pub fcs : Settles Fcs.fcs.Kinds.ps Fcs.fcs.Kinds.r Fcs.fcs.Reads.Learnt
+  pub fcs-bytes : Settles Fcs.fcs_bytes.Kinds.ps Fcs.fcs_bytes.Kinds.r Fcs.fcs_bytes.Reads.Learnt
 
 -- Files as words.
 pub record ImageSettled : Type 0 where

@@ -1,7 +1,7 @@
 -- The check sequence (FCS) of a run of 16-bit words: 01 'Check sequence', the note's section 16. The bits of the run, most
 -- significant first, high byte of each word first, are divided by the polynomial x^16 + x^12 + x^5 + 1; the 16-bit register of
 -- the remainder starts at 0xFFFF. Assumes nothing.
-use Prim.Native.Nat.{ℕ, zero, suc, _*_, _/_, _%_, _^_, _<_}
+use Prim.Native.Nat.{ℕ, zero, suc, _+_, _*_, _/_, _%_, _^_, _<_}
 use mathlib.Core.Path.{_≡_}
 use mathlib.Core.List.{List, [], _∷_}
 use lib.ListN.{getD}
@@ -37,6 +37,12 @@ fcsFrom c (w ∷ ws) = fcsFrom (fcsWord c w) ws
 -- The check sequence of a run: from 0xFFFF.
 abbrev pub fcsOf : List ℕ → ℕ
 fcsOf ws = fcsFrom 0xFFFF ws
+
+-- The words that a run of bytes is, low byte of each word first; a last byte alone is ignored: 01 'Covered'.
+unfoldable pub byteWords : List ℕ → List ℕ
+byteWords [] = []
+byteWords (low ∷ []) = []
+byteWords (low ∷ high ∷ bytes) = (low + 256 * high) ∷ byteWords bytes
 
 -- The rule of the table (section 16.2): entry k is what the eight bits of byte k make of an empty register.
 pub record Divides (table : List ℕ) : Type 0 where

@@ -1,7 +1,7 @@
 // The check sequence (FCS) of a run of words: 01 'Check sequence', section 16 of the note.
 ghost use mathlib.Core.Path.{_≡_};
 ghost use Prim.Native.Nat.{_<_};
-ghost use Rattle.fcs.specs.Fcs.{fcsByte, fcsWord, fcsFrom, fcsOf, Divides};
+ghost use Rattle.fcs.specs.Fcs.{fcsByte, fcsWord, fcsFrom, fcsOf, byteWords, Divides};
 
 // Entry k is what the eight bits of byte k make of an empty register: the table of section 16.2.
 const TABLE: [u16; 256] = [
@@ -300,4 +300,26 @@ pub fn fcs(words: &[u16]) -> u16
     ensures { λ r. ⌜ r ≡ fcsOf (now (words .entry)) ⌝ }
 {
     fcs_from(0xFFFF, words)
+}
+
+fn wide(byte: u8) -> u16
+    ensures { λ r. ⌜ (r ≡ byte) × (r < 256) ⌝ }
+{
+    byte as u16
+}
+
+// The check sequence of the words that bytes are, for a host that has bytes. They are looked up as they stand: nothing is copied but the
+// table.
+pub fn fcs_bytes(bytes: &[u8]) -> u16
+    ensures { λ r. ⌜ r ≡ fcsOf (byteWords (now (bytes .entry))) ⌝ }
+{
+    let table = TABLE;
+    let n = bytes.len() / 2;
+    let mut c = 0xFFFF;
+    let mut i = 0;
+    while i < n {
+        c = word_step(&table, c, wide(bytes[i * 2]) + 256 * wide(bytes[i * 2 + 1]));
+        i += 1;
+    }
+    c
 }

@@ -31,6 +31,7 @@ mod filing;
 mod requests;
 mod rooms;
 mod sectors;
+pub mod sequence;
 mod settings;
 mod slaves;
 mod starting;

@@ -1,0 +1,374 @@
+/* helpers: the helpers of include/logodwen.h on lines of standard input, as model/helpers.py writes them: each line names a helper and what
+   it is given, in hex, and what it comes to is printed. helpers SEED COUNT: the readers on bytes by chance and on damaged files and
+   replies, against the model in C. Every run of words is a block of its own of just its length, so that under the sanitizers a byte
+   read or written past it is noticed. */
+#include "../../include/logodwen.h"
+#include "../model/model.h"
+
+#include <stdio.h>
+#include <stdlib.h>
+
+/* A block of just so many words. */
+static uint8_t *block_of(size_t words) {
+    uint8_t *block = malloc(2 * words + (words == 0));
+    if (block == NULL)
+        exit(2);
+    return block;
+}
+
+/* What a line gives: numbers, and a copy of those from one on as words. */
+
+enum { MOST = 40000 };
+static uint32_t given[MOST];
+static size_t count;
+
+static uint8_t *words_from(size_t first) {
+    uint8_t *words = block_of(count - first);
+    for (size_t i = first; i < count; i++)
+        logodwen_put(words, i - first, (uint16_t)given[i]);
+    return words;
+}
+
+/* The same as an array. */
+static uint16_t *array_from(size_t first, size_t length) {
+    uint16_t *array = malloc(2 * length + (length == 0));
+    if (array == NULL)
+        exit(2);
+    for (size_t i = 0; i < length; i++)
+        array[i] = (uint16_t)given[first + i];
+    return array;
+}
+
+static void print_words(const uint8_t *bytes, size_t words) {
+    if (words == 0)
+        printf("0");
+    for (size_t i = 0; i < words; i++)
+        printf("%s%X", i == 0 ? "" : " ", (unsigned)logodwen_get(bytes, i));
+    printf("\n");
+}
+
+static void print_numbers(const uint32_t *numbers, size_t length) {
+    for (size_t i = 0; i < length; i++)
+        printf("%s%X", i == 0 ? "" : " ", (unsigned)numbers[i]);
+}
+
+/* Requests without a room, by how many numbers they take. */
+
+static const struct {
+    const char *name;
+    size_t (*make)(uint8_t *);
+} plain[] = {{"status", logodwen_make_status},
+             {"summary", logodwen_make_summary},
+             {"mode_read", logodwen_make_mode_read},
+             {"mask_read", logodwen_make_mask_read},
+             {"to_all", logodwen_make_to_all}};
+
+static const struct {
+    const char *name;
+    size_t (*make)(uint8_t *, unsigned);
+} with_one[] = {{"file_read", logodwen_make_file_read},     {"file_test", logodwen_make_file_test},
+                {"file_load", logodwen_make_file_load},     {"erase_start", logodwen_make_erase_start},
+                {"mode_write", logodwen_make_mode_write},   {"erase_start_at", logodwen_make_erase_start_at},
+                {"to_slave", logodwen_make_to_slave},       {"to_mask", logodwen_make_to_mask},
+                {"to_slaves", logodwen_make_to_slaves}};
+
+static bool is_request(const char *name) {
+    static uint8_t packet[LOGODWEN_COMMAND_BYTES];
+    for (size_t i = 0; i < sizeof plain / sizeof *plain; i++)
+        if (strcmp(plain[i].name, name) == 0)
+            return print_words(packet, plain[i].make(packet)), true;
+    for (size_t i = 0; i < sizeof with_one / sizeof *with_one; i++)
+        if (strcmp(with_one[i].name, name) == 0)
+            return print_words(packet, with_one[i].make(packet, given[0])), true;
+    if (strcmp(name, "attribute_set") == 0)
+        return print_words(packet, logodwen_make_attribute_set(packet, given[0], given[1] != 0)), true;
+    if (strcmp(name, "mask_write") == 0)
+        return print_words(packet, logodwen_make_mask_write(packet, given[0], given[1])), true;
+    if (strcmp(name, "pm_read") == 0)
+        return print_words(packet, logodwen_make_pm_read(packet, given[0], given[1], given[2])), true;
+    if (strcmp(name, "dm_read") == 0)
+        return print_words(packet, logodwen_make_dm_read(packet, given[0], given[1], given[2])), true;
+    return false;
+}
+
+/* Requests that have words: the first number is the room. */
+static bool is_long_request(const char *name) {
+    size_t room = given[0], laid;
+    uint8_t *packet = block_of(room), *words = words_from(1);
+    uint16_t *array = array_from(0, count);
+    if (strcmp(name, "pm_write") == 0)
+        laid = logodwen_make_pm_write(packet, room, given[1], given[2], given + 3, count - 3);
+    else if (strcmp(name, "dm_write") == 0)
+        laid = logodwen_make_dm_write(packet, room, given[1], given[2], array + 3, count - 3);
+    else if (strcmp(name, "perform_io") == 0)
+        laid = logodwen_make_perform_io(packet, room, array + 1, count - 1);
+    else if (strcmp(name, "file_write") == 0)
+        laid = logodwen_make_file_write(packet, room, words, count - 1);
+    else if (strcmp(name, "ping") == 0)
+        laid = logodwen_make_ping(packet, room, words, count - 1);
+    else
+        laid = SIZE_MAX;
+    if (laid != SIZE_MAX)
+        print_words(packet, laid);
+    free(packet);
+    free(words);
+    free(array);
+    return laid != SIZE_MAX;
+}
+
+/* Files. */
+
+static void add_segment(struct logodwen_file *file, const uint32_t *numbers) {
+    uint16_t *array = array_from((size_t)(numbers + 4 - given), numbers[3]);
+    if (numbers[0] == LOGODWEN_PM)
+        logodwen_file_pm(file, numbers[1], numbers[2], numbers + 4, numbers[3]);
+    else if (numbers[0] == LOGODWEN_DM)
+        logodwen_file_dm(file, numbers[1], numbers[2], array, numbers[3]);
+    else
+        logodwen_file_io(file, array, numbers[3]);
+    free(array);
+}
+
+static void build_file(void) {
+    size_t room = given[0];
+    uint8_t *bytes = block_of(room);
+    struct logodwen_file file;
+    logodwen_file_begin(&file, bytes, room, given[1], given[2], given[3]);
+    for (size_t at = 4; at < count; at += 4 + given[at + 3])
+        add_segment(&file, given + at);
+    print_words(bytes, file.words);
+    free(bytes);
+}
+
+static void print_segment(const struct logodwen_segment *segment) {
+    const uint32_t numbers[4] = {segment->memory, segment->page, segment->address, (uint32_t)segment->count};
+    printf(" ");
+    print_numbers(numbers, 4);
+    for (size_t i = 0; i < segment->count; i++)
+        printf(" %X", (unsigned)logodwen_segment_word(segment, i));
+    if (logodwen_segment_word(segment, segment->count) != 0 || logodwen_segment_word(segment, SIZE_MAX) != 0)
+        printf(" (a word past the last)");
+}
+
+static void read_file(void) {
+    uint8_t *words = words_from(0);
+    struct logodwen_header header;
+    size_t length = logodwen_read_file(words, count, &header);
+    printf("%X", (unsigned)length);
+    if (length != 0) {
+        const uint32_t numbers[4] = {header.type, header.attribute, header.name, header.segments};
+        printf(" ");
+        print_numbers(numbers, 4);
+        if (logodwen_header_word(&header) != logodwen_get(words, 0))
+            printf(" (another header word)");
+    }
+    struct logodwen_segment segment;
+    for (size_t at = 1; at < length;) {
+        at = logodwen_read_segment(words, length, at, &segment);
+        print_segment(&segment);
+    }
+    printf("\n");
+    free(words);
+}
+
+/* Replies. */
+
+static void read_status(void) {
+    uint8_t *reply = words_from(0);
+    struct logodwen_status s;
+    if (logodwen_read_status(reply, count, &s)) {
+        const uint32_t numbers[15] = {s.program_version, s.program_type, s.kind,           s.subdetector,  s.ports,
+                                      s.subdetector_version, s.time,     s.node_status,    s.start_tests,  s.link,
+                                      s.event_number,    s.build_errors, s.amswire_errors, s.flash_errors, s.reply_status};
+        print_numbers(numbers, 15);
+        printf("\n");
+    } else {
+        printf("0\n");
+    }
+    free(reply);
+}
+
+static void read_entry(void) {
+    uint8_t *reply = words_from(1);
+    struct logodwen_entry entry;
+    if (logodwen_read_entry(reply, count - 1, given[0], &entry))
+        printf("%X %X %X %X\n", entry.sector, entry.address, entry.first, entry.status);
+    else
+        printf("0\n");
+    free(reply);
+}
+
+/* The whole walk, into a text: a reply that breaks off has none of it. */
+static void read_group(void) {
+    static uint32_t numbers[MOST];
+    uint8_t *reply = words_from(0);
+    struct logodwen_fragment fragment;
+    size_t at = 0, told = 0;
+    bool is_whole = logodwen_is_sealed(reply, count) && count > LOGODWEN_TAIL_WORDS;
+    while (is_whole && at + LOGODWEN_TAIL_WORDS < count) {
+        at = logodwen_read_fragment(reply, count, at, &fragment);
+        is_whole = at != 0;
+        if (!is_whole)
+            break;
+        const uint32_t fields[8] = {fragment.slave,      fragment.code,        fragment.slave_status, fragment.rx_status,
+                                    fragment.rx_address, fragment.reply_words, fragment.first_word,   (uint32_t)fragment.data_words};
+        memcpy(numbers + told, fields, sizeof fields);
+        told += 8;
+        for (size_t i = 0; i < fragment.data_words; i++)
+            numbers[told++] = logodwen_get(fragment.data, i);
+    }
+    printf(is_whole ? "1 " : "0");
+    if (is_whole)
+        print_numbers(numbers, told);
+    printf("\n");
+    free(reply);
+}
+
+static void of_words(const char *name) {
+    uint8_t *words = words_from(0);
+    printf("%X\n", strcmp(name, "fcs") == 0 ? logodwen_fcs(words, count) : (unsigned)logodwen_is_sealed(words, count));
+    free(words);
+}
+
+static void answer_line(const char *name) {
+    if (strcmp(name, "file") == 0)
+        build_file();
+    else if (strcmp(name, "read_file") == 0)
+        read_file();
+    else if (strcmp(name, "read_status") == 0)
+        read_status();
+    else if (strcmp(name, "read_entry") == 0)
+        read_entry();
+    else if (strcmp(name, "read_group") == 0)
+        read_group();
+    else if (strcmp(name, "fcs") == 0 || strcmp(name, "sealed") == 0)
+        of_words(name);
+    else if (!is_request(name) && !is_long_request(name))
+        printf("no helper %s\n", name);
+}
+
+static void answer_lines(void) {
+    static char line[16 * MOST];
+    while (fgets(line, sizeof line, stdin) != NULL) {
+        char *name = strtok(line, " \n");
+        count = 0;
+        for (char *field = strtok(NULL, " \n"); field != NULL && count < MOST; field = strtok(NULL, " \n"))
+            given[count++] = (uint32_t)strtoul(field, NULL, 16);
+        if (name != NULL)
+            answer_line(name);
+    }
+}
+
+/* By chance. */
+
+static uint64_t chance;
+
+static uint32_t any(void) {
+    chance = chance * 6364136223846793005u + 1442695040888963407u;
+    return (uint32_t)(chance >> 33);
+}
+
+static void differs(const char *what, unsigned long turn) {
+    printf("helpers: turn %lu: %s is not the model's\n", turn, what);
+    exit(1);
+}
+
+/* Words that may be a file: some segments, with headers by chance, some sealed; then some bits changed. */
+static size_t lay_file(uint8_t *words, size_t room) {
+    size_t at = 1;
+    logodwen_put(words, 0, (uint16_t)(any() & (any() % 4 == 0 ? 0xFFFFu : 0x7FFFu)));
+    while (at + 2 < room && any() % 5 != 0) {
+        unsigned bits = any() % 4, length = any() % 20, page = any() % 8 == 0 ? 1 : any() % 2 * 3;
+        size_t size = bits == 0 ? length / 2 * 3 : length;
+        if (size == 0 || at + 2 + size > room)
+            continue;
+        logodwen_put(words, at, (uint16_t)(bits << 14 | length));
+        logodwen_put(words, at + 1, (uint16_t)(page << 14 | (any() & 0x3FFFu)));
+        for (size_t i = 0; i < size; i++)
+            logodwen_put(words, at + 2 + i, (uint16_t)any());
+        if (bits == 0 && size > 1 && any() % 8 != 0)
+            words[2 * (at + size)] = 0;
+        if (any() % 8 != 0)
+            logodwen_put(words, at + 1 + size, model_fcs(words + 2 * (at + 2), size - 1));
+        at += 2 + size;
+    }
+    return at;
+}
+
+static void try_file(unsigned long turn) {
+    static uint8_t room[400];
+    size_t length = lay_file(room, 200), words = any() % 4 == 0 ? any() % (length + 1) : length;
+    if (words != 0 && any() % 3 != 0) /* as many segments as there are, mostly */
+        room[0] = (uint8_t)((room[0] & 0xF0u) | (1 + any() % 4));
+    uint8_t *exact = block_of(words);
+    memcpy(exact, room, 2 * words);
+    struct logodwen_header header;
+    if (logodwen_read_file(exact, words, &header) != model_file_length(exact, words))
+        differs("the length of a file", turn);
+    for (size_t at = 0; at <= words + 1; at++) {
+        struct logodwen_segment found;
+        struct segment expected;
+        size_t past = logodwen_read_segment(exact, words, at, &found);
+        bool is_there = model_segment_at(exact, words, at, &expected);
+        if (is_there != (past != 0) || (is_there && past != expected.body + expected.size))
+            differs("the end of a segment", turn);
+        if (is_there && (found.memory != (unsigned)expected.memory || found.count + 1 != expected.length))
+            differs("a segment's header", turn);
+        if (is_there && found.memory != LOGODWEN_IO
+            && (logodwen_page_bits(found.page) != expected.page || found.address != expected.address))
+            differs("a segment's place", turn);
+    }
+    free(exact);
+}
+
+/* The walk over fragments on any words: it ends, inside them, and each fragment is of the length that it says. */
+static void try_group(unsigned long turn) {
+    size_t words = any() % 40;
+    uint8_t *reply = block_of(words);
+    for (size_t i = 0; i < words; i++)
+        logodwen_put(reply, i, (uint16_t)(any() % 3 == 0 ? any() : any() % 6));
+    for (size_t from = 0; from < words + 2; from++) {
+        struct logodwen_fragment fragment;
+        size_t past = logodwen_read_fragment(reply, words, from, &fragment);
+        if (past != 0 && (past > words - LOGODWEN_TAIL_WORDS || past != from + 1 + logodwen_get(reply, from)))
+            differs("the end of a fragment", turn);
+        if (past != 0 && logodwen_get(reply, past - 1) != (fragment.code << 11 | fragment.slave_status | fragment.slave))
+            differs("a fragment's status word", turn);
+    }
+    struct logodwen_status status;
+    struct logodwen_entry entry;
+    logodwen_read_status(reply, words, &status);
+    logodwen_read_entry(reply, words, any() % 12, &entry);
+    free(reply);
+}
+
+static void try_sequence(unsigned long turn) {
+    size_t words = any() % 70;
+    uint8_t *bytes = malloc(2 * words + 1);
+    if (bytes == NULL)
+        exit(2);
+    for (size_t i = 0; i <= 2 * words; i++)
+        bytes[i] = (uint8_t)any();
+    uint16_t expected = model_fcs(bytes, words);
+    if (logodwen_fcs(bytes, words) != expected || logodwen1_fcs(bytes, 2 * words + 1) != expected)
+        differs("a check sequence", turn);
+    if (logodwen_is_sealed(bytes, words) != (words >= 2 && model_fcs(bytes, words - 1) == word_at(bytes, words - 1)))
+        differs("whether a reply is sealed", turn);
+    free(bytes);
+}
+
+int main(int arguments, char **argument) {
+    if (arguments == 1) {
+        answer_lines();
+        return 0;
+    }
+    unsigned long turns = arguments == 3 ? strtoul(argument[2], NULL, 10) : 0;
+    chance = strtoul(argument[1], NULL, 10);
+    for (unsigned long turn = 0; turn < turns; turn++) {
+        try_file(turn);
+        try_group(turn);
+        try_sequence(turn);
+    }
+    printf("helpers: %lu turns by chance as the model has them\n", turns);
+    return 0;
+}

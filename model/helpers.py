@@ -1,0 +1,335 @@
+"""helpers.py FOLDER: lines that try each helper of include/logodwen.h, FOLDER/helpers.txt, and what each comes to by the model,
+FOLDER/helpers.stdout. A line is a helper's name and what it is given, numbers in hex; what it comes to is its words or fields in hex, or
+0 where there is none. What a request has to be is written from 01 here; files, segments, fragments and replies are the model's."""
+
+import random
+import sys
+
+import build
+import files
+import flash
+import group
+import node
+from files import DM, IO, PM
+from runs import check_sequence
+
+MEMORIES = (PM, DM, IO)
+PAGE_BITS = {0: 0, 4: 2, 5: 3}
+chance = random.Random(17)
+
+
+def word():
+    return chance.getrandbits(16)
+
+
+def words(count):
+    return [word() for _ in range(count)]
+
+
+# Requests: 01 'Requests' and the parameters of each command.
+
+
+def own(number, *parameters):
+    return [number << 8 | 0x2E, *parameters]
+
+
+def named(number):
+    return lambda name: own(number, name << 4 | 1) if name <= 0xFF else []
+
+
+def segment_of(memory, page, address, held):
+    """The words of a segment, none where the length, the page or the address isn't permitted."""
+    if not files.permitted(memory, len(held) + 1) or len(held) + 1 > 0x3FFF or address > 0x3FFF or page not in PAGE_BITS:
+        return []
+    mask = 0xFFFFFF if memory == PM else 0xFFFF
+    return build.segment(memory, PAGE_BITS[page] << 14 | address, [value & mask for value in held])
+
+
+def read_of(number, memory):
+    def request(page, address, count):
+        if not files.permitted(memory, count + 1) or count + 1 > 0x3FFF or address > 0x3FFF or page not in PAGE_BITS:
+            return []
+        return own(number, MEMORIES.index(memory) << 14 | count + 1, PAGE_BITS[page] << 14 | address)
+
+    return request
+
+
+def fitting(room, request):
+    return request if request and len(request) <= room else []
+
+
+def write_of(number, memory):
+    def request(room, page, address, *held):
+        segment = segment_of(memory, page, address, held)
+        return fitting(room, own(number, *segment) if segment else [])
+
+    return request
+
+
+def perform_io(room, *held):
+    segment = segment_of(IO, 0, 0, held)
+    return fitting(room, own(0x0F, *segment) if segment else [])
+
+
+REQUESTS = {
+    "status": lambda: own(0x0C),
+    "summary": lambda: own(0x07),
+    "mode_read": lambda: own(0x12),
+    "mask_read": lambda: own(0x17),
+    "file_read": named(0x05),
+    "file_test": named(0x06),
+    "file_load": named(0x46),
+    "erase_start": named(0x47),
+    "erase_start_at": lambda sector: own(0x47, flash.address_of(sector)) if sector in flash.SECTORS else [],
+    "attribute_set": lambda name, value: own(0x48, name << 4 | 1, value) if name <= 0xFF else [],
+    "mode_write": lambda mode: own(0x52, mode) if mode <= 3 else [],
+    "mask_write": lambda mask, slaves: own(0x57, mask << 8 | slaves >> 16, slaves & 0xFFFF) if mask < 16 and slaves < 1 << 24 else [],
+    "pm_read": read_of(0x10, PM),
+    "dm_read": read_of(0x11, DM),
+    "pm_write": write_of(0x50, PM),
+    "dm_write": write_of(0x51, DM),
+    "perform_io": perform_io,
+    "file_write": lambda room, *held: fitting(room, own(0x45, *held) if 0 < len(held) < 8192 else []),
+    "ping": lambda room, *held: fitting(room, own(0x0D, *held) if len(held) <= 8000 else []),
+    "to_slave": lambda slave: [0x3F00 | slave] if slave < 24 else [],
+    "to_mask": lambda mask: [mask << 8 | 0x40] if mask < 16 else [],
+    "to_slaves": lambda slaves: [(slaves & 0xFF) << 8 | 0x23, slaves >> 8] if 0 < slaves < 1 << 24 else [],
+    "to_all": lambda: [0x2A],
+}
+
+
+def request_lines():
+    def line(name, *given):
+        return (name, *given), REQUESTS[name](*given)
+
+    for name in ("status", "summary", "mode_read", "mask_read", "to_all"):
+        yield line(name)
+    for name in ("file_read", "file_test", "file_load", "erase_start"):
+        for value in (0, 1, 0x21, 0xFF, 0x100, 0xFFFFFFFF):
+            yield line(name, value)
+    for value in (0, 2, *range(3, 11), 11, 0xFFFFFFFF):
+        yield line("erase_start_at", value)
+    for value in (0, 0x42, 0xFF, 0x100):
+        yield line("attribute_set", value, 0)
+        yield line("attribute_set", value, 1)
+    for value in (0, 1, 2, 3, 4, 0xFFFFFFFF):
+        yield line("mode_write", value)
+    for mask in (0, 1, 9, 15, 16, 0xFFFFFFFF):
+        for slaves in (0, 1, 0xA5, 0x00FF00, 0x123456, 0xFFFFFF, 0x1000000, 0xFFFFFFFF):
+            yield line("mask_write", mask, slaves)
+        yield line("to_mask", mask)
+    for slaves in (0, 1, 0xA0, 0x00FF00, 0x123456, 0xFFFFFF, 0x1000000, 0xFFFFFFFF):
+        yield line("to_slaves", slaves)
+    for slave in (0, 5, 23, 24, 0x100):
+        yield line("to_slave", slave)
+    for name in ("pm_read", "dm_read"):
+        for count in (0, 1, 2, 3, 100, 0x3FFC, 0x3FFD, 0x3FFE, 0x3FFF, 0x10001):
+            yield line(name, chance.choice((0, 4, 5)), chance.randrange(0x4000), count)
+        for page in (0, 1, 2, 3, 4, 5, 6):
+            yield line(name, page, 0x2000, 3)
+        yield line(name, 0, 0x4000, 3)
+    for name in ("pm_write", "dm_write"):
+        for count in (0, 1, 2, 3, 4, 5, 50, 51):
+            for room in (0, 1, 2, 3, 4, 5, 6, 7, 9, 10, 53, 54, 55, 80, 81, 82, 200):
+                given = [chance.getrandbits(32 if name == "pm_write" else 16) for _ in range(count)]
+                yield line(name, room, chance.choice((0, 4, 5)), chance.randrange(0x4000), *given)
+        yield line(name, 100, 3, 0, 1)
+        yield line(name, 100, 0, 0x4000, 1)
+    for count in (0, 1, 2, 3, 4, 10):
+        for room in (0, 1, 5, 6, 7, 8, 14, 20):
+            yield line("perform_io", room, *words(count))
+    for name in ("ping", "file_write"):
+        for count in (0, 1, 7, 8000, 8001, 8191, 8192):
+            for room in (0, count, count + 1, 9000):
+                yield line(name, room, *words(count))
+
+
+# Files and segments.
+
+
+def some_segment(most=9):
+    """A segment as (memory, page, address, memory words)."""
+    memory = chance.choice(MEMORIES)
+    count = chance.randrange(1, most)
+    if memory == PM:
+        count |= 1
+    if memory == IO:
+        count += count % 2
+    held = [chance.getrandbits(24 if memory == PM else 16) for _ in range(count)]
+    return (memory, 0, 0, held) if memory == IO else (memory, chance.choice((0, 4, 5)), chance.randrange(0x4000), held)
+
+
+def file_words(kind, attribute, name, segments):
+    return build.file_of([segment_of(*segment) for segment in segments], kind, attribute, name)
+
+
+def file_lines():
+    for _ in range(200):
+        kind, attribute, name = chance.choice((0, 1)), chance.randrange(4), chance.randrange(256)
+        segments = [some_segment() for _ in range(chance.choice((0, 1, 2, 3, 14, 15)))]
+        given, made = [], file_words(kind, attribute, name, segments) if len(segments) <= 14 else []
+        for memory, page, address, held in segments:
+            given += [MEMORIES.index(memory), page, address, len(held), *held]
+        room = max(0, len(made) + chance.choice((-1, 0, 0, 0, 1, 50))) if made else 500
+        wrong = chance.randrange(12)
+        if wrong == 0:
+            kind = chance.choice((2, 3, 4))
+        if wrong == 1:
+            name |= 0x100
+        fits = kind <= 1 and name <= 0xFF and len(made) <= room
+        yield ("file", room, kind, attribute, name, *given), made if fits else []
+
+
+def read_file(held):
+    """Length, type, attribute, name, segments; then of each segment memory, page, address, count and words."""
+    length = files.file_length(held)
+    if length is None:
+        return []
+    header = held[0]
+    fields = [length, header >> 14, header >> 12 & 3, header >> 4 & 0xFF, header & 15]
+    for memory, page, address, inside, _ in files.segments_of(held):
+        where = [0, 0] if memory == IO else [page, address]
+        fields += [MEMORIES.index(memory), *where, len(inside), *inside]
+    return fields
+
+
+def damaged(held):
+    held = list(held)
+    way = chance.randrange(4)
+    if way == 0:
+        return held[:chance.randrange(len(held))]
+    if way == 1:
+        return held + words(chance.randrange(1, 4))
+    at = chance.randrange(min(len(held), 4)) if way == 2 else chance.randrange(len(held))
+    held[at] ^= 1 << chance.randrange(16)
+    return held
+
+
+def reading_lines():
+    yield ("read_file",), []
+    for _ in range(600):
+        segments = [some_segment() for _ in range(chance.choice((1, 1, 2, 3, 14)))]
+        held = file_words(chance.choice((0, 1)), chance.randrange(4), chance.randrange(256), segments)
+        yield ("read_file", *held), read_file(held)
+        held = damaged(held)
+        yield ("read_file", *held), read_file(held)
+    for _ in range(200):
+        held = words(chance.randrange(20))
+        yield ("read_file", *held), read_file(held)
+
+
+# Replies.
+
+
+def is_sealed(reply):
+    return len(reply) >= 2 and check_sequence(reply[:-1]) == reply[-1]
+
+
+def with_status(data, status):
+    return [*data, status, check_sequence([*data, status])]
+
+
+def status_lines():
+    for _ in range(100):
+        kind, ports, clock = chance.choice((1, 2)), chance.randrange(1, 5), chance.getrandbits(32)
+        versions, tests, subdetector = words(2), word(), chance.randrange(8)
+        image = [0xFFFF] * 32768
+        state, _ = node.start(kind, ports, subdetector, *versions, tests, clock, image)
+        lent = node.Lent(image, {PM: [], DM: [], IO: []}, [0] * 12288)
+        for _ in range(chance.randrange(3)):
+            state, _ = node.request(state, lent, clock, 0, 3, 1, [])
+        ticks, link = chance.getrandbits(32), chance.randrange(ports)
+        state, answer = node.request(state, lent, (clock + ticks) % 2**32, link, 3, 0, own(0x0C))
+        reply = lent.reply[:answer[2]]
+        errors = state.amswire
+        fields = [versions[0], 1, kind, subdetector, ports, versions[1], ticks, (0x2000 if errors else 0) | tests & 0xF00 | link, tests & 0xF00,
+                  link, 0, 0, errors, 0, reply[10]]
+        yield ("read_status", *reply), fields
+        for broken in (damaged(reply), with_status(words(9), word()), with_status(words(11), word())):
+            yield ("read_status", *broken), []
+
+
+def entry_lines():
+    for _ in range(60):
+        entries, directory = [], []
+        for sector in flash.SECTORS:
+            status = chance.randrange(4)
+            first = 0xFFFF if status == 0 else 0x3001 | chance.randrange(256) << 4
+            directory += [first, flash.address_of(sector), (0, 0, 0x8000, 0x4000)[status], 0]
+            entries.append([sector, flash.address_of(sector), first, status])
+        reply = with_status(directory, 0x01A0)
+        for sector in (*flash.SECTORS, 2, 11):
+            yield ("read_entry", sector, *reply), entries[sector - 3] if sector in flash.SECTORS else []
+        for broken in (damaged(reply), with_status(words(31), word()), with_status(words(33), word())):
+            yield ("read_entry", 3, *broken), []
+
+
+def some_answer():
+    way = chance.randrange(9)
+    bc = chance.randrange(4)
+    held = words(chance.randrange(0, 12))
+    if way < 5:
+        held, bc = with_status(held, word()), 3
+    if way == 5:
+        held = []
+    if way == 6:
+        held = words(1)
+    return group.Answer(chance.randrange(12) == 0, chance.randrange(12) == 0, word(), word(), bc, held)
+
+
+def group_fields(slave, answer, dat, code, body):
+    """Slave, code with DAT, the slave's status, RX status, RX address, reply length, first word, then the data."""
+    whole, faulty = dat == 1 and code == 0, dat == 1 and code != 0
+    bits = answer.words[-2] & 0x07E0 if dat and code in (0, 2) else 0
+    received = [answer.rx_status if faulty or (dat, code) == (0, 6) else 0, answer.rx_address if (dat, code) == (0, 6) else 0]
+    lost = [len(answer.words), answer.words[0]] if faulty else [0, 0]
+    data = body[1:-1] if whole else []
+    return [slave, dat << 4 | code, bits, *received, *lost, len(data), *data]
+
+
+def group_lines():
+    for _ in range(300):
+        slaves = sorted(chance.sample(range(24), chance.choice((1, 2, 3, 5, 24))))
+        built, fields, tally = [], [], 0
+        for place, slave in enumerate(slaves):
+            answer = some_answer()
+            dat, code, body = group.fragment(slave, answer, len(built), len(slaves) - place - 1)
+            tally = group.tally_with(tally, dat, code)
+            fields += group_fields(slave, answer, dat, code, body)
+            built += body
+        reply = built + group.ending(built, tally, 0x01A0)
+        yield ("read_group", *reply), [1, *fields]
+        for length in (0, 1, 2, 3, chance.randrange(len(reply))):
+            yield ("read_group", *reply[:length]), [0]
+        broken = list(reply)
+        broken[chance.randrange(len(broken))] ^= 1 << chance.randrange(16)
+        yield ("read_group", *broken), [0]
+    # fragments that no node lays, under a right FCS: too long, of length 0, of no slave, of no code, of a wrong length for their code
+    for built in ([5, 0x8005], [0, 0x8005], [1, 0x8018], [1, 0x8805], [2, 1, 0x1005], [1, 0x3005], [4, 1, 2, 3, 0x8005 | 4 << 11], [1, 0x1025],
+                  [1, 0x3805], [4, 1, 2, 3, 0xB005], [1, 0x1005, 1], [0xFFFF, 0x8005]):
+        yield ("read_group", *with_status(built, 0x0300)), [0]
+
+
+def fcs_lines():
+    for count in (0, 1, 2, 3, 4, 12, 31, 32, 33, 500, 12288):
+        held = words(count)
+        yield ("fcs", *held), [check_sequence(held)]
+        yield ("sealed", *held), [1 if is_sealed(held) else 0]
+        held = with_status(held, word())
+        yield ("sealed", *held), [1]
+        yield ("sealed", *held[:-1]), [1 if is_sealed(held[:-1]) else 0]
+    yield ("sealed", 0xFFFF), [0]  # the FCS of no words, but no reply
+
+
+def main(folder):
+    with open(folder + "/helpers.txt", "w") as given, open(folder + "/helpers.stdout", "w") as wanted:
+        for lines in (request_lines(), file_lines(), reading_lines(), status_lines(), entry_lines(), group_lines(), fcs_lines()):
+            for (name, *numbers), comes_to in lines:
+                given.write(" ".join([name, *("%X" % number for number in numbers)]) + "\n")
+                wanted.write(" ".join("%X" % number for number in comes_to or [0]) + "\n")
+
+
+if __name__ == "__main__":
+    if len(sys.argv) != 2:
+        sys.exit(__doc__)
+    main(sys.argv[1])
