@@ -19,7 +19,7 @@ use Rattle.group.specs.Ending.{zeroReply}
 use Rattle.group.specs.declared.Reply.{Reply}
 use Rattle.group.specs.declared.ZeroLength.{ZeroLength}
 use Rattle.memory.specs.Segment.{Memories}
-use Rattle.memory.proofs.Segments.{segments-taken}
+use Rattle.memory.proofs.Loading.{segments-taken}
 use Rattle.memory.specs.Load.{fileSegments, allFit, allStored, loadable, isAt}
 use Rattle.image.specs.File.{fileEnd}
 use Rattle.image.specs.declared.End.{End}

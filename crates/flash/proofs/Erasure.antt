@@ -184,4 +184,3 @@ directory-begun flash s sector =
     directory-update s flash flash Erasing.Nothing (Erasing.Sector (progress s 0)) sector
     (λ t q n. entry-quiet Erasing.Nothing (Erasing.Sector (progress s 0)) t (sectorOf flash t) refl (erasing-other (progress s 0) t n))
     ∙ ap (entered (directoryOf flash Erasing.Nothing) s (firstOf (sectorOf flash s))) (status-erasing (Erasing.Sector (progress s 0)) s (sectorOf flash s) (erasing-this (progress s 0)))
-

@@ -9,4 +9,3 @@ pub mod Command
 pub mod Laws
 pub mod Numbers
 pub mod Examples
-pub mod Segments
