@@ -50,7 +50,7 @@ install: tools
 # Proved functions and the calls at the C border, against plain C in one process.
 perf: tools
 	@$(home)/host/fresh
-	@cd $(home) && { rt staticlib perf >build/perf.log 2>&1 || { cat build/perf.log; exit 1; }; }
+	@cd $(home) && { host/lock rt staticlib perf >build/perf.log 2>&1 || { cat build/perf.log; exit 1; }; }
 	@cd $(home) && host/build build/perf target/staticlib/libperf.a target/staticlib/liblogodwen.a host/perf/*.c host/model/*.c
 	@cd $(home) && host/run build/perf
 
