@@ -106,6 +106,7 @@ static bool is_locked(struct flash_file *file, char *why) {
         int lock = open(file->lock_path, O_RDWR | O_CREAT | O_NONBLOCK, 0666);
         if (lock < 0)
             return is_not_kept(file, file->lock_path, why);
+        fchmod(lock, 0666); /* so that what one user's killed audit leaves keeps no other user out; it is empty */
         if (!is_held(lock, F_SETLK, &held) && ((errno != EACCES && errno != EAGAIN) || !is_waited_for(file, lock))) {
             is_not_kept(file, file->lock_path, why);
             close(lock);
