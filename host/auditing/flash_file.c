@@ -142,7 +142,7 @@ static bool may_be_kept(struct flash_file *file, char *why) {
         return can_not_be_kept(file, "read-only, so it is not kept; to allow it: chmod u+w", why);
     if (file->look.names > 1)
         return can_not_be_kept(file, "it has more than one name (hard links), of which only one would be kept", why);
-    return (file->look.owner == geteuid() || geteuid() == 0) || can_not_be_kept(file, "another user owns it, and would not any more", why);
+    return (file->look.owner == geteuid() || geteuid() == 0) || can_not_be_kept(file, "another user owns it, and keeping it would change that", why);
 }
 
 /* Reading. */
