@@ -119,11 +119,17 @@ static void audit_image(struct audit *audit, const char *path) {
     count(audit, path, &finding);
 }
 
+static bool is_report_written(void) { return fflush(stdout) == 0 && !ferror(stdout); }
+
+/* The flash is kept where the node did as it should and what it did is told. */
 static void keep(struct audit *audit) {
+    struct text text;
     if (audit->status == NOT_TRUSTED || audit->totals[DIFFERS] != 0) {
-        struct text text;
         say(audit->why, "%s is not written back, since the node did not do as it should", shown(audit->options.flash, &text));
         complain(audit, SOME_DIFFER);
+    } else if (!is_report_written()) {
+        say(audit->why, "%s is not written back, since the report can't be written", shown(audit->options.flash, &text));
+        complain(audit, NOT_READ);
     } else if (!flash_file_write(&audit->file, &audit->node, audit->why)) {
         complain(audit, NOT_READ);
     }
@@ -194,7 +200,7 @@ int main(int count, char **arguments) {
     else
         run(&audit);
     flash_file_close(&audit.file);
-    if (fflush(stdout) != 0 || ferror(stdout)) {
+    if (!is_report_written()) {
         say(audit.why, "the report can't be written");
         complain(&audit, NOT_READ);
     }
