@@ -106,6 +106,7 @@ static bool is_locked(struct flash_file *file, char *why) {
         int lock = open(file->lock_path, O_RDWR | O_CREAT | O_NONBLOCK, 0666);
         if (lock < 0)
             return is_not_kept(file, file->lock_path, why);
+        fchmod(lock, 0666); /* so that what one user's killed audit leaves keeps no other user out; it is empty */
         if (!is_held(lock, F_SETLK, &held) && ((errno != EACCES && errno != EAGAIN) || !is_waited_for(file, lock))) {
             is_not_kept(file, file->lock_path, why);
             close(lock);
@@ -141,7 +142,7 @@ static bool may_be_kept(struct flash_file *file, char *why) {
         return can_not_be_kept(file, "read-only, so it is not kept; to allow it: chmod u+w", why);
     if (file->look.names > 1)
         return can_not_be_kept(file, "it has more than one name (hard links), of which only one would be kept", why);
-    return (file->look.owner == geteuid() || geteuid() == 0) || can_not_be_kept(file, "another user owns it, and would not any more", why);
+    return (file->look.owner == geteuid() || geteuid() == 0) || can_not_be_kept(file, "another user owns it, and keeping it would change that", why);
 }
 
 /* Reading. */

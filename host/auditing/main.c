@@ -1,5 +1,9 @@
 /* The audit: the options, the flash, what is to be erased, the images one after the other, the directory, the flash kept. */
+#define _POSIX_C_SOURCE 200809L
 #include "audit.h"
+
+#include <fcntl.h>
+#include <unistd.h>
 
 enum { ALL_AGREE = 0, SOME_DIFFER = 1, NOT_READ = 2, NOT_TRUSTED = 3 }; /* the exit status: the highest that holds */
 
@@ -115,11 +119,17 @@ static void audit_image(struct audit *audit, const char *path) {
     count(audit, path, &finding);
 }
 
+static bool is_report_written(void) { return fflush(stdout) == 0 && !ferror(stdout); }
+
+/* The flash is kept where the node did as it should and what it did is told. */
 static void keep(struct audit *audit) {
+    struct text text;
     if (audit->status == NOT_TRUSTED || audit->totals[DIFFERS] != 0) {
-        struct text text;
         say(audit->why, "%s is not written back, since the node did not do as it should", shown(audit->options.flash, &text));
         complain(audit, SOME_DIFFER);
+    } else if (!is_report_written()) {
+        say(audit->why, "%s is not written back, since the report can't be written", shown(audit->options.flash, &text));
+        complain(audit, NOT_READ);
     } else if (!flash_file_write(&audit->file, &audit->node, audit->why)) {
         complain(audit, NOT_READ);
     }
@@ -163,8 +173,21 @@ static void run(struct audit *audit) {
         keep(audit);
 }
 
+/* A descriptor of the first three that is closed would be given to the next file that is opened, and the report would be written there. */
+static bool is_output_there(char *why) {
+    bool is_there = fcntl(STDOUT_FILENO, F_GETFD) != -1;
+    for (int file = 0; file <= STDERR_FILENO; file++)
+        if (fcntl(file, F_GETFD) == -1 && open("/dev/null", O_RDWR) != file)
+            return say(why, "/dev/null can't be opened");
+    return is_there || say(why, "the report can't be written: standard output is closed");
+}
+
 int main(int count, char **arguments) {
     static struct audit audit = {.file = {.lock = -1}};
+    if (!is_output_there(audit.why)) {
+        complain(&audit, NOT_READ);
+        return NOT_READ;
+    }
     if (!options_read(count - 1, arguments + 1, &audit.options, audit.why)) {
         complain(&audit, NOT_READ);
         fprintf(stderr, "usage: host/audit [OPTION..] IMAGE..    as in: host/audit examples/images\n"
@@ -177,7 +200,7 @@ int main(int count, char **arguments) {
     else
         run(&audit);
     flash_file_close(&audit.file);
-    if (fflush(stdout) != 0 || ferror(stdout)) {
+    if (!is_report_written()) {
         say(audit.why, "the report can't be written");
         complain(&audit, NOT_READ);
     }

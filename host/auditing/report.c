@@ -137,7 +137,7 @@ void report_left_out(const char *path, const char *why) {
         return;
     }
     begin_object();
-    print_text("left out", path);
+    print_text("left_out", path);
     print_text("why", why);
     end_object();
 }
@@ -182,7 +182,7 @@ static void totals_in_json(const size_t *totals, size_t all, size_t left_out) {
     print_number("images", true, all);
     for (int i = 0; i < VERDICTS; i++)
         print_number(verdicts[i], true, totals[i]);
-    print_number("left out", true, left_out);
+    print_number("left_out", true, left_out);
     end_object();
 }
 
