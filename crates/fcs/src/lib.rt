@@ -263,20 +263,34 @@ const TABLE: [u16; 256] = [
     0x1EF0,
 ];
 
-// The register after one more byte. The table is lent: a function that names a constant array copies it to its own frame, so
-// only those that the world calls do, once a call.
-fn byte_step(table: &[u16; 256], c: u16, byte: u16) -> u16
-    requires { ⌜ byte < 256 ⌝ }
-    requires { ⌜ Divides (now table) ⌝ }
-    ensures { λ r. ⌜ r ≡ fcsByte c byte ⌝ }
+fn wide_byte(byte: u8) -> u32
+    ensures { λ r. ⌜ (r ≡ byte) × (r < 256) ⌝ }
 {
-    table[((c >> 8) ^ byte) as usize] ^ (c << 8)
+    byte as u32
+}
+
+fn wide_word(word: u16) -> u32
+    ensures { λ r. ⌜ (r ≡ word) × (r < 65536) ⌝ }
+{
+    word as u32
+}
+
+// The register after one more byte. The table is lent: a function that names a constant array copies it to its own frame, so
+// only those that the world calls do, once a call. The register is held in 32 bits: a processor
+// is slower at 16.
+fn byte_step(table: &[u16; 256], c: u32, byte: u32) -> u32
+    requires { ⌜ (c < 65536) × (byte < 256) ⌝ }
+    requires { ⌜ Divides (now table) ⌝ }
+    ensures { λ r. ⌜ (r ≡ fcsByte c byte) × (r < 65536) ⌝ }
+{
+    wide_word(table[((c >> 8) ^ byte) as usize]) ^ (c % 256 * 256)
 }
 
 // The register after one more word: its high byte, then its low byte.
-fn word_step(table: &[u16; 256], c: u16, word: u16) -> u16
+fn word_step(table: &[u16; 256], c: u32, word: u32) -> u32
+    requires { ⌜ (c < 65536) × (word < 65536) ⌝ }
     requires { ⌜ Divides (now table) ⌝ }
-    ensures { λ r. ⌜ r ≡ fcsWord c word ⌝ }
+    ensures { λ r. ⌜ (r ≡ fcsWord c word) × (r < 65536) ⌝ }
 {
     byte_step(table, byte_step(table, c, word >> 8), word % 256)
 }
@@ -286,13 +300,13 @@ pub fn fcs_from(start: u16, words: &[u16]) -> u16
     ensures { λ r. ⌜ r ≡ fcsFrom start (now (words .entry)) ⌝ }
 {
     let table = TABLE;
-    let mut c = start;
+    let mut c = wide_word(start);
     let mut i = 0;
     while i < words.len() {
-        c = word_step(&table, c, words[i]);
+        c = word_step(&table, c, wide_word(words[i]));
         i += 1;
     }
-    c
+    c as u16
 }
 
 // The check sequence of a run of words.
@@ -300,12 +314,6 @@ pub fn fcs(words: &[u16]) -> u16
     ensures { λ r. ⌜ r ≡ fcsOf (now (words .entry)) ⌝ }
 {
     fcs_from(0xFFFF, words)
-}
-
-fn wide(byte: u8) -> u16
-    ensures { λ r. ⌜ (r ≡ byte) × (r < 256) ⌝ }
-{
-    byte as u16
 }
 
 // The check sequence of the words that bytes are, for a host that has bytes. They are looked up as they stand: nothing is copied but the
@@ -318,8 +326,12 @@ pub fn fcs_bytes(bytes: &[u8]) -> u16
     let mut c = 0xFFFF;
     let mut i = 0;
     while i < n {
-        c = word_step(&table, c, wide(bytes[i * 2]) + 256 * wide(bytes[i * 2 + 1]));
+        c = word_step(
+            &table,
+            c,
+            wide_byte(bytes[i * 2]) + 256 * wide_byte(bytes[i * 2 + 1]),
+        );
         i += 1;
     }
-    c
+    c as u16
 }
