@@ -71,7 +71,7 @@ pub record FlashSettled : Type 0 where
   pub change-erasing-after : Settles Flash.change.erasing_after.Kinds.ps Flash.change.erasing_after.Kinds.r Flash.change.erasing_after.Reads.Learnt
   pub directory-status-word : Settles Flash.directory.status_word.Kinds.ps Flash.directory.status_word.Kinds.r Flash.directory.status_word.Reads.Learnt
   pub directory-with-entry : Settles Flash.directory.with_entry.Kinds.ps Flash.directory.with_entry.Kinds.r Flash.directory.with_entry.Reads.Learnt
-  pub directory-refresh : Settles Flash.directory.refresh.Kinds.ps Flash.directory.refresh.Kinds.r Flash.directory.refresh.Reads.Learnt
+  pub directory-sector-status : Settles Flash.directory.sector_status.Kinds.ps Flash.directory.sector_status.Kinds.r Flash.directory.sector_status.Reads.Learnt
   pub directory-scan : Settles Flash.directory.scan.Kinds.ps Flash.directory.scan.Kinds.r Flash.directory.scan.Reads.Learnt
   pub directory-entry-is : Settles Flash.directory.entry_is.Kinds.ps Flash.directory.entry_is.Kinds.r Flash.directory.entry_is.Reads.Learnt
   pub directory-kept-status : Settles Flash.directory.kept_status.Kinds.ps Flash.directory.kept_status.Kinds.r Flash.directory.kept_status.Reads.Learnt
@@ -79,6 +79,7 @@ pub record FlashSettled : Type 0 where
   pub finding-search : Settles Flash.finding.search.Kinds.ps Flash.finding.search.Kinds.r Flash.finding.search.Reads.Learnt
   pub finding-target : Settles Flash.finding.target.Kinds.ps Flash.finding.target.Kinds.r Flash.finding.target.Reads.Learnt
   pub finding-sector-at : Settles Flash.finding.sector_at.Kinds.ps Flash.finding.sector_at.Kinds.r Flash.finding.sector_at.Reads.Learnt
+  pub finding-is-offered : Settles Flash.finding.is_offered.Kinds.ps Flash.finding.is_offered.Kinds.r Flash.finding.is_offered.Reads.Learnt
   pub finding-place : Settles Flash.finding.place.Kinds.ps Flash.finding.place.Kinds.r Flash.finding.place.Reads.Learnt
   pub sectors-is-sector : Settles Flash.sectors.is_sector.Kinds.ps Flash.sectors.is_sector.Kinds.r Flash.sectors.is_sector.Reads.Learnt
   pub sectors-sector-size : Settles Flash.sectors.sector_size.Kinds.ps Flash.sectors.sector_size.Kinds.r Flash.sectors.sector_size.Reads.Learnt
