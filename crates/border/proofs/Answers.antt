@@ -50,7 +50,7 @@ use Rattle.logodwen.proofs.Small.{size-most}
 use Rattle.border.specs.Exactly.{entries}
 use Rattle.border.specs.Host.{Entry, isDone}
 use Rattle.border.specs.Answers.{InBits, Says, Bounds, answerIn, NothingCut}
-use Rattle.border.proofs.Fine.{state-sound}
+use Rattle.logodwen.proofs.Fine.{state-sound}
 use Rattle.border.proofs.Steps.{Made, start-begins, done-made, done-taken}
 use Rattle.border.proofs.Replies.{Short, own-replied}
 
