@@ -52,7 +52,7 @@ static void lay_full(uint16_t *sector, size_t size) {
 static void scans(bool plain) { kept = plain ? plain_scan(words, FLASH_WORDS, 2) : perf_scan(words, FLASH_WORDS, 2); }
 
 int perf_flash_runs(void) {
-    static const struct row row = {"scan of eight full sectors, full size", NULL, scans, 2, 1.30};
+    static const struct row row = {"scan of eight full sectors, full size", NULL, scans, 1, 1.30};
     lay_full(words + UNIT, UNIT);
     for (size_t start = UNIT * 2; start < FLASH_WORDS; start += UNIT * 2)
         lay_full(words + start, UNIT * 2);

@@ -36,7 +36,7 @@ static size_t lay_file(void) {
 static void ends(bool plain) { kept = plain ? plain_file_end(words, FILE_WORDS) : perf_file_end(words, FILE_WORDS); }
 
 int perf_image_runs(void) {
-    static const struct row row = {"file_end on a file of 4,096 words", NULL, ends, 100, 1.30};
+    static const struct row row = {"file_end on a file of 4,096 words", NULL, ends, 10, 1.30};
     if (lay_file() != FILE_WORDS || perf_file_end(words, FILE_WORDS) != FILE_WORDS || plain_file_end(words, FILE_WORDS) != FILE_WORDS)
         return measure_differs("file_end");
     return measure(&row, 1);

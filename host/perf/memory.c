@@ -62,8 +62,8 @@ static void writes(bool plain) {
 }
 
 int perf_memory_runs(void) {
-    static const struct row rows[] = {{"read of a DM run of 8,000 words, on words", NULL, reads, 20, 1.50},
-                                      {"write of a DM run of 8,000 words, on words", NULL, writes, 20, 1.50}};
+    static const struct row rows[] = {{"read of a DM run of 8,000 words, on words", NULL, reads, 4, 1.50},
+                                      {"write of a DM run of 8,000 words, on words", NULL, writes, 4, 1.50}};
     for (unsigned i = 0; i < DM_WORDS; i++)
         dm[i] = other[i] = (uint16_t)(i * 40503u + 12345u);
     segment[0] = FIRST;

@@ -48,10 +48,10 @@ use Rattle.logodwen.specs.Entry.{memoryWords, replyWords, isSet}
 use Rattle.logodwen.proofs.Runs.{length-words, length-words-of}
 use Rattle.logodwen.proofs.Entering.{reply-fine, poll-fine, erase-fine}
 use Rattle.logodwen.proofs.Small.{size-most}
+use Rattle.logodwen.proofs.Fine.{state-sound}
 use Rattle.border.specs.Exactly.{entries}
 use Rattle.border.specs.Host.{Entry, numberAfter, isDone}
 use Rattle.border.specs.Answers.{InBits, Says, Bounds, answerIn, NothingCut, endNumber}
-use Rattle.border.proofs.Fine.{state-sound}
 use Rattle.border.proofs.Steps.{Made, start-begins, done-made, done-taken}
 use Rattle.border.proofs.Replies.{Short, own-replied}
 

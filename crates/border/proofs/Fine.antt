@@ -2,75 +2,26 @@
 -- state that they stand for pass the node's. Assumes nothing.
 use Prim.Native.Nat.{ℕ, _/_, _≤_}
 use native.Mathlib.Omega.{arith}
-use mathlib.Core.Path.{_≡_, refl, sym, ap, _∙_}
-use mathlib.Core.Bool.{Bool, true, false, _&&_, _||_, not}
+use mathlib.Core.Path.{_≡_, ap, _∙_}
+use mathlib.Core.Bool.{Bool, false, _||_, not}
 use mathlib.Core.List.{List, [], _∷_}
 use lib.ListN.{length, take}
 use lib.Seq.{length-take-le}
 use lib.Dec.{ltb, eqb}
-use borrow.Author.Tests.{ltb-true, ltb-false, le-ltb, lt-leb, eqb-true, eq-eqb, not-false}
-use Rattle.base.specs.Pick.{pick}
-use Rattle.base.proofs.Pick.{no, and-right}
+use borrow.Author.Tests.{ltb-false, eqb-true, not-false}
 use Rattle.node.specs.Effect.{Lent}
-use Rattle.node.specs.Valid.{sizeOk, kindOk, portsOk, stateOk}
-use Rattle.node.specs.Refusals.{Cause, cause, firstOf, flashCause, replyCause, memoryCause, linkCause, slaveCause, stateCause, busyCause, pollCause, unaskedCause, requestVerdict, replyVerdict, pollVerdict, eraseVerdict, startVerdict}
+use Rattle.node.specs.Valid.{sizeOk, kindOk, portsOk}
+use Rattle.node.specs.Refusals.{cause, flashCause, replyCause, memoryCause, linkCause, slaveCause, stateCause, busyCause, pollCause, unaskedCause, requestVerdict, replyVerdict, pollVerdict, eraseVerdict, startVerdict}
 use Rattle.node.specs.declared.Refusal.{Refusal}
 use Rattle.node.specs.declared.Verdict.{Verdict}
-use Rattle.node.proofs.Verdicts.{NoneHolds, fine-tells, or-neither}
+use Rattle.node.proofs.Verdicts.{fine-tells}
 use Rattle.demands.proofs.Taken.{verdictOn}
 use Rattle.logodwen.specs.Bytes.{wordsOf}
-use Rattle.logodwen.specs.StateBytes.{sizeIn, portsIn, encodeOf, nodeIn, alike, areState}
-use Rattle.logodwen.specs.Causes.{keptOk, linkOk, benchCause, memoriesCause, lengthCause, portCause, bytesCause, requestCheck, replyCheck, pollCheck, eraseCheck, startCheck}
+use Rattle.logodwen.specs.StateBytes.{nodeIn}
+use Rattle.logodwen.specs.Causes.{benchCause, memoriesCause, lengthCause, portCause, bytesCause, requestCheck, replyCheck, pollCheck, eraseCheck, startCheck}
 use Rattle.logodwen.specs.Entry.{replyWords, runWords}
 use Rattle.logodwen.proofs.Runs.{length-words-of}
-use Rattle.logodwen.proofs.Entering.{state-long}
-
--- where no cause holds, none refuses
-none-refuses : (causes : List Cause) → NoneHolds causes → firstOf causes ≡ Verdict.Fine
-none-refuses [] h = refl
-none-refuses (c ∷ causes) h = sym (no _ (h .0) (sym (none-refuses causes (h .1))))
-
--- bytes that pass refusal 5 stand for a state
-pub state-sound : (state : List ℕ) → areState state ≡ true → stateOk (nodeIn state) ≡ true
-unfolding areState
-state-sound state h =
-    let same = alike (encodeOf (nodeIn state)) state in
-    and-right same (stateOk (nodeIn state)) (and-right (eqb (length state) 172) (same && stateOk (nodeIn state)) h)
-
--- what is read off the state bytes as they are is what their node keeps
-where-long : (state : List ℕ) (t : Bool) → areState state ≡ true → pick (eqb (length state) 172) t true ≡ true → t ≡ true
-where-long state t h e = sym (ap (λ (b : Bool). pick b t true) (eq-eqb (length state) 172 (state-long state h))) ∙ e
-
--- cause by cause
-
-state-no : (state : List ℕ) → bytesCause state .holds ≡ false → stateCause (nodeIn state) .holds ≡ false
-state-no state h = ap not (state-sound state (not-false (areState state) h))
-
-flash-no : (state : List ℕ) (flash : ℕ) → bytesCause state .holds ≡ false → benchCause state flash .holds ≡ false
-    → flashCause (nodeIn state) flash .holds ≡ false
-unfolding nodeIn
-flash-no state flash s h =
-    let both = or-neither (not (eqb flash 32768)) (not (keptOk state flash)) h in
-    let bench : flash ≡ 32768 = eqb-true flash 32768 (not-false (eqb flash 32768) (both .0)) in
-    let kept : eqb flash (sizeIn state) ≡ true =
-    where-long state (eqb flash (sizeIn state)) (not-false (areState state) s) (not-false (keptOk state flash) (both .1)) in
-    (λ i. not (sizeOk (bench i)) || not (eqb flash (sizeIn state))) ∙ ap not kept
-
-memory-no : (pm dm io : ℕ) → memoriesCause pm dm io .holds ≡ false → memoryCause pm dm io .holds ≡ false
-memory-no pm dm io h =
-    let a = or-neither (ltb 8192 pm || ltb 8192 dm) (ltb 4096 io) h in
-    let b = or-neither (ltb 8192 pm) (ltb 8192 dm) (a .0) in
-    let p : ltb 32768 pm ≡ false = le-ltb 32768 pm (omega (arith, ltb-false 8192 pm (b .0))) in
-    let d : ltb 32768 dm ≡ false = le-ltb 32768 dm (omega (arith, ltb-false 8192 dm (b .1))) in
-    (λ i. p i || d i || ltb 4096 io) ∙ a .1
-
-link-no : (state : List ℕ) (link : ℕ) → bytesCause state .holds ≡ false → portCause state link .holds ≡ false
-    → linkCause (nodeIn state) link .holds ≡ false
-unfolding nodeIn
-link-no state link s h =
-    let below : ltb link (portsIn state) ≡ true =
-    where-long state (ltb link (portsIn state)) (not-false (areState state) s) (not-false (linkOk state link) h) in
-    lt-leb (portsIn state) link (ltb-true link (portsIn state) below)
+use Rattle.logodwen.proofs.Fine.{none-refuses, state-no, flash-no, memory-no, link-no}
 
 -- the lent part of a reply buffer that passes refusal 2 is long enough
 reply-long : (reply : List ℕ) → replyCause (length reply / 2) .holds ≡ false → length (replyWords reply) ≡ 12288

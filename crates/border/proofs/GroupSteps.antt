@@ -44,7 +44,7 @@ use Rattle.border.specs.Host.{Entry, InC, onWords, isDone}
 use Rattle.border.specs.Answers.{Says, answerIn}
 use Rattle.border.specs.Events.{Event, entryOf, Host, slaveIn, stepped, isPending}
 use Rattle.border.proofs.Runs.{words-of-below, stored-below, laid-front, store-laid, store-front}
-use Rattle.border.proofs.Fine.{state-sound}
+use Rattle.logodwen.proofs.Fine.{state-sound}
 use Rattle.border.proofs.Exactly.{done-low, refused-exactly}
 use Rattle.border.proofs.Steps.{Made, outcomeOf, done-made}
 use Rattle.border.proofs.Stands.{Stands, made-moves}

@@ -22,7 +22,7 @@ use Rattle.logodwen.proofs.Runs.{length-words}
 use Rattle.logodwen.proofs.ThereAndBack.{decoded-encoded, encoded-decoded}
 use Rattle.border.specs.Exactly.{OfState, StateBytesExactly}
 use Rattle.border.proofs.Runs.{value-below, words-below, below-digits, below-bytes}
-use Rattle.border.proofs.Fine.{state-sound}
+use Rattle.logodwen.proofs.Fine.{state-sound}
 
 -- what is stored is below 256
 

@@ -12,7 +12,7 @@ use Rattle.base.proofs.Pick.{yes, no}
 use Rattle.base.proofs.Laid.{laid-cons, laid-snoc}
 use Rattle.group.specs.Kind.{Answer, kindOf}
 use Rattle.group.specs.Tally.{tallied}
-use Rattle.group.specs.Fragment.{statusOf, dataOf, framed, fragmentBy, fragmentOf, Assembly, assembly, built, behind, taken}
+use Rattle.group.specs.Fragment.{statusOf, dataOf, framed, fragmentOf, Assembly, assembly, built, behind, takenAs, taken}
 use Rattle.group.specs.declared.Built.{Built}
 use Rattle.group.specs.declared.Kind.{Kind}
 use Rattle.group.specs.declared.Tally.{Tally}
@@ -42,13 +42,16 @@ module _ (r : List ℕ) (b : Built) (t : Tally) (ws : List ℕ) (status : ℕ) w
       yes _ (ap (λ (x : ℕ). leb (w + x) (length r)) (length-framed ws status) ∙ e)
       (ap (λ (x : List ℕ). assembly x (built (w + length ws + 2) t)) stored ∙ ap (λ (x : ℕ). assembly (laid r w (framed ws status)) (built x t)) n)
 
--- an answer taken, from its kind, its tally, its status word and its data
-pub taken-by : (m : Assembly) (k slave : ℕ) (a : Answer) (kind : Kind) (t : Tally) (status : ℕ) (ws : List ℕ)
-    → kind ≡ kindOf a (m .built .words) k → t ≡ tallied (m .built .tally) kind → status ≡ statusOf kind (a .words) slave → ws ≡ dataOf kind a
-    → behind m t (framed ws status) ≡ taken m k slave a
-unfolding taken fragmentOf
-taken-by m k slave a kind t status ws e f g h =
+-- an answer of a kind taken, from its tally, its status word and its data
+pub taken-kind : (m : Assembly) (slave : ℕ) (a : Answer) (kind : Kind) (t : Tally) (status : ℕ) (ws : List ℕ)
+    → t ≡ tallied (m .built .tally) kind → status ≡ statusOf kind (a .words) slave → ws ≡ dataOf kind a
+    → behind m t (framed ws status) ≡ takenAs m kind slave a
+taken-kind m slave a kind t status ws f g h =
     ap (λ (x : Tally). behind m x (framed ws status)) f
     ∙ ap (λ (x : ℕ). behind m (tallied (m .built .tally) kind) (framed ws x)) g
     ∙ ap (λ (x : List ℕ). behind m (tallied (m .built .tally) kind) (framed x (statusOf kind (a .words) slave))) h
-    ∙ ap (λ (x : Kind). behind m (tallied (m .built .tally) x) (fragmentBy x slave a)) e
+
+-- an answer taken, by its kind
+pub taken-by : (m : Assembly) (k slave : ℕ) (a : Answer) {kind : Kind} → kind ≡ kindOf a (m .built .words) k → takenAs m kind slave a ≡ taken m k slave a
+unfolding taken fragmentOf
+taken-by m k slave a e = ap (λ (x : Kind). takenAs m x slave a) e

@@ -81,6 +81,10 @@ behind m t new =
     (assembly (laid (m .reply) (m .built .words) new) (built (m .built .words + length new) t))
     m
 
+-- An answer of a kind taken into the assembly.
+abbrev pub takenAs : Assembly → Kind → ℕ → Answer → Assembly
+takenAs m kind slave a = behind m (tallied (m .built .tally) kind) (fragmentBy kind slave a)
+
 -- A slave's answer taken into the assembly, with k slaves yet to ask.
 unfoldable pub taken : Assembly → ℕ → ℕ → Answer → Assembly
 taken m k slave a =

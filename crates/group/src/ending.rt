@@ -51,7 +51,7 @@ fn error_bit(tally: Tally) -> u16
 }
 
 // The group's status word from the node's own.
-fn group_status(tally: Tally, own: u16) -> u16
+pub fn group_status(tally: Tally, own: u16) -> u16
     ensures { λ r. ⌜ r ≡ groupStatus tally own ⌝ }
 {
     own / 1024 * 1024 + error_bit(tally) * 512 + own / 64 % 8 * 64 + own % 32

@@ -4,7 +4,8 @@ ghost use Prim.Native.Nat.{min, _+_, _≤_, _<_};
 ghost use lib.Dec.{leb};
 ghost use lib.ListN.{length};
 ghost use Rattle.group.specs.Kind.{answer, datOf, codeOf};
-ghost use Rattle.group.specs.Fragment.{statusWord, slaveBits, faultBits, bitsOf, statusOf, framed, assembly, behind, taken};
+ghost use Rattle.group.specs.Fragment.{statusWord, slaveBits, faultBits, bitsOf, statusOf, framed, assembly, behind, takenAs, taken};
+ghost use Rattle.group.specs.declared.Kind.{Kind};
 use crate::Built;
 use crate::Fault;
 use crate::Heard;
@@ -100,7 +101,7 @@ fn counted(n: usize) -> u16
 }
 
 // n words have a place from one on in a run.
-pub(crate) fn fits(at: usize, n: usize, run: usize) -> bool
+pub fn fits(at: usize, n: usize, run: usize) -> bool
     ensures { λ r. ⌜ r ≡ leb (at + n) run ⌝ }
 {
     if run < n {
@@ -128,19 +129,20 @@ fn lay(reply: &mut [u16], built: Built, tally: Tally, words: &[u16], status: u16
     }
 }
 
-// A slave's answer taken into the assembly, with `left` slaves yet to ask.
-pub fn take_answer(
+// An answer of a known kind taken into the assembly.
+pub fn take_as(
     reply: &mut [u16],
     built: Built,
-    left: usize,
+    kind: Kind,
     slave: u32,
     heard: Heard,
     words: &[u16],
 ) -> Built
-    ensures { λ r. ⌜ assembly (now (reply .exit)) r ≡ taken (assembly (now (reply .entry)) built) left slave (answer heard (now (words .entry))) ⌝ }
+    requires { ⌜ (datOf kind ≡ 1 → 0 < length (now words)) ⌝ }
+    requires { ⌜ (kind ≡ Kind.Whole → (2 ≤ length (now words)) × (length (now words) ≤ 12288)) ⌝ }
+    ensures { λ r. ⌜ assembly (now (reply .exit)) r ≡ takenAs (assembly (now (reply .entry)) built) kind slave (answer heard (now (words .entry))) ⌝ }
 {
     let n = words.len();
-    let kind = kind_of(heard, words, built.words, left);
     let before = built.tally;
     let next = tallied(before, kind);
     let status = status_of(kind, words, slave);
@@ -157,4 +159,19 @@ pub fn take_answer(
         }
         Kind::Whole => lay(reply, built, next, &words[0..n - 2], status),
     }
+}
+
+// A slave's answer taken into the assembly, with `left` slaves yet to ask.
+pub fn take_answer(
+    reply: &mut [u16],
+    built: Built,
+    left: usize,
+    slave: u32,
+    heard: Heard,
+    words: &[u16],
+) -> Built
+    ensures { λ r. ⌜ assembly (now (reply .exit)) r ≡ taken (assembly (now (reply .entry)) built) left slave (answer heard (now (words .entry))) ⌝ }
+{
+    let kind = kind_of(heard, words, built.words, left);
+    take_as(reply, built, kind, slave, heard, words)
 }

@@ -19,7 +19,6 @@ use Rattle.node.specs.Refusals.{eraseVerdict}
 use Rattle.node.specs.Calls.{judged, steppedTo, eraseOf, eraseEffect, lentFlash}
 use Rattle.node.specs.declared.Answer.{Answer}
 use Rattle.node.specs.declared.Node.{Node}
-use Rattle.node.specs.declared.Refusal.{Refusal}
 use Rattle.node.specs.declared.Turn.{Turn}
 use Rattle.node.specs.declared.Verdict.{Verdict}
 use Rattle.node.proofs.Blanks.{step-idle, step-set}
@@ -112,10 +111,3 @@ module _ (n : Node) (budget : ℕ) (flash : List ℕ) (size : length flash / 2 �
       → o ≡ inBytes (applied n (lentFlash (wordsOf 2 flash)) (eraseEffect n budget (wordsOf 2 flash))) (lentFlash flash)
       → o ≡ inBytes (eraseOf n budget (wordsOf 2 flash)) (lentFlash flash)
   erase-taken v h = h ∙ sym (ap by v) ∙ sym (ap (λ (o : Outcome). inBytes o (lentFlash flash)) erase-judged)
-
-  pub erase-refused : (r : Refusal) {t : Turn} → Below 256 flash → eraseVerdict n 32768 ≡ Verdict.No r → t ≡ turn n (Answer.Refused r)
-      → outcome t (lentFlash flash) ≡ inBytes (eraseOf n budget (wordsOf 2 flash)) (lentFlash flash)
-  erase-refused r b v m =
-      left-flash (λ (w : List ℕ). outcome (turn n (Answer.Refused r)) (lentFlash w)) flash (wordsOf 2 flash) refl
-      (ap (λ (x : Turn). outcome x (lentFlash (wordsOf 2 flash))) m) (sym (bytes-kept 2 flash b))
-      ∙ sym (ap by v) ∙ sym (ap (λ (o : Outcome). inBytes o (lentFlash flash)) erase-judged)

@@ -7,14 +7,11 @@ use native.Mathlib.Omega.{arith}
 use native.Mathlib.Decide.{decLe}
 use lib.ListN.{length, getD}
 use borrow.Author.Tests.{ne-eqb, lt-ltb}
-use Rattle.node.specs.State.{turn}
 use Rattle.node.specs.Effect.{Lent, Outcome, outcome, applied}
 use Rattle.node.specs.Refusals.{requestVerdict}
 use Rattle.node.specs.Route.{routeBy, routeOf}
 use Rattle.node.specs.Calls.{judged, routed, passedBy, requestOf}
-use Rattle.node.specs.declared.Answer.{Answer}
 use Rattle.node.specs.declared.Node.{Node}
-use Rattle.node.specs.declared.Refusal.{Refusal}
 use Rattle.node.specs.declared.Route.{Route}
 use Rattle.node.specs.declared.Turn.{Turn}
 use Rattle.node.specs.declared.Verdict.{Verdict}
@@ -48,12 +45,6 @@ module _ (n : Node) (clock link bc : ℕ) (errors : Bool) (packet : List ℕ) (l
   judged-in : Lends l → asked ≡ judged verdictIn n (runWords l) (routed routeIn n clock link (wordsOf 2 packet) (runWords l))
   unfolding requestOf
   judged-in b = sym (ap (λ (v : Verdict). judged v n (runWords l) (routed routeIn n clock link (wordsOf 2 packet) (runWords l))) (verdict-in b))
-
-  -- refused: nothing is touched
-  pub refused-left : Lends l → (r : Refusal) {t : Turn} → verdictIn ≡ Verdict.No r → t ≡ turn n (Answer.Refused r) → outcome t l ≡ inBytes asked l
-  refused-left b r {t} v e =
-      ap (λ (x : Turn). outcome x l) e ∙ runs-kept (turn n (Answer.Refused r)) l b
-      ∙ sym (ap (λ (o : Outcome). inBytes o l) (judged-in b ∙ ap (λ (x : Verdict). judged x n (runWords l) (routed routeIn n clock link (wordsOf 2 packet) (runWords l))) v))
 
   -- taken, by the route
   pub taken-in : Lends l → verdictIn ≡ Verdict.Fine → {r : Route} → routeIn ≡ r → asked ≡ applied n (runWords l) (routed r n clock link (wordsOf 2 packet) (runWords l))

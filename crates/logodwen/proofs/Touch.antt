@@ -36,7 +36,7 @@ length-reply reply h = length-words-of 2 (take 24576 reply) ∙ ap (λ (n : ℕ)
 pub reply-kept : (reply : List ℕ) → 12288 ≤ length reply / 2 → Below 256 reply → storeWords 2 (replyWords reply) reply ≡ reply
 reply-kept reply h b = ap (λ (l : List ℕ). storeWords 2 l reply) (reply-words reply h) ∙ store-words 2 12288 reply (omega arith) b
 
-reply-front : (reply ws : List ℕ) → 12288 ≤ length reply / 2 → length ws ≤ 12288 → Below 256 reply
+pub reply-front : (reply ws : List ℕ) → 12288 ≤ length reply / 2 → length ws ≤ 12288 → Below 256 reply
     → storeWords 2 (laid (replyWords reply) 0 ws) reply ≡ storeWords 2 ws reply
 reply-front reply ws h short b =
     ap (λ (l : List ℕ). storeWords 2 (laid l 0 ws) reply) (reply-words reply h)

@@ -3,12 +3,13 @@ ghost use mathlib.Core.Path.{_≡_};
 ghost use Prim.Native.Nat.{min, _+_, _-_, _*_, _/_, _≤_};
 ghost use lib.ListN.{length};
 ghost use Rattle.node.specs.Effect.{outcome, applied};
+ghost use Rattle.node.specs.Refusals.{eraseVerdict};
+ghost use Rattle.node.specs.declared.Verdict.{Verdict};
 ghost use Rattle.node.specs.Calls.{lentFlash, eraseOf, eraseEffect};
 ghost use Rattle.base.specs.Words.{laid, blanks};
 ghost use Rattle.flash.specs.declared.Erasing.{Erasing};
 ghost use Rattle.logodwen.specs.Bytes.{wordsOf, bytesOf};
 ghost use Rattle.logodwen.specs.Entry.{inBytes};
-use crate::answers::refuse;
 use crate::sectors::first_in;
 use crate::words::blank16;
 use base::least;
@@ -17,7 +18,6 @@ use flash::Progress;
 use node::Answer;
 use node::Node;
 use node::Turn;
-use node::Verdict;
 
 // Sets words of a sector of which so many are done: as many as the budget says, or the rest.
 fn blank_sector(bytes: &mut [u8], start: usize, size: usize, done: usize, budget: usize) -> usize
@@ -63,11 +63,8 @@ fn erase_taken(node: Node, budget: usize, flash: &mut [u8]) -> Turn
 
 pub fn on_erase(node: Node, budget: usize, flash: &mut [u8]) -> Turn
     requires { ⌜ length (now flash) / 2 ≡ 32768 ⌝ }
+    requires { ⌜ eraseVerdict node 32768 ≡ Verdict.Fine ⌝ }
     ensures { λ r. ⌜ outcome r (lentFlash (now (flash .exit))) ≡ inBytes (eraseOf node budget (wordsOf 2 (now (flash .entry)))) (lentFlash (now (flash .entry))) ⌝ }
 {
-    let verdict = node::refusals::erase_verdict(node, 32768);
-    match verdict {
-        Verdict::Fine => erase_taken(node, budget, flash),
-        Verdict::No(refusal) => refuse(node, refusal),
-    }
+    erase_taken(node, budget, flash)
 }

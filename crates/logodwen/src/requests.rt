@@ -11,7 +11,6 @@ ghost use Rattle.node.specs.declared.Verdict.{Verdict};
 ghost use Rattle.node.specs.Calls.{requestOf};
 ghost use Rattle.logodwen.specs.Bytes.{wordsOf};
 ghost use Rattle.logodwen.specs.Entry.{runWords, inBytes};
-use crate::answers::refuse;
 use crate::files::on_file;
 use crate::filing::on_filing;
 use crate::settings::on_settings;
@@ -22,7 +21,6 @@ use crate::words::packet_word;
 use node::Node;
 use node::Route;
 use node::Turn;
-use node::Verdict;
 
 // An own command: on the runs that it touches.
 fn on_own(
@@ -69,7 +67,7 @@ fn on_own(
 }
 
 // A request that is taken, by its route, which its first two words and its length tell.
-fn on_taken(
+pub fn on_request(
     node: Node,
     clock: u32,
     link: u32,
@@ -115,50 +113,5 @@ fn on_taken(
             io,
             reply,
         ),
-    }
-}
-
-// A request.
-pub fn on_request(
-    node: Node,
-    clock: u32,
-    link: u32,
-    bc: u32,
-    errors: bool,
-    packet: &[u8],
-    flash: &mut [u8],
-    pm: &mut [u8],
-    dm: &mut [u8],
-    io: &mut [u8],
-    reply: &mut [u8],
-) -> Turn
-    requires { ⌜ (length (now flash) / 2 ≡ 32768) × (12288 ≤ length (now reply) / 2) × (length (now pm) / 4 ≤ 8192) × (length (now dm) / 2 ≤ 8192) × (length (now io) / 2 ≤ 4096) ⌝ }
-    ensures { λ r. ⌜ outcome r (lent (now (flash .exit)) (memories (now (pm .exit)) (now (dm .exit)) (now (io .exit))) (now (reply .exit))) ≡ inBytes (requestOf node clock link bc errors (wordsOf 2 (now (packet .entry))) (runWords (lent (now (flash .entry)) (memories (now (pm .entry)) (now (dm .entry)) (now (io .entry))) (now (reply .entry))))) (lent (now (flash .entry)) (memories (now (pm .entry)) (now (dm .entry)) (now (io .entry))) (now (reply .entry))) ⌝ }
-{
-    let verdict = node::refusals::request_verdict(
-        node,
-        link,
-        packet.len() / 2,
-        flash.len() / 2,
-        pm.len() / 4,
-        dm.len() / 2,
-        io.len() / 2,
-        12288,
-    );
-    match verdict {
-        Verdict::Fine => on_taken(
-            node,
-            clock,
-            link,
-            bc,
-            errors,
-            packet,
-            flash,
-            pm,
-            dm,
-            io,
-            reply,
-        ),
-        Verdict::No(refusal) => refuse(node, refusal),
     }
 }

@@ -2,16 +2,40 @@
 ghost use mathlib.Core.Path.{_≡_};
 ghost use lib.ListN.{length};
 
+pub fn room_5() -> [u16; 5]
+    ensures { λ r. ⌜ length r ≡ 5 ⌝ }
+{
+    [0; 5]
+}
+
 pub fn room_64() -> [u16; 64]
     ensures { λ r. ⌜ length r ≡ 64 ⌝ }
 {
     [0; 64]
 }
 
+pub fn room_69() -> [u16; 69]
+    ensures { λ r. ⌜ length r ≡ 69 ⌝ }
+{
+    [0; 69]
+}
+
 pub fn room_97() -> [u16; 97]
     ensures { λ r. ⌜ length r ≡ 97 ⌝ }
 {
     [0; 97]
+}
+
+pub fn room_1024() -> [u16; 1024]
+    ensures { λ r. ⌜ length r ≡ 1024 ⌝ }
+{
+    [0; 1024]
+}
+
+pub fn room_1029() -> [u16; 1029]
+    ensures { λ r. ⌜ length r ≡ 1029 ⌝ }
+{
+    [0; 1029]
 }
 
 pub fn room_4096() -> [u16; 4096]
@@ -42,6 +66,12 @@ pub fn room_12288() -> [u16; 12288]
     ensures { λ r. ⌜ length r ≡ 12288 ⌝ }
 {
     [0; 12288]
+}
+
+pub fn room_12293() -> [u16; 12293]
+    ensures { λ r. ⌜ length r ≡ 12293 ⌝ }
+{
+    [0; 12293]
 }
 
 pub fn room_32768() -> [u16; 32768]

@@ -1,22 +1,299 @@
-// A slave's reply, and a poll while a request waits for one.
+// A slave's reply, and a poll while a request waits for one. Of a slave's reply the words that it has are looked at, and of the reply
+// buffer's bytes those that its fragment fills; the end of a group looks at the words built, once.
 ghost use mathlib.Core.Path.{_≡_};
-ghost use Prim.Native.Nat.{_/_, _≤_};
+ghost use Prim.Native.Nat.{_+_, _/_, _≤_, _<_};
 ghost use lib.ListN.{length};
-ghost use Rattle.node.specs.Effect.{outcome};
+ghost use Rattle.fcs.specs.Fcs.{fcsOf};
+ghost use Rattle.group.specs.Kind.{answer};
+ghost use Rattle.group.specs.Fragment.{assembly, taken};
+ghost use Rattle.group.specs.Ending.{sent, sealed, endOf};
+ghost use Rattle.group.specs.Single.{passedOn};
+ghost use Rattle.node.specs.Effect.{outcome, applied};
+ghost use mathlib.Core.Bool.{true};
+ghost use mathlib.Core.List.{[]};
+ghost use Rattle.group.specs.Time.{isLate};
+ghost use Rattle.node.specs.Slaves.{silent, goesOn, hears, askedAt, replyEffect};
 ghost use Rattle.node.specs.Refusals.{pollVerdict};
 ghost use Rattle.node.specs.Calls.{lentReply, replyOf, pollOf};
 ghost use Rattle.logodwen.specs.Bytes.{wordsOf};
 ghost use Rattle.logodwen.specs.Entry.{replyWords, inBytes};
 ghost use Rattle.logodwen.specs.Touch.{waitsBy};
+ghost use Rattle.logodwen.specs.Held.{Rest, bufferWords};
 use crate::answers::refuse;
+use crate::rooms::room_5;
+use crate::rooms::room_64;
+use crate::rooms::room_69;
+use crate::rooms::room_1024;
+use crate::rooms::room_1029;
 use crate::rooms::room_12288;
+use crate::rooms::room_12293;
 use crate::rooms::room_32768;
 use crate::words::load16;
+use crate::words::store_at16;
 use crate::words::store16;
+use base::least;
+use group::Built;
+use group::Heard;
+use group::Next;
+use group::Reply;
+use group::Tally;
+use group::ZeroLength;
+use group::ending::zero_reply;
+use group::fragment::fits;
 use node::Answer;
+use node::Ask;
+use node::Gathering;
 use node::Node;
+use node::Pending;
 use node::Turn;
 use node::Verdict;
+
+// The FCS of words in bytes: so many at a time are taken out.
+fn fcs16(bytes: &[u8]) -> u16
+    ensures { λ r. ⌜ r ≡ fcsOf (wordsOf 2 (now (bytes .entry))) ⌝ }
+{
+    let n = bytes.len() / 2;
+    let mut room = room_64();
+    let mut sum: u16 = 0xFFFF;
+    let mut i = 0;
+    while i < n {
+        let k = least(n - i, 64);
+        let from = i * 2;
+        let to = (i + k) * 2;
+        load16(&bytes[from..to], &mut room);
+        sum = fcs::fcs_from(sum, &room[..k]);
+        i += k;
+    }
+    sum
+}
+
+// A slave's answer taken into the assembly, with `left` slaves yet to ask. Its fragment is made in a room, and stored.
+fn take_in(
+    reply: &mut [u8],
+    built: Built,
+    left: usize,
+    slave: u32,
+    heard: Heard,
+    words: &[u16],
+    room: &mut [u16],
+) -> Built
+    requires { ⌜ (12288 ≤ length (now reply) / 2) × (5 ≤ length (now room)) × (length (now words) ≤ 12288 → length (now words) ≤ length (now room)) ⌝ }
+    ensures { λ r. ⌜ (assembly (bufferWords (now (reply .exit))) r ≡ taken (assembly (bufferWords (now (reply .entry))) built) left slave (answer heard (now (words .entry)))) × Rest 2 12288 (now (reply .entry)) (now (reply .exit)) ⌝ }
+{
+    let before = built.words;
+    let tally = built.tally;
+    let kind = group::judge::kind_of(heard, words, before, left);
+    let grown = group::fragment::take_as(
+        room,
+        Built { words: 0, tally },
+        kind,
+        slave,
+        heard,
+        words,
+    );
+    let n = grown.words;
+    let next = grown.tally;
+    if !fits(before, n, 12288) {
+        return built;
+    }
+    store_at16(&room[..n], reply, before);
+    Built {
+        words: before + n,
+        tally: next,
+    }
+}
+
+// The first w words of the buffer closed by status word and FCS; ABORT where it cannot hold them.
+fn seal_in(reply: &mut [u8], w: usize, status: u16) -> Reply
+    requires { ⌜ 12288 ≤ length (now reply) / 2 ⌝ }
+    ensures { λ r. ⌜ (sent (bufferWords (now (reply .exit))) r ≡ sealed (bufferWords (now (reply .entry))) w status) × Rest 2 12288 (now (reply .entry)) (now (reply .exit)) ⌝ }
+{
+    if !fits(w, 2, 12288) {
+        return zero_reply(ZeroLength::Abort);
+    }
+    let at = w * 2;
+    let sum = fcs16(&reply[..at]);
+    let last = [status];
+    let trailer = [status, fcs::fcs_from(sum, &last)];
+    store_at16(&trailer, reply, w);
+    Reply {
+        bc: 3,
+        words: w + 2,
+    }
+}
+
+// The end of a group, with the node's own status word.
+fn finish_in(reply: &mut [u8], built: Built, own: u16) -> Reply
+    requires { ⌜ 12288 ≤ length (now reply) / 2 ⌝ }
+    ensures { λ r. ⌜ (sent (bufferWords (now (reply .exit))) r ≡ endOf (assembly (bufferWords (now (reply .entry))) built) own) × Rest 2 12288 (now (reply .entry)) (now (reply .exit)) ⌝ }
+{
+    let w = built.words;
+    let tally = built.tally;
+    match tally {
+        Tally::Zero(zero) => zero_reply(zero),
+        Tally::Nothing => seal_in(reply, w, group::ending::group_status(tally, own)),
+        Tally::Whole => seal_in(reply, w, group::ending::group_status(tally, own)),
+        Tally::Mixed => seal_in(reply, w, group::ending::group_status(tally, own)),
+    }
+}
+
+// A single slave's reply, passed on unchanged.
+fn pass_in(reply: &mut [u8], heard: Heard, words: &[u16]) -> Reply
+    requires { ⌜ 12288 ≤ length (now reply) / 2 ⌝ }
+    ensures { λ r. ⌜ (sent (bufferWords (now (reply .exit))) r ≡ passedOn (bufferWords (now (reply .entry))) (answer heard (now (words .entry)))) × Rest 2 12288 (now (reply .entry)) (now (reply .exit)) ⌝ }
+{
+    if heard.late {
+        return zero_reply(ZeroLength::Abort);
+    }
+    if heard.errors {
+        return zero_reply(ZeroLength::Error);
+    }
+    if 12288 < words.len() {
+        return zero_reply(ZeroLength::Abort);
+    }
+    store16(words, reply);
+    Reply {
+        bc: heard.bc % 4,
+        words: words.len(),
+    }
+}
+
+// After a slave's answer: the next slave is asked, or the group ends.
+fn go_on_in(
+    node: Node,
+    ask: Ask,
+    gathering: Gathering,
+    clock: u32,
+    built: Built,
+    next: Next,
+    reply: &mut [u8],
+) -> Turn
+    requires { ⌜ 12288 ≤ length (now reply) / 2 ⌝ }
+    ensures { λ r. ⌜ (outcome r (lentReply (bufferWords (now (reply .exit)))) ≡ applied node (lentReply (bufferWords (now (reply .entry)))) (goesOn node ask gathering clock (assembly (bufferWords (now (reply .entry))) built) next)) × Rest 2 12288 (now (reply .entry)) (now (reply .exit)) ⌝ }
+{
+    let given = node.given;
+    let status = report::own_status(given.start_tests, node.mode);
+    match next {
+        Next::Slave(slave) => node::slaves::ask_next(node, ask, gathering, clock, built, slave),
+        Next::Nobody => node::slaves::send(node, finish_in(reply, built, status)),
+    }
+}
+
+// What is heard of a slave, taken.
+fn hear_in(
+    node: Node,
+    clock: u32,
+    heard: Heard,
+    words: &[u16],
+    room: &mut [u16],
+    reply: &mut [u8],
+) -> Turn
+    requires { ⌜ (12288 ≤ length (now reply) / 2) × (5 ≤ length (now room)) × (length (now words) ≤ 12288 → length (now words) ≤ length (now room)) ⌝ }
+    ensures { λ r. ⌜ (outcome r (lentReply (bufferWords (now (reply .exit)))) ≡ applied node (lentReply (bufferWords (now (reply .entry)))) (hears (node .pending) node clock heard (now (words .entry)) (bufferWords (now (reply .entry))))) × Rest 2 12288 (now (reply .entry)) (now (reply .exit)) ⌝ }
+{
+    let pending = node.pending;
+    match pending {
+        Pending::Nothing => Turn {
+            node,
+            answer: Answer::Waiting,
+        },
+        Pending::Slave(_) => node::slaves::send(node, pass_in(reply, heard, words)),
+        Pending::Group(ask, gathering) => {
+            let set = gathering.set;
+            let slave = ask.slave;
+            let left = group::slaves::slaves_above(set, slave);
+            let next = group::slaves::next_slave(set, slave);
+            let built = gathering.built;
+            let grown = take_in(reply, built, left, slave, heard, words, room);
+            go_on_in(node, ask, gathering, clock, grown, next, reply)
+        }
+    }
+}
+
+// The same on the bytes of the slave's reply, with rooms for as many words as it has: up to 64, 1,024, 12,288 and 32,768.
+fn hear_64(node: Node, clock: u32, heard: Heard, packet: &[u8], reply: &mut [u8]) -> Turn
+    requires { ⌜ (length (now packet) / 2 ≤ 64) × (12288 ≤ length (now reply) / 2) ⌝ }
+    ensures { λ r. ⌜ (outcome r (lentReply (bufferWords (now (reply .exit)))) ≡ applied node (lentReply (bufferWords (now (reply .entry)))) (hears (node .pending) node clock heard (wordsOf 2 (now (packet .entry))) (bufferWords (now (reply .entry))))) × Rest 2 12288 (now (reply .entry)) (now (reply .exit)) ⌝ }
+{
+    let mut words = room_64();
+    let mut room = room_69();
+    let count = load16(packet, &mut words);
+    hear_in(node, clock, heard, &words[..count], &mut room, reply)
+}
+
+fn hear_1024(node: Node, clock: u32, heard: Heard, packet: &[u8], reply: &mut [u8]) -> Turn
+    requires { ⌜ (length (now packet) / 2 ≤ 1024) × (12288 ≤ length (now reply) / 2) ⌝ }
+    ensures { λ r. ⌜ (outcome r (lentReply (bufferWords (now (reply .exit)))) ≡ applied node (lentReply (bufferWords (now (reply .entry)))) (hears (node .pending) node clock heard (wordsOf 2 (now (packet .entry))) (bufferWords (now (reply .entry))))) × Rest 2 12288 (now (reply .entry)) (now (reply .exit)) ⌝ }
+{
+    let mut words = room_1024();
+    let mut room = room_1029();
+    let count = load16(packet, &mut words);
+    hear_in(node, clock, heard, &words[..count], &mut room, reply)
+}
+
+fn hear_12288(node: Node, clock: u32, heard: Heard, packet: &[u8], reply: &mut [u8]) -> Turn
+    requires { ⌜ (length (now packet) / 2 ≤ 12288) × (12288 ≤ length (now reply) / 2) ⌝ }
+    ensures { λ r. ⌜ (outcome r (lentReply (bufferWords (now (reply .exit)))) ≡ applied node (lentReply (bufferWords (now (reply .entry)))) (hears (node .pending) node clock heard (wordsOf 2 (now (packet .entry))) (bufferWords (now (reply .entry))))) × Rest 2 12288 (now (reply .entry)) (now (reply .exit)) ⌝ }
+{
+    let mut words = room_12288();
+    let mut room = room_12293();
+    let count = load16(packet, &mut words);
+    hear_in(node, clock, heard, &words[..count], &mut room, reply)
+}
+
+fn hear_32768(node: Node, clock: u32, heard: Heard, packet: &[u8], reply: &mut [u8]) -> Turn
+    requires { ⌜ (12288 < length (now packet) / 2) × (length (now packet) / 2 ≤ 32768) × (12288 ≤ length (now reply) / 2) ⌝ }
+    ensures { λ r. ⌜ (outcome r (lentReply (bufferWords (now (reply .exit)))) ≡ applied node (lentReply (bufferWords (now (reply .entry)))) (hears (node .pending) node clock heard (wordsOf 2 (now (packet .entry))) (bufferWords (now (reply .entry))))) × Rest 2 12288 (now (reply .entry)) (now (reply .exit)) ⌝ }
+{
+    let mut words = room_32768();
+    let mut room = room_5();
+    let count = load16(packet, &mut words);
+    hear_in(node, clock, heard, &words[..count], &mut room, reply)
+}
+
+fn hear_bytes(node: Node, clock: u32, heard: Heard, packet: &[u8], reply: &mut [u8]) -> Turn
+    requires { ⌜ (length (now packet) / 2 ≤ 32768) × (12288 ≤ length (now reply) / 2) ⌝ }
+    ensures { λ r. ⌜ (outcome r (lentReply (bufferWords (now (reply .exit)))) ≡ applied node (lentReply (bufferWords (now (reply .entry)))) (hears (node .pending) node clock heard (wordsOf 2 (now (packet .entry))) (bufferWords (now (reply .entry))))) × Rest 2 12288 (now (reply .entry)) (now (reply .exit)) ⌝ }
+{
+    let n = packet.len() / 2;
+    if n <= 64 {
+        return hear_64(node, clock, heard, packet, reply);
+    }
+    if n <= 1024 {
+        return hear_1024(node, clock, heard, packet, reply);
+    }
+    if n <= 12288 {
+        return hear_12288(node, clock, heard, packet, reply);
+    }
+    hear_32768(node, clock, heard, packet, reply)
+}
+
+// A slave's reply, taken.
+fn reply_taken(
+    node: Node,
+    clock: u32,
+    errors: bool,
+    status: u16,
+    address: u16,
+    bc: u32,
+    packet: &[u8],
+    reply: &mut [u8],
+) -> Turn
+    requires { ⌜ (length (now packet) / 2 ≤ 32768) × (12288 ≤ length (now reply) / 2) ⌝ }
+    ensures { λ r. ⌜ (outcome r (lentReply (bufferWords (now (reply .exit)))) ≡ applied node (lentReply (bufferWords (now (reply .entry)))) (replyEffect node clock errors status address bc (wordsOf 2 (now (packet .entry))) (bufferWords (now (reply .entry))))) × Rest 2 12288 (now (reply .entry)) (now (reply .exit)) ⌝ }
+{
+    let pending = node.pending;
+    let late = group::slaves::is_late(clock, node::slaves::asked_at(pending));
+    let heard = Heard {
+        late,
+        errors,
+        rx_status: status,
+        rx_address: address,
+        bc,
+    };
+    let counted = node::answering::count_error(node, !late & errors);
+    hear_bytes(counted, clock, heard, packet, reply)
+}
 
 pub fn on_reply(
     node: Node,
@@ -32,34 +309,40 @@ pub fn on_reply(
     requires { ⌜ (length (now packet) / 2 ≤ 32768) × (12288 ≤ length (now reply) / 2) ⌝ }
     ensures { λ r. ⌜ outcome r (lentReply (now (reply .exit))) ≡ inBytes (replyOf node clock slave bc errors status address (wordsOf 2 (now (packet .entry))) (replyWords (now (reply .entry)))) (lentReply (now (reply .entry))) ⌝ }
 {
-    let mut packet_words = room_32768();
-    let mut reply_words = room_12288();
-    let packet_count = load16(packet, &mut packet_words);
-    load16(&reply[..24576], &mut reply_words);
-    let turn = node.reply(
-        clock,
-        slave,
-        bc,
-        errors,
-        status,
-        address,
-        &packet_words[..packet_count],
-        &mut reply_words,
-    );
-    store16(&reply_words, reply);
-    turn
+    let verdict = node::refusals::reply_verdict(node, slave, 12288);
+    match verdict {
+        Verdict::Fine => reply_taken(node, clock, errors, status, address, bc, packet, reply),
+        Verdict::No(refusal) => refuse(node, refusal),
+    }
 }
 
-// A poll after the timeout.
+// A poll after the timeout, taken: what is heard of the slave is that it is late.
+fn poll_taken(node: Node, clock: u32, reply: &mut [u8]) -> Turn
+    requires { ⌜ 12288 ≤ length (now reply) / 2 ⌝ }
+    ensures { λ r. ⌜ (outcome r (lentReply (bufferWords (now (reply .exit)))) ≡ applied node (lentReply (bufferWords (now (reply .entry)))) (hears (node .pending) node clock silent [] (bufferWords (now (reply .entry))))) × Rest 2 12288 (now (reply .entry)) (now (reply .exit)) ⌝ }
+{
+    let heard = Heard {
+        late: true,
+        errors: false,
+        rx_status: 0,
+        rx_address: 0,
+        bc: 0,
+    };
+    let nothing: [u16; 0] = [];
+    let mut room = room_5();
+    hear_in(node, clock, heard, &nothing, &mut room, reply)
+}
+
 fn poll_late(node: Node, clock: u32, reply: &mut [u8]) -> Turn
     requires { ⌜ 12288 ≤ length (now reply) / 2 ⌝ }
+    requires { ⌜ isLate clock (askedAt (node .pending)) ≡ true ⌝ }
     ensures { λ r. ⌜ outcome r (lentReply (now (reply .exit))) ≡ inBytes (pollOf node clock (replyWords (now (reply .entry)))) (lentReply (now (reply .entry))) ⌝ }
 {
-    let mut reply_words = room_12288();
-    load16(&reply[..24576], &mut reply_words);
-    let turn = node.poll(clock, &mut reply_words);
-    store16(&reply_words, reply);
-    turn
+    let verdict = node::refusals::poll_verdict(node, 12288);
+    match verdict {
+        Verdict::Fine => poll_taken(node, clock, reply),
+        Verdict::No(refusal) => refuse(node, refusal),
+    }
 }
 
 // A poll before it: nothing that is lent has a part in it.

@@ -157,3 +157,23 @@ pub fn packet_word(packet: &[u8], at: usize) -> u16
     }
     word16(packet, at * 2)
 }
+
+// Stores words at a place, counted in words.
+pub fn store_at16(words: &[u16], bytes: &mut [u8], at: usize)
+    requires { ⌜ (at + length (now words)) * 2 ≤ length (now bytes) ⌝ }
+    ensures { λ _. ⌜ now (bytes .exit) ≡ laid (now (bytes .entry)) (at * 2) (bytesOf 2 (now (words .entry))) ⌝ }
+{
+    let from = at * 2;
+    let to = (at + words.len()) * 2;
+    store16(words, &mut bytes[from..to]);
+}
+
+// The same at four bytes a word.
+pub fn store_at32(words: &[u32], bytes: &mut [u8], at: usize)
+    requires { ⌜ (at + length (now words)) * 4 ≤ length (now bytes) ⌝ }
+    ensures { λ _. ⌜ now (bytes .exit) ≡ laid (now (bytes .entry)) (at * 4) (bytesOf 4 (now (words .entry))) ⌝ }
+{
+    let from = at * 4;
+    let to = (at + words.len()) * 4;
+    store32(words, &mut bytes[from..to]);
+}

@@ -12,7 +12,7 @@ ghost use Rattle.memory.specs.Segment.{memories};
 ghost use Rattle.memory.specs.Load.{fileSegments, allFit, allStored, isAt};
 
 // Where the valid segment at a place ends: its header says so.
-fn end_of(file: &[u16], at: usize) -> usize
+pub fn end_of(file: &[u16], at: usize) -> usize
     requires { ⌜ isAt (segmentEnd (now file) at) ≡ true ⌝ }
     ensures { λ r. ⌜ segmentEnd (now (file .entry)) at ≡ End.At r ⌝ }
 {

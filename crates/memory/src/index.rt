@@ -59,7 +59,7 @@ fn high_at(memory: Memory, page: Page) -> usize
 }
 
 // The index of an address.
-pub(crate) fn index_of(memory: Memory, page: Page, address: usize) -> usize
+pub fn index_of(memory: Memory, page: Page, address: usize) -> usize
     requires { ⌜ address ≤ 0x4000 ⌝ }
     ensures { λ r. ⌜ r ≡ indexOf memory page address ⌝ }
 {

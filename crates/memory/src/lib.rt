@@ -12,11 +12,11 @@ ghost use Rattle.memory.specs.Segment.{memories};
 ghost use Rattle.memory.specs.Load.{loadable, loaded, loadOf};
 ghost use Rattle.memory.specs.Command.{isOwn, readWords, readable, read, readOf, writable, written, writeOf, performable, performed, performOf};
 
-mod files;
-mod index;
-mod registers;
-mod runs;
-mod segments;
+pub mod files;
+pub mod index;
+pub mod registers;
+pub mod runs;
+pub mod segments;
 
 // What Memory Read and Perform IO answer: so many words, from word 0 of the reply on, or ABORT.
 pub enum Answer {
@@ -77,7 +77,7 @@ pub fn can_read(memory: Memory, len: usize, first: u16, second: u16, room: usize
 }
 
 // The FCS of a body behind it, the last of `words` words of which the first two are header words.
-fn seal(reply: &mut [u16], words: usize)
+pub fn seal(reply: &mut [u16], words: usize)
     requires { ⌜ 3 ≤ words ⌝ }
     requires { ⌜ words ≤ length (now reply) ⌝ }
     ensures { λ _. ⌜ now (reply .exit) ≡ set (now (reply .entry)) (words - 1) (fcsOf (part (now (reply .entry)) 2 (words - 1 - 2))) ⌝ }

@@ -26,7 +26,7 @@ pub(crate) fn ids_ok(len: usize, pairs: &[u16]) -> bool
 }
 
 // What a register holds after a pair, and the pair answers, where it held `held`.
-fn pair_value(id: u16, value: u16, held: u16) -> u16
+pub fn pair_value(id: u16, value: u16, held: u16) -> u16
     ensures { λ r. ⌜ r ≡ pick (writes id) value held ⌝ }
 {
     if id / 4096 % 2 == 1 {

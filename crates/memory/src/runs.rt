@@ -12,7 +12,7 @@ ghost use Rattle.image.specs.Packing.{packed, unpacked};
 ghost use Rattle.memory.specs.Run.{runOf, stretch, lowCount, allBelow, runFits, wordsAt, putAt};
 
 // How many of n addresses are below 2000: a straight stretch. The others are the second one.
-fn low_count(address: usize, n: usize) -> usize
+pub fn low_count(address: usize, n: usize) -> usize
     ensures { λ r. ⌜ r ≡ lowCount address n ⌝ }
 {
     if address < 0x2000 {

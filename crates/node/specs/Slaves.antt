@@ -13,6 +13,7 @@ use Rattle.group.specs.Single.{passedOn}
 use Rattle.group.specs.declared.Built.{Built}
 use Rattle.group.specs.declared.Heard.{Heard}
 use Rattle.group.specs.declared.Next.{Next}
+use Rattle.node.specs.State.{turn, withPending}
 use Rattle.node.specs.Route.{asking}
 use Rattle.node.specs.Effect.{Effect, effect, only}
 use Rattle.node.specs.Settings.{statusIn}
@@ -21,6 +22,7 @@ use Rattle.node.specs.declared.Ask.{Ask}
 use Rattle.node.specs.declared.Gathering.{Gathering}
 use Rattle.node.specs.declared.Node.{Node}
 use Rattle.node.specs.declared.Pending.{Pending}
+use Rattle.node.specs.declared.Turn.{Turn}
 
 abbrev pub ask : ℕ → ℕ → ℕ → Ask
 ask link slave at = record { link = link; slave = slave; at = at }
@@ -38,6 +40,11 @@ silent = heard true false 0 0 0
 -- A reply is sent, and nothing is pending any more.
 abbrev pub sends : Sent → Effect
 sends s = only (Answer.Reply (s .reply)) Pending.Nothing (s .buffer)
+
+-- The node's turn where the next slave is asked: no lent run has a part in it.
+abbrev pub askedNext : Node → Ask → Gathering → ℕ → Built → ℕ → Turn
+askedNext n a g clock b s =
+    turn (withPending n (Pending.Group (ask (a .link) s clock) (gathering (g .set) (g .from) b))) (Answer.Ask (asking s (g .from)))
 
 -- After a slave's answer the next slave is asked, at the clock of this call; after the last one's the group ends.
 abbrev pub goesOn : Node → Ask → Gathering → ℕ → Assembly → Next → Effect

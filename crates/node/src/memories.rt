@@ -21,7 +21,7 @@ use crate::answering::says;
 use group::ZeroLength;
 
 // What a memory answered: its words closed, or ABORT.
-fn end_read(node: Node, answer: memory::Answer, reply: &mut [u16]) -> Turn
+pub fn end_read(node: Node, answer: memory::Answer, reply: &mut [u16]) -> Turn
     ensures { λ r. ⌜ said r (now (reply .exit)) ≡ ended node answer (now (reply .entry)) ⌝ }
 {
     match answer {
@@ -31,7 +31,7 @@ fn end_read(node: Node, answer: memory::Answer, reply: &mut [u16]) -> Turn
 }
 
 // A write that was done answers END, else ABORT.
-fn end_write(node: Node, done: bool) -> Turn
+pub fn end_write(node: Node, done: bool) -> Turn
     ensures { λ r. ⌜ r ≡ turn node (Answer.Reply (zeroReply (pick done ZeroLength.End ZeroLength.Abort))) ⌝ }
 {
     if done {

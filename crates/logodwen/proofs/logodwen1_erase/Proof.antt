@@ -5,8 +5,10 @@ use lib.ListN.{length}
 use Rattle.logodwen.specs.Bytes.{wordsOf}
 use Rattle.logodwen.specs.StateBytes.{nodeIn}
 use Rattle.logodwen.proofs.Entering.{entered-fine, entered-refused, state-long, erase-fine}
+use Rattle.logodwen.proofs.Fine.{erase-verdict}
 use Rattle.logodwen.specs.Causes.{eraseCheck}
 use Rattle.logodwen.specs.Entry.{inBytes, eraseEntry}
+use Rattle.node.specs.Refusals.{eraseVerdict}
 use Rattle.node.specs.Calls.{eraseOf, lentFlash}
 use Rattle.node.specs.declared.Node.{Node}
 use borrow.Author.Needs.{needs}
@@ -23,7 +25,11 @@ node-in-requires : tie.Need-node-in-requires
 node-in-requires c κs = state-long (c .before .before .before .before .before .before .before .args .state .now) ((erase-fine (c .before .before .before .before .before .before .before .args .state .now) (length (c .before .before .before .before .before .before .before .args .flash .now) / 2) (sym (c .before .before .before .erase-check .ensures) ∙ c .before .enum-told .given .1)) .1)
 
 on-erase-requires : tie.Need-on-erase-requires
-on-erase-requires c κs = (erase-fine (c .before .before .before .before .before .before .before .before .before .args .state .now) (length (c .before .before .before .before .before .before .before .before .before .args .flash .now) / 2) (sym (c .before .before .before .before .before .erase-check .ensures) ∙ c .before .before .before .enum-told .given .1)) .0
+on-erase-requires c κs =
+    let a = c .before .before .before .before .before .before .before .before .before .args in
+    let check = sym (c .before .before .before .before .before .erase-check .ensures) ∙ c .before .before .before .enum-told .given .1 in
+    let bench = (erase-fine (a .state .now) (length (a .flash .now) / 2) check) .0 in
+    (bench, ap (λ (n : Node). eraseVerdict n 32768) (c .before .node-in .ensures) ∙ erase-verdict (a .state .now) (length (a .flash .now) / 2) check bench)
 
 encode-requires : tie.Need-encode-requires
 encode-requires c κs = state-long (c .before .before .before .before .before .before .before .before .before .before .before .before .before .before .args .state .now) ((erase-fine (c .before .before .before .before .before .before .before .before .before .before .before .before .before .before .args .state .now) (length (c .before .before .before .before .before .before .before .before .before .before .before .before .before .before .args .flash .now) / 2) (sym (c .before .before .before .before .before .before .before .before .before .before .erase-check .ensures) ∙ c .before .before .before .before .before .before .before .before .enum-told .given .1)) .1)

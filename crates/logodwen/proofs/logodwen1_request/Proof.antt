@@ -5,8 +5,10 @@ use lib.ListN.{length}
 use Rattle.logodwen.specs.Bytes.{wordsOf}
 use Rattle.logodwen.specs.StateBytes.{nodeIn}
 use Rattle.logodwen.proofs.Entering.{entered-fine, entered-refused, state-long, request-fine}
+use Rattle.logodwen.proofs.Fine.{request-verdict}
 use Rattle.logodwen.specs.Causes.{requestCheck}
 use Rattle.logodwen.specs.Entry.{runWords, inBytes, isSet, requestEntry}
+use Rattle.node.specs.Refusals.{requestVerdict}
 use Rattle.node.specs.Calls.{requestOf}
 use Rattle.node.specs.declared.Node.{Node}
 use Rattle.memory.specs.Segment.{memories}
@@ -25,7 +27,14 @@ node-in-requires : tie.Need-node-in-requires
 node-in-requires c κs = state-long (c .before .before .before .before .before .before .before .before .before .before .before .before .args .state .now) ((request-fine (c .before .before .before .before .before .before .before .before .before .before .before .before .args .link) (length (c .before .before .before .before .before .before .before .before .before .before .before .before .args .packet .now) / 2) (c .before .before .before .before .before .before .before .before .before .before .before .before .args .state .now) (length (c .before .before .before .before .before .before .before .before .before .before .before .before .args .flash .now) / 2) (length (c .before .before .before .before .before .before .before .before .before .before .before .before .args .pm .now) / 4) (length (c .before .before .before .before .before .before .before .before .before .before .before .before .args .dm .now) / 2) (length (c .before .before .before .before .before .before .before .before .before .before .before .before .args .io .now) / 2) (length (c .before .before .before .before .before .before .before .before .before .before .before .before .args .reply .now) / 2) (sym (c .before .before .before .request-check .ensures) ∙ c .before .enum-told .given .1)) .bytes)
 
 on-request-requires : tie.Need-on-request-requires
-on-request-requires c κs = ((request-fine (c .before .before .before .before .before .before .before .before .before .before .before .before .before .before .before .before .before .before .args .link) (length (c .before .before .before .before .before .before .before .before .before .before .before .before .before .before .before .before .before .before .args .packet .now) / 2) (c .before .before .before .before .before .before .before .before .before .before .before .before .before .before .before .before .before .before .args .state .now) (length (c .before .before .before .before .before .before .before .before .before .before .before .before .before .before .before .before .before .before .args .flash .now) / 2) (length (c .before .before .before .before .before .before .before .before .before .before .before .before .before .before .before .before .before .before .args .pm .now) / 4) (length (c .before .before .before .before .before .before .before .before .before .before .before .before .before .before .before .before .before .before .args .dm .now) / 2) (length (c .before .before .before .before .before .before .before .before .before .before .before .before .before .before .before .before .before .before .args .io .now) / 2) (length (c .before .before .before .before .before .before .before .before .before .before .before .before .before .before .before .before .before .before .args .reply .now) / 2) (sym (c .before .before .before .before .before .before .before .before .before .request-check .ensures) ∙ c .before .before .before .before .before .before .before .enum-told .given .1)) .bench, (request-fine (c .before .before .before .before .before .before .before .before .before .before .before .before .before .before .before .before .before .before .args .link) (length (c .before .before .before .before .before .before .before .before .before .before .before .before .before .before .before .before .before .before .args .packet .now) / 2) (c .before .before .before .before .before .before .before .before .before .before .before .before .before .before .before .before .before .before .args .state .now) (length (c .before .before .before .before .before .before .before .before .before .before .before .before .before .before .before .before .before .before .args .flash .now) / 2) (length (c .before .before .before .before .before .before .before .before .before .before .before .before .before .before .before .before .before .before .args .pm .now) / 4) (length (c .before .before .before .before .before .before .before .before .before .before .before .before .before .before .before .before .before .before .args .dm .now) / 2) (length (c .before .before .before .before .before .before .before .before .before .before .before .before .before .before .before .before .before .before .args .io .now) / 2) (length (c .before .before .before .before .before .before .before .before .before .before .before .before .before .before .before .before .before .before .args .reply .now) / 2) (sym (c .before .before .before .before .before .before .before .before .before .request-check .ensures) ∙ c .before .before .before .before .before .before .before .enum-told .given .1)) .buffer, (request-fine (c .before .before .before .before .before .before .before .before .before .before .before .before .before .before .before .before .before .before .args .link) (length (c .before .before .before .before .before .before .before .before .before .before .before .before .before .before .before .before .before .before .args .packet .now) / 2) (c .before .before .before .before .before .before .before .before .before .before .before .before .before .before .before .before .before .before .args .state .now) (length (c .before .before .before .before .before .before .before .before .before .before .before .before .before .before .before .before .before .before .args .flash .now) / 2) (length (c .before .before .before .before .before .before .before .before .before .before .before .before .before .before .before .before .before .before .args .pm .now) / 4) (length (c .before .before .before .before .before .before .before .before .before .before .before .before .before .before .before .before .before .before .args .dm .now) / 2) (length (c .before .before .before .before .before .before .before .before .before .before .before .before .before .before .before .before .before .before .args .io .now) / 2) (length (c .before .before .before .before .before .before .before .before .before .before .before .before .before .before .before .before .before .before .args .reply .now) / 2) (sym (c .before .before .before .before .before .before .before .before .before .request-check .ensures) ∙ c .before .before .before .before .before .before .before .enum-told .given .1)) .pm-short, (request-fine (c .before .before .before .before .before .before .before .before .before .before .before .before .before .before .before .before .before .before .args .link) (length (c .before .before .before .before .before .before .before .before .before .before .before .before .before .before .before .before .before .before .args .packet .now) / 2) (c .before .before .before .before .before .before .before .before .before .before .before .before .before .before .before .before .before .before .args .state .now) (length (c .before .before .before .before .before .before .before .before .before .before .before .before .before .before .before .before .before .before .args .flash .now) / 2) (length (c .before .before .before .before .before .before .before .before .before .before .before .before .before .before .before .before .before .before .args .pm .now) / 4) (length (c .before .before .before .before .before .before .before .before .before .before .before .before .before .before .before .before .before .before .args .dm .now) / 2) (length (c .before .before .before .before .before .before .before .before .before .before .before .before .before .before .before .before .before .before .args .io .now) / 2) (length (c .before .before .before .before .before .before .before .before .before .before .before .before .before .before .before .before .before .before .args .reply .now) / 2) (sym (c .before .before .before .before .before .before .before .before .before .request-check .ensures) ∙ c .before .before .before .before .before .before .before .enum-told .given .1)) .dm-short, (request-fine (c .before .before .before .before .before .before .before .before .before .before .before .before .before .before .before .before .before .before .args .link) (length (c .before .before .before .before .before .before .before .before .before .before .before .before .before .before .before .before .before .before .args .packet .now) / 2) (c .before .before .before .before .before .before .before .before .before .before .before .before .before .before .before .before .before .before .args .state .now) (length (c .before .before .before .before .before .before .before .before .before .before .before .before .before .before .before .before .before .before .args .flash .now) / 2) (length (c .before .before .before .before .before .before .before .before .before .before .before .before .before .before .before .before .before .before .args .pm .now) / 4) (length (c .before .before .before .before .before .before .before .before .before .before .before .before .before .before .before .before .before .before .args .dm .now) / 2) (length (c .before .before .before .before .before .before .before .before .before .before .before .before .before .before .before .before .before .before .args .io .now) / 2) (length (c .before .before .before .before .before .before .before .before .before .before .before .before .before .before .before .before .before .before .args .reply .now) / 2) (sym (c .before .before .before .before .before .before .before .before .before .request-check .ensures) ∙ c .before .before .before .before .before .before .before .enum-told .given .1)) .io-short)
+on-request-requires c κs =
+    let a = c .before .before .before .before .before .before .before .before .before .before .before .before .before .before .before .before .before .before .args in
+    let check = sym (c .before .before .before .before .before .before .before .before .before .request-check .ensures) ∙ c .before .before .before .before .before .before .before .enum-told .given .1 in
+    let fine = request-fine (a .link) (length (a .packet .now) / 2) (a .state .now) (length (a .flash .now) / 2) (length (a .pm .now) / 4) (length (a .dm .now) / 2) (length (a .io .now) / 2) (length (a .reply .now) / 2) check in
+    let verdict =
+    ap (λ (n : Node). requestVerdict n (a .link) (length (a .packet .now) / 2) (length (a .flash .now) / 2) (length (a .pm .now) / 4) (length (a .dm .now) / 2) (length (a .io .now) / 2) 12288) (c .before .before .before .before .before .node-in .ensures)
+    ∙ request-verdict (a .link) (length (a .packet .now) / 2) (a .state .now) (length (a .flash .now) / 2) (length (a .pm .now) / 4) (length (a .dm .now) / 2) (length (a .io .now) / 2) (length (a .reply .now) / 2) check in
+    ((fine .bench, fine .buffer, fine .pm-short, fine .dm-short, fine .io-short), verdict)
 
 encode-requires : tie.Need-encode-requires
 encode-requires c κs = state-long (c .before .before .before .before .before .before .before .before .before .before .before .before .before .before .before .before .before .before .before .before .before .before .before .before .before .before .before .before .before .before .before .args .state .now) ((request-fine (c .before .before .before .before .before .before .before .before .before .before .before .before .before .before .before .before .before .before .before .before .before .before .before .before .before .before .before .before .before .before .before .args .link) (length (c .before .before .before .before .before .before .before .before .before .before .before .before .before .before .before .before .before .before .before .before .before .before .before .before .before .before .before .before .before .before .before .args .packet .now) / 2) (c .before .before .before .before .before .before .before .before .before .before .before .before .before .before .before .before .before .before .before .before .before .before .before .before .before .before .before .before .before .before .before .args .state .now) (length (c .before .before .before .before .before .before .before .before .before .before .before .before .before .before .before .before .before .before .before .before .before .before .before .before .before .before .before .before .before .before .before .args .flash .now) / 2) (length (c .before .before .before .before .before .before .before .before .before .before .before .before .before .before .before .before .before .before .before .before .before .before .before .before .before .before .before .before .before .before .before .args .pm .now) / 4) (length (c .before .before .before .before .before .before .before .before .before .before .before .before .before .before .before .before .before .before .before .before .before .before .before .before .before .before .before .before .before .before .before .args .dm .now) / 2) (length (c .before .before .before .before .before .before .before .before .before .before .before .before .before .before .before .before .before .before .before .before .before .before .before .before .before .before .before .before .before .before .before .args .io .now) / 2) (length (c .before .before .before .before .before .before .before .before .before .before .before .before .before .before .before .before .before .before .before .before .before .before .before .before .before .before .before .before .before .before .before .args .reply .now) / 2) (sym (c .before .before .before .before .before .before .before .before .before .before .before .before .before .before .before .before .before .before .before .before .before .before .request-check .ensures) ∙ c .before .before .before .before .before .before .before .before .before .before .before .before .before .before .before .before .before .before .before .before .enum-told .given .1)) .bytes)

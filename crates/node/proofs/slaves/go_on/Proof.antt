@@ -4,10 +4,11 @@ use Rattle.base.proofs.Pick.{via}
 use Rattle.group.specs.Fragment.{assembly}
 use Rattle.group.specs.Ending.{endOf}
 use Rattle.group.specs.declared.Next.{Next}
-use Rattle.node.specs.Effect.{Outcome, applied}
+use Rattle.node.specs.Effect.{Outcome, outcome, applied}
 use Rattle.node.specs.Slaves.{goesOn}
 use Rattle.node.specs.Calls.{lentReply}
-use Rattle.node.proofs.Hearing.{turned, sends-told}
+use Rattle.node.proofs.Hearing.{sends-told}
+use Rattle.node.specs.declared.Turn.{Turn}
 use borrow.Author.Needs.{needs}
 use Rattle.node.proofs.slaves.go_on.Statement.{statement}
 use Rattle.node.proofs.slaves.go_on.Tie as tie
@@ -24,8 +25,8 @@ own-status-requires c κs = search needs
 enum-known-next : tie.Need-enum-known-next
 enum-known-next c = search needs
 
-with-pending-requires : tie.Need-with-pending-requires
-with-pending-requires c κs = search needs
+ask-next-requires : tie.Need-ask-next-requires
+ask-next-requires c κs = search needs
 
 enum-told : tie.Need-enum-told
 enum-told c = search needs
@@ -37,7 +38,7 @@ send-requires : tie.Need-send-requires
 send-requires c κs = search needs
 
 returns : tie.Need-returns
-returns c = let s = c .before .before .before .before .before .before .before in via (owed s) (c .before .before .next .given .1) (turned (lentReply (s .args .reply .now)) (c .with-pending .ensures))
+returns c = let s = c .before .before .before .before .before .before .before in via (owed s) (c .before .before .next .given .1) (ap (λ (t : Turn). outcome t (lentReply (s .args .reply .now))) (c .ask-next .ensures))
 
 same-length : tie.Need-same-length
 same-length c = search needs
@@ -55,7 +56,7 @@ go-on-spec =
     (tie.spec
     own-status-requires
     enum-known-next
-    with-pending-requires
+    ask-next-requires
     enum-told
     finish-requires
     send-requires

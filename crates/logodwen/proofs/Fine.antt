@@ -1,0 +1,89 @@
+-- An entry that is not refused makes a call that is not refused: where the lent bytes pass the border's causes, the state that they stand
+-- for and the lengths pass the node's. Assumes nothing.
+use Prim.Native.Nat.{ℕ}
+use native.Mathlib.Omega.{arith}
+use mathlib.Core.Path.{_≡_, refl, sym, ap, _∙_}
+use mathlib.Core.Bool.{Bool, true, false, _&&_, _||_, not}
+use mathlib.Core.List.{List, [], _∷_}
+use lib.ListN.{length}
+use lib.Dec.{ltb, eqb}
+use borrow.Author.Tests.{ltb-true, ltb-false, le-ltb, lt-leb, eqb-true, eq-eqb, not-false}
+use Rattle.base.specs.Pick.{pick}
+use Rattle.base.proofs.Pick.{no, and-right}
+use Rattle.node.specs.Valid.{sizeOk, stateOk}
+use Rattle.node.specs.Refusals.{Cause, firstOf, flashCause, replyCause, memoryCause, linkCause, stateCause, busyCause, requestVerdict, eraseVerdict}
+use Rattle.node.specs.declared.Verdict.{Verdict}
+use Rattle.node.proofs.Verdicts.{NoneHolds, fine-tells, or-neither}
+use Rattle.logodwen.specs.StateBytes.{sizeIn, portsIn, encodeOf, nodeIn, alike, areState}
+use Rattle.logodwen.specs.Causes.{keptOk, linkOk, benchCause, memoriesCause, portCause, bytesCause, requestCheck, eraseCheck}
+use Rattle.logodwen.proofs.Entering.{state-long}
+
+-- where no cause holds, none refuses
+pub none-refuses : (causes : List Cause) → NoneHolds causes → firstOf causes ≡ Verdict.Fine
+none-refuses [] h = refl
+none-refuses (c ∷ causes) h = sym (no _ (h .0) (sym (none-refuses causes (h .1))))
+
+-- bytes that pass refusal 5 stand for a state
+pub state-sound : (state : List ℕ) → areState state ≡ true → stateOk (nodeIn state) ≡ true
+unfolding areState
+state-sound state h =
+    let same = alike (encodeOf (nodeIn state)) state in
+    and-right same (stateOk (nodeIn state)) (and-right (eqb (length state) 172) (same && stateOk (nodeIn state)) h)
+
+-- what is read off the state bytes as they are is what their node keeps
+where-long : (state : List ℕ) (t : Bool) → areState state ≡ true → pick (eqb (length state) 172) t true ≡ true → t ≡ true
+where-long state t h e = sym (ap (λ (b : Bool). pick b t true) (eq-eqb (length state) 172 (state-long state h))) ∙ e
+
+-- cause by cause
+
+pub state-no : (state : List ℕ) → bytesCause state .holds ≡ false → stateCause (nodeIn state) .holds ≡ false
+state-no state h = ap not (state-sound state (not-false (areState state) h))
+
+pub flash-no : (state : List ℕ) (flash : ℕ) → bytesCause state .holds ≡ false → benchCause state flash .holds ≡ false
+    → flashCause (nodeIn state) flash .holds ≡ false
+unfolding nodeIn
+flash-no state flash s h =
+    let both = or-neither (not (eqb flash 32768)) (not (keptOk state flash)) h in
+    let bench : flash ≡ 32768 = eqb-true flash 32768 (not-false (eqb flash 32768) (both .0)) in
+    let kept : eqb flash (sizeIn state) ≡ true =
+    where-long state (eqb flash (sizeIn state)) (not-false (areState state) s) (not-false (keptOk state flash) (both .1)) in
+    (λ i. not (sizeOk (bench i)) || not (eqb flash (sizeIn state))) ∙ ap not kept
+
+pub memory-no : (pm dm io : ℕ) → memoriesCause pm dm io .holds ≡ false → memoryCause pm dm io .holds ≡ false
+memory-no pm dm io h =
+    let a = or-neither (ltb 8192 pm || ltb 8192 dm) (ltb 4096 io) h in
+    let b = or-neither (ltb 8192 pm) (ltb 8192 dm) (a .0) in
+    let p : ltb 32768 pm ≡ false = le-ltb 32768 pm (omega (arith, ltb-false 8192 pm (b .0))) in
+    let d : ltb 32768 dm ≡ false = le-ltb 32768 dm (omega (arith, ltb-false 8192 dm (b .1))) in
+    (λ i. p i || d i || ltb 4096 io) ∙ a .1
+
+pub link-no : (state : List ℕ) (link : ℕ) → bytesCause state .holds ≡ false → portCause state link .holds ≡ false
+    → linkCause (nodeIn state) link .holds ≡ false
+unfolding nodeIn
+link-no state link s h =
+    let below : ltb link (portsIn state) ≡ true =
+    where-long state (ltb link (portsIn state)) (not-false (areState state) s) (not-false (linkOk state link) h) in
+    lt-leb (portsIn state) link (ltb-true link (portsIn state) below)
+
+-- a request, and erase progress
+
+pub request-verdict : (link packet : ℕ) (state : List ℕ) (flash pm dm io reply : ℕ) → requestCheck link packet state flash pm dm io reply ≡ Verdict.Fine
+    → requestVerdict (nodeIn state) link packet flash pm dm io 12288 ≡ Verdict.Fine
+unfolding requestCheck requestVerdict
+request-verdict link packet state flash pm dm io reply h =
+    let n = nodeIn state in
+    let none =
+    fine-tells
+    (benchCause state flash ∷ replyCause reply ∷ memoriesCause pm dm io ∷ portCause state link ∷ bytesCause state ∷ busyCause n packet ∷ [])
+    h in
+    let s = none .1 .1 .1 .1 .0 in
+    none-refuses (flashCause n flash ∷ replyCause 12288 ∷ memoryCause pm dm io ∷ linkCause n link ∷ stateCause n ∷ busyCause n packet ∷ [])
+    (flash-no state flash s (none .0), (refl, (memory-no pm dm io (none .1 .1 .0), (link-no state link s (none .1 .1 .1 .0), (state-no state s, (none .1 .1 .1 .1 .1 .0, tt))))))
+
+pub erase-verdict : (state : List ℕ) (flash : ℕ) → eraseCheck state flash ≡ Verdict.Fine → flash ≡ 32768 → eraseVerdict (nodeIn state) 32768 ≡ Verdict.Fine
+unfolding eraseCheck eraseVerdict
+erase-verdict state flash h bench =
+    let n = nodeIn state in
+    let none = fine-tells (benchCause state flash ∷ bytesCause state ∷ []) h in
+    ap (eraseVerdict n) (sym bench)
+    ∙ none-refuses (flashCause n flash ∷ stateCause n ∷ []) (flash-no state flash (none .1 .0) (none .0), (state-no state (none .1 .0), tt))
