@@ -71,9 +71,9 @@ pub record FlashSettled : Type 0 where
   pub change-erasing-after : Settles Flash.change.erasing_after.Kinds.ps Flash.change.erasing_after.Kinds.r Flash.change.erasing_after.Reads.Learnt
   pub directory-status-word : Settles Flash.directory.status_word.Kinds.ps Flash.directory.status_word.Kinds.r Flash.directory.status_word.Reads.Learnt
   pub directory-with-entry : Settles Flash.directory.with_entry.Kinds.ps Flash.directory.with_entry.Kinds.r Flash.directory.with_entry.Reads.Learnt
-  pub directory-sector-status : Settles Flash.directory.sector_status.Kinds.ps Flash.directory.sector_status.Kinds.r Flash.directory.sector_status.Reads.Learnt
   pub directory-scan : Settles Flash.directory.scan.Kinds.ps Flash.directory.scan.Kinds.r Flash.directory.scan.Reads.Learnt
   pub directory-entry-is : Settles Flash.directory.entry_is.Kinds.ps Flash.directory.entry_is.Kinds.r Flash.directory.entry_is.Reads.Learnt
+  pub directory-sector-status : Settles Flash.directory.sector_status.Kinds.ps Flash.directory.sector_status.Kinds.r Flash.directory.sector_status.Reads.Learnt
   pub directory-kept-status : Settles Flash.directory.kept_status.Kinds.ps Flash.directory.kept_status.Kinds.r Flash.directory.kept_status.Reads.Learnt
   pub finding-is-named : Settles Flash.finding.is_named.Kinds.ps Flash.finding.is_named.Kinds.r Flash.finding.is_named.Reads.Learnt
   pub finding-search : Settles Flash.finding.search.Kinds.ps Flash.finding.search.Kinds.r Flash.finding.search.Reads.Learnt
@@ -149,6 +149,20 @@ pub record NodeSettled : Type 0 where
   pub refusals-start-verdict : Settles Node.refusals.start_verdict.Kinds.ps Node.refusals.start_verdict.Kinds.r Node.refusals.start_verdict.Reads.Learnt
   pub routing-word-at : Settles Node.routing.word_at.Kinds.ps Node.routing.word_at.Kinds.r Node.routing.word_at.Reads.Learnt
   pub routing-route-of : Settles Node.routing.route_of.Kinds.ps Node.routing.route_of.Kinds.r Node.routing.route_of.Reads.Learnt
+  pub answering-says : Settles Node.answering.says.Kinds.ps Node.answering.says.Kinds.r Node.answering.says.Reads.Learnt
+  pub blanking-set-step : Settles Node.blanking.set_step.Kinds.ps Node.blanking.set_step.Kinds.r Node.blanking.set_step.Reads.Learnt
+  pub changing-end-as : Settles Node.changing.end_as.Kinds.ps Node.changing.end_as.Kinds.r Node.changing.end_as.Reads.Learnt
+  pub changing-is-new : Settles Node.changing.is_new.Kinds.ps Node.changing.is_new.Kinds.r Node.changing.is_new.Reads.Learnt
+  pub changing-to-erase : Settles Node.changing.to_erase.Kinds.ps Node.changing.to_erase.Kinds.r Node.changing.to_erase.Reads.Learnt
+  pub files-is-erasing : Settles Node.files.is_erasing.Kinds.ps Node.files.is_erasing.Kinds.r Node.files.is_erasing.Reads.Learnt
+  pub files-is-served : Settles Node.files.is_served.Kinds.ps Node.files.is_served.Kinds.r Node.files.is_served.Reads.Learnt
+  pub files-named-by : Settles Node.files.named_by.Kinds.ps Node.files.named_by.Kinds.r Node.files.named_by.Reads.Learnt
+  pub files-status-in : Settles Node.files.status_in.Kinds.ps Node.files.status_in.Kinds.r Node.files.status_in.Reads.Learnt
+  pub requests-pass-by : Settles Node.requests.pass_by.Kinds.ps Node.requests.pass_by.Kinds.r Node.requests.pass_by.Reads.Learnt
+  pub routing-route-by : Settles Node.routing.route_by.Kinds.ps Node.routing.route_by.Kinds.r Node.routing.route_by.Reads.Learnt
+  pub slaves-asked-at : Settles Node.slaves.asked_at.Kinds.ps Node.slaves.asked_at.Kinds.r Node.slaves.asked_at.Reads.Learnt
+  pub slaves-ask-next : Settles Node.slaves.ask_next.Kinds.ps Node.slaves.ask_next.Kinds.r Node.slaves.ask_next.Reads.Learnt
+  pub slaves-send : Settles Node.slaves.send.Kinds.ps Node.slaves.send.Kinds.r Node.slaves.send.Reads.Learnt
   pub valid-size-ok : Settles Node.valid.size_ok.Kinds.ps Node.valid.size_ok.Kinds.r Node.valid.size_ok.Reads.Learnt
   pub valid-kind-ok : Settles Node.valid.kind_ok.Kinds.ps Node.valid.kind_ok.Kinds.r Node.valid.kind_ok.Reads.Learnt
   pub valid-ports-ok : Settles Node.valid.ports_ok.Kinds.ps Node.valid.ports_ok.Kinds.r Node.valid.ports_ok.Reads.Learnt
