@@ -1,149 +1,302 @@
-/* The calls at the C border: against copying the bytes that a call is lent, and against the independent node in plain C on the same
-   buffers. */
-#include "perf.h"
+/* The calls at the C border, against the independent node in plain C, which works on the lent bytes in place: both are lent the same
+   bytes. */
+#include "measure.h"
+#include "runs.h"
 
 #include "../../include/logodwen.h"
 #include "../model/model.h"
 
 #include <string.h>
 
-enum { IMAGE_WORDS = 4000, LARGEST = 4096, FILE_SECTORS = 8 };
+enum { TIMES = 200, LARGE = 4000, PING = 8000, DM_RUN = 8000, PM_READ = 7998, PM_WRITE = 5400, REPLIED = 500, ERASED = 4096 };
 
-static uint8_t state[LOGODWEN_STATE_BYTES], flash[LOGODWEN_FLASH_BYTES], pm[LOGODWEN_PM_BYTES], dm[LOGODWEN_DM_BYTES],
-    io[LOGODWEN_IO_BYTES], reply[LOGODWEN_REPLY_BYTES];
-static uint8_t other[sizeof state + sizeof flash + sizeof pm + sizeof dm + sizeof io + sizeof reply];
-static uint8_t started[LOGODWEN_STATE_BYTES]; /* the state at the start of each turn */
-static uint8_t write_packet[2 * (IMAGE_WORDS + 1)], read_packet[4];
-static uint64_t written, read_back;
-static volatile uint64_t kept;
+/* Above what plain C does in under a microsecond, and above what takes longer. */
+static const double SHORT = 4.00, LONG = 1.30;
 
-/* PM, DM and IO: lent as long as they may be, or not at all. */
-static size_t pm_lent = sizeof pm, dm_lent = sizeof dm, io_lent = sizeof io;
+/* Everything that a call is lent. */
+static struct {
+    uint8_t state[LOGODWEN_STATE_BYTES], flash[LOGODWEN_FLASH_BYTES], pm[LOGODWEN_PM_BYTES], dm[LOGODWEN_DM_BYTES],
+        io[LOGODWEN_IO_BYTES], reply[LOGODWEN_REPLY_BYTES];
+} lent, first, after; /* as it stands, as a turn begins, and as the proved call left it */
 
-static void lend_no_memories(void) { pm_lent = dm_lent = io_lent = 0; }
+static uint64_t answered;
 
-static uint64_t library(const uint8_t *packet, size_t bytes) {
-    return logodwen_request(0, 0, LOGODWEN_BC_WHOLE, 0, packet, bytes, state, sizeof state, flash, sizeof flash, pm, pm_lent, dm,
-                            dm_lent, io, io_lent, reply, sizeof reply);
+static uint8_t *state = lent.state; /* the state that is lent: that one, or one of many */
+
+static void request(bool plain, const uint8_t *packet, size_t words) {
+    answered = plain ? model_request(0, 0, LOGODWEN_BC_WHOLE, 0, packet, 2 * words, state, sizeof lent.state, lent.flash,
+                                     sizeof lent.flash, lent.pm, sizeof lent.pm, lent.dm, sizeof lent.dm, lent.io, sizeof lent.io,
+                                     lent.reply, sizeof lent.reply)
+                     : logodwen_request(0, 0, LOGODWEN_BC_WHOLE, 0, packet, 2 * words, state, sizeof lent.state, lent.flash,
+                                        sizeof lent.flash, lent.pm, sizeof lent.pm, lent.dm, sizeof lent.dm, lent.io, sizeof lent.io,
+                                        lent.reply, sizeof lent.reply);
 }
 
-static uint64_t plain_node(const uint8_t *packet, size_t bytes) {
-    return model_request(0, 0, LOGODWEN_BC_WHOLE, 0, packet, bytes, state, sizeof state, flash, sizeof flash, pm, pm_lent, dm,
-                         dm_lent, io, io_lent, reply, sizeof reply);
+static void reply(bool plain, unsigned slave, const uint8_t *packet, size_t words) {
+    answered = plain ? model_reply(0, slave, LOGODWEN_BC_WHOLE, 0, 0, 0, packet, 2 * words, state, sizeof lent.state, lent.reply,
+                                   sizeof lent.reply)
+                     : logodwen_reply(0, slave, LOGODWEN_BC_WHOLE, 0, 0, 0, packet, 2 * words, state, sizeof lent.state, lent.reply,
+                                      sizeof lent.reply);
 }
 
-/* One call: of a command that touches none of the lent runs but the reply, of one that touches the memories, and of one that touches
-   the flash. */
-
-static const uint8_t mode_read[2] = {0x2E, 0x12}, dm_read[6] = {0x2E, 0x11, 0x02, 0x40, 0x00, 0x20}, file_test[4] = {0x2E, 0x06, 0x10, 0x00};
-
-static void calls_mode_read(void) { kept = library(mode_read, sizeof mode_read); }
-static void calls_dm_read(void) { kept = library(dm_read, sizeof dm_read); }
-static void calls_file_test(void) { kept = library(file_test, sizeof file_test); }
-
-/* All lent bytes, copied once; by a pointer, so that the compiler can't see that nobody looks at the copy. */
-static void *(*volatile copy)(void *, const void *, size_t) = memcpy;
-
-static void copy_lent(void) {
-    static const struct {
-        uint8_t *bytes;
-        size_t count;
-    } runs[] = {{state, sizeof state}, {flash, sizeof flash}, {pm, sizeof pm},
-                {dm, sizeof dm},       {io, sizeof io},       {reply, sizeof reply}};
-    size_t at = 0;
-    for (size_t i = 0; i < sizeof runs / sizeof *runs; at += runs[i++].count)
-        copy(other + at, runs[i].bytes, runs[i].count);
+static void poll(bool plain) {
+    answered = plain ? model_poll(0, state, sizeof lent.state, lent.reply, sizeof lent.reply)
+                     : logodwen_poll(0, state, sizeof lent.state, lent.reply, sizeof lent.reply);
 }
 
-/* A write and a read-back of an image, each time into the same blank sector. */
-
-/* A file of DM segments that has so many words, for the sector that has room for it. */
-static void lay_file(uint8_t *words, size_t count, unsigned name) {
-    logodwen_put(words, 0, (uint16_t)(0x3001 | name << 4));
-    logodwen_put(words, 1, (uint16_t)(0x4000 | (count - 3)));
-    logodwen_put(words, 2, 0x2000);
-    for (size_t i = 3; i < count - 1; i++)
-        logodwen_put(words, i, (uint16_t)(i * 40503u + 12345u));
-    logodwen_put(words, count - 1, model_fcs(words + 6, count - 4));
+static void erase(bool plain, uint64_t budget) {
+    answered = plain ? model_erase(budget, state, sizeof lent.state, lent.flash, sizeof lent.flash)
+                     : logodwen_erase(budget, state, sizeof lent.state, lent.flash, sizeof lent.flash);
 }
 
-static void write_and_read(uint64_t (*request)(const uint8_t *, size_t)) {
-    memcpy(state, started, sizeof state);
-    memset(flash + 4 * 2048, 0xFF, 2 * IMAGE_WORDS);
-    written = request(write_packet, sizeof write_packet);
-    read_back = request(read_packet, sizeof read_packet);
+static void start(bool plain) {
+    answered = plain ? model_start(LOGODWEN_CDDC, 1, 0, 0, 0, 0, 0, lent.flash, sizeof lent.flash, state, sizeof lent.state)
+                     : logodwen_start(LOGODWEN_CDDC, 1, 0, 0, 0, 0, 0, lent.flash, sizeof lent.flash, state, sizeof lent.state);
 }
 
-static void library_writes(void) { write_and_read(library); }
-static void plain_writes(void) { write_and_read(plain_node); }
+/* Packets. */
 
-static int is_read_back(void) {
-    return strcmp(logodwen_reply_text(written), "END") == 0 && logodwen_words(read_back) == IMAGE_WORDS + 2
-           && memcmp(reply, write_packet + 2, 2 * IMAGE_WORDS) == 0;
+struct packet {
+    uint8_t bytes[LOGODWEN_REQUEST_BYTES];
+    size_t words;
+};
+
+static void word(struct packet *packet, unsigned value) { logodwen_put(packet->bytes, packet->words++, (uint16_t)value); }
+
+static void command(struct packet *packet, unsigned id) {
+    packet->words = 0;
+    word(packet, id << 8 | 0x2E);
 }
 
-/* A start, and a read of one file, on a flash whose other sectors are full. */
-
-static void library_starts(void) {
-    kept = logodwen_start(LOGODWEN_CDP, 1, 0, 0, 0, 0, 0, flash, sizeof flash, state, sizeof state);
-}
-static void plain_starts(void) { kept = model_start(LOGODWEN_CDP, 1, 0, 0, 0, 0, 0, flash, sizeof flash, state, sizeof state); }
-
-static uint8_t full_flash[LOGODWEN_FLASH_BYTES], sole_flash[LOGODWEN_FLASH_BYTES];
-static uint8_t full_state[LOGODWEN_STATE_BYTES], sole_state[LOGODWEN_STATE_BYTES];
-
-static uint64_t read_from(uint8_t *from_flash, uint8_t *from_state) {
-    return logodwen_request(0, 0, LOGODWEN_BC_WHOLE, 0, read_packet, sizeof read_packet, from_state, LOGODWEN_STATE_BYTES,
-                            from_flash, LOGODWEN_FLASH_BYTES, pm, pm_lent, dm, dm_lent, io, io_lent, reply, sizeof reply);
+/* A segment of a memory by its bits, with so many memory words, from an address on page 0. */
+static void segment(struct packet *packet, unsigned bits, unsigned count, unsigned address) {
+    size_t from = packet->words + 2, size = bits == 0 ? (count + 1) / 2 * 3 : count + 1;
+    word(packet, bits << 14 | (count + 1));
+    word(packet, address);
+    for (size_t i = 1; i < size; i++)
+        word(packet, bits == 0 && i == size - 1 ? 0x1200 : bits == 2 ? i % 2 ? 0x1000 | i / 2 : i : i * 40503u);
+    word(packet, logodwen_fcs(packet->bytes + 2 * from, size - 1));
 }
 
-static void read_among_full(void) { kept = read_from(full_flash, full_state); }
-static void read_sole(void) { kept = read_from(sole_flash, sole_state); }
+/* The two header words of a memory read. */
+static void header(struct packet *packet, unsigned id, unsigned bits, unsigned count, unsigned address) {
+    command(packet, id);
+    word(packet, bits << 14 | (count + 1));
+    word(packet, address);
+}
 
-/* File 8 in the last sector; files 1 to 7 fill the others. */
-static void lay_flashes(void) {
-    memset(full_flash, 0xFF, sizeof full_flash);
-    memset(sole_flash, 0xFF, sizeof sole_flash);
-    lay_file(full_flash + 2 * 2048, 2048, 1);
-    for (unsigned i = 2; i <= FILE_SECTORS; i++)
-        lay_file(full_flash + 2 * LARGEST * (i - 1), LARGEST, i);
-    memcpy(sole_flash + 2 * LARGEST * 7, full_flash + 2 * LARGEST * 7, 2 * LARGEST);
-    logodwen_start(LOGODWEN_CDP, 1, 0, 0, 0, 0, 0, full_flash, sizeof full_flash, full_state, sizeof full_state);
-    logodwen_start(LOGODWEN_CDP, 1, 0, 0, 0, 0, 0, sole_flash, sizeof sole_flash, sole_state, sizeof sole_state);
+/* A file of one DM segment that has so many words, with its name. */
+static void file(struct packet *packet, unsigned name, unsigned words) {
+    word(packet, 0x3001 | name << 4);
+    segment(packet, 1, words - 4, 0x2000);
+}
+
+enum { SMALL_NAME = 8, LARGE_NAME = 9 };
+
+static struct packet mode_read, mode_write, status, summary, mask_read, mask_write, wrong, unserved, small_read, small_test, dm_two,
+    pm_three, io_pair, ping, dm_read, dm_write, pm_read, pm_write, large_read, large_write, load, one_slave, group, ten, fivehundred;
+
+static void lay_packets(void) {
+    command(&mode_read, 0x12);
+    command(&mode_write, 0x52);
+    word(&mode_write, 1);
+    command(&status, 0x0C);
+    command(&summary, 0x07);
+    command(&mask_read, 0x17);
+    command(&mask_write, 0x57);
+    word(&mask_write, 0x00FF);
+    word(&mask_write, 0xFFFF);
+    word(&wrong, 0x00FF);
+    command(&unserved, 0x52);
+    word(&unserved, 4);
+    command(&small_read, 0x05);
+    word(&small_read, SMALL_NAME << 4);
+    command(&small_test, 0x06);
+    word(&small_test, SMALL_NAME << 4);
+    header(&dm_two, 0x11, 1, 2, 0x2000);
+    header(&pm_three, 0x10, 0, 3, 0);
+    command(&io_pair, 0x0F);
+    segment(&io_pair, 2, 2, 0);
+    command(&ping, 0x0D);
+    for (unsigned i = 0; i < PING; i++)
+        word(&ping, i);
+    header(&dm_read, 0x11, 1, DM_RUN, 0x2000);
+    command(&dm_write, 0x51);
+    segment(&dm_write, 1, DM_RUN, 0x2000);
+    header(&pm_read, 0x10, 0, PM_READ + 1, 0);
+    command(&pm_write, 0x50);
+    segment(&pm_write, 0, PM_WRITE + 1, 0);
+    command(&large_read, 0x05);
+    word(&large_read, LARGE_NAME << 4);
+    command(&large_write, 0x45);
+    file(&large_write, LARGE_NAME, LARGE);
+    command(&load, 0x46);
+    word(&load, LARGE_NAME << 4);
+    word(&one_slave, 0x0403);
+    word(&one_slave, 0x122E);
+    word(&group, 0x002A);
+    word(&group, 0x122E);
+    for (unsigned i = 0; i < 9; i++)
+        word(&ten, i);
+    word(&ten, logodwen_fcs(ten.bytes, 9));
+    for (unsigned i = 0; i < REPLIED - 1; i++)
+        word(&fivehundred, i * 40503u);
+    word(&fivehundred, logodwen_fcs(fivehundred.bytes, REPLIED - 1));
+}
+
+/* How a turn begins. */
+
+static void as_first(void) {
+    memcpy(&lent, &first, sizeof lent);
+    state = lent.state;
+}
+
+/* A state for each call of a turn, where a call makes another one of it. */
+static uint8_t states[TIMES][LOGODWEN_STATE_BYTES];
+static size_t next;
+
+static void many_states(void) {
+    as_first();
+    for (size_t i = 0; i < TIMES; i++)
+        memcpy(states[i], lent.state, sizeof lent.state);
+    next = 0;
+}
+
+static void next_state(void) { state = states[next++]; }
+
+static void pending_slave(void) {
+    as_first();
+    request(true, one_slave.bytes, one_slave.words);
+}
+
+static void pending_group(void) {
+    as_first();
+    request(true, group.bytes, group.words);
+    for (size_t i = 0; i < TIMES; i++)
+        memcpy(states[i], lent.state, sizeof lent.state);
+    next = 0;
+}
+
+/* Sector 4, where the large file stands, is being erased. */
+static void erasing(void) {
+    struct packet packet;
+    as_first();
+    command(&packet, 0x47);
+    word(&packet, LARGE_NAME << 4 | 1);
+    request(true, packet.bytes, packet.words);
+}
+
+/* The large file is not there. */
+static void without_large(void) {
+    erasing();
+    erase(true, ERASED);
+}
+
+/* The rows. */
+
+static void reads_mode(bool plain) { request(plain, mode_read.bytes, mode_read.words); }
+static void writes_mode(bool plain) { request(plain, mode_write.bytes, mode_write.words); }
+static void tells_status(bool plain) { request(plain, status.bytes, status.words); }
+static void sums_up(bool plain) { request(plain, summary.bytes, summary.words); }
+static void reads_masks(bool plain) { request(plain, mask_read.bytes, mask_read.words); }
+static void writes_mask(bool plain) { request(plain, mask_write.bytes, mask_write.words); }
+static void says_error(bool plain) { request(plain, wrong.bytes, wrong.words); }
+static void says_abort(bool plain) { request(plain, unserved.bytes, unserved.words); }
+static void reads_small(bool plain) { request(plain, small_read.bytes, small_read.words); }
+static void tests_small(bool plain) { request(plain, small_test.bytes, small_test.words); }
+static void reads_dm_two(bool plain) { request(plain, dm_two.bytes, dm_two.words); }
+static void reads_pm_three(bool plain) { request(plain, pm_three.bytes, pm_three.words); }
+static void performs_io(bool plain) { request(plain, io_pair.bytes, io_pair.words); }
+static void erases_nothing(bool plain) { erase(plain, 0); }
+static void erases_one(bool plain) { erase(plain, 1); }
+static void polls(bool plain) { poll(plain); }
+static void pings(bool plain) { request(plain, ping.bytes, ping.words); }
+static void reads_dm(bool plain) { request(plain, dm_read.bytes, dm_read.words); }
+static void writes_dm(bool plain) { request(plain, dm_write.bytes, dm_write.words); }
+static void reads_pm(bool plain) { request(plain, pm_read.bytes, pm_read.words); }
+static void writes_pm(bool plain) { request(plain, pm_write.bytes, pm_write.words); }
+static void reads_large(bool plain) { request(plain, large_read.bytes, large_read.words); }
+static void writes_large(bool plain) { request(plain, large_write.bytes, large_write.words); }
+static void loads(bool plain) { request(plain, load.bytes, load.words); }
+static void starts(bool plain) { start(plain); }
+static void erases_all(bool plain) { erase(plain, ERASED); }
+
+static void asks(bool plain) {
+    next_state();
+    request(plain, one_slave.bytes, one_slave.words);
+}
+
+static void replies_ten(bool plain) {
+    next_state();
+    reply(plain, 0, ten.bytes, ten.words);
+}
+
+static void gathers(bool plain) {
+    for (unsigned slave = 0; slave < LOGODWEN_SLAVES; slave++)
+        reply(plain, slave, fivehundred.bytes, fivehundred.words);
+}
+
+static void one_group(void) {
+    pending_group();
+    state = lent.state;
 }
 
 int perf_border_runs(void) {
-    int over = 0;
-    memset(flash, 0xFF, sizeof flash);
-    library_starts();
-    memcpy(started, state, sizeof state);
-    over += perf_ratio("a call that needs no memory (Mode Read)", calls_mode_read, "memcpy of the bytes lent", copy_lent, 20, 1.30);
-    over += perf_ratio("a call on PM, DM, IO (DM Read of a word)", calls_dm_read, "memcpy of the bytes lent", copy_lent, 20, 0);
-    over += perf_ratio("a call on the flash (Test of no file)", calls_file_test, "memcpy of the bytes lent", copy_lent, 20, 0);
-
-    write_packet[0] = read_packet[0] = 0x2E;
-    write_packet[1] = 0x45;
-    read_packet[1] = 0x05;
-    lay_file(write_packet + 2, IMAGE_WORDS, 8);
-    logodwen_put(read_packet, 1, 0x0080);
-    plain_writes();
-    int wrong = !is_read_back();
-    library_writes();
-    if (wrong || !is_read_back())
-        return over + perf_differ("write and read-back");
-    over += perf_ratio("write and read-back, all memories lent", library_writes, "the node in plain C", plain_writes, 10, 1.50);
-    lend_no_memories();
-    over += perf_ratio("write and read-back of 4,000 words", library_writes, "the node in plain C", plain_writes, 10, 1.50);
-
-    lay_flashes();
-    memcpy(flash, full_flash, sizeof flash);
-    plain_starts();
-    memcpy(other, state, sizeof state);
-    library_starts();
-    if (memcmp(other, state, sizeof state) != 0)
-        return over + perf_differ("start");
-    over += perf_ratio("start on eight full sectors", library_starts, "the node in plain C", plain_starts, 5, 0);
-    over += perf_ratio("File Read, the other seven sectors full", read_among_full, "the other seven sectors empty", read_sole, 10,
-                       1.10);
-    return over;
+    const struct row rows[] = {
+        {"Mode Read", as_first, reads_mode, TIMES, SHORT},
+        {"Mode Write", as_first, writes_mode, TIMES, SHORT},
+        {"Status", as_first, tells_status, TIMES, SHORT},
+        {"Summary", as_first, sums_up, TIMES, SHORT},
+        {"Slave Mask Read", as_first, reads_masks, TIMES, SHORT},
+        {"Slave Mask Write", as_first, writes_mask, TIMES, SHORT},
+        {"ERROR", as_first, says_error, TIMES, SHORT},
+        {"ABORT", as_first, says_abort, TIMES, SHORT},
+        {"Read of a file of 6 words", as_first, reads_small, TIMES, SHORT},
+        {"Test of a file of 6 words", as_first, tests_small, TIMES, SHORT},
+        {"DM Read of 2 words", as_first, reads_dm_two, TIMES, SHORT},
+        {"PM Read of 3 words", as_first, reads_pm_three, TIMES, SHORT},
+        {"Perform IO of one pair", as_first, performs_io, TIMES, SHORT},
+        {"erase with nothing going on", as_first, erases_nothing, TIMES, SHORT},
+        {"erase of 1 word", erasing, erases_one, TIMES, SHORT},
+        {"poll that waits", pending_slave, polls, TIMES, SHORT},
+        {"ask", many_states, asks, TIMES, SHORT},
+        {"reply of 10 words to a group", pending_group, replies_ten, TIMES, SHORT},
+        {"Ping of 8,000 words", as_first, pings, 5, LONG},
+        {"DM Read of 8,000 words", as_first, reads_dm, 5, LONG},
+        {"DM Write of 8,000 words", as_first, writes_dm, 5, LONG},
+        {"PM Read of 7,999 words", as_first, reads_pm, 5, LONG},
+        {"PM Write of 5,401 words", as_first, writes_pm, 5, LONG},
+        {"Read of a file of 4,000 words", as_first, reads_large, 5, LONG},
+        {"Write of a file of 4,000 words", without_large, writes_large, 1, LONG},
+        {"Load of a file of 4,000 words", as_first, loads, 5, LONG},
+        {"start", as_first, starts, 5, LONG},
+        {"a group of 24 replies of 500 words", one_group, gathers, 1, LONG},
+        {"erase of 4,096 words", erasing, erases_all, 1, LONG},
+    };
+    const size_t count = sizeof rows / sizeof *rows;
+    lay_packets();
+    memset(lent.flash, 0xFF, sizeof lent.flash);
+    start(true);
+    for (size_t i = 0; i < sizeof lent.dm; i++)
+        lent.dm[i] = lent.pm[i] = (uint8_t)(i * 37u);
+    struct packet small;
+    command(&small, 0x45);
+    file(&small, SMALL_NAME, 6);
+    request(true, small.bytes, small.words);
+    request(true, large_write.bytes, large_write.words);
+    memcpy(&first, &lent, sizeof first);
+    for (size_t i = 0; i < count; i++) {
+        rows[i].prepare();
+        rows[i].work(false);
+        uint64_t said = answered;
+        uint8_t *proved_state = state;
+        uint8_t left[LOGODWEN_STATE_BYTES];
+        memcpy(left, proved_state, sizeof left);
+        memcpy(&after, &lent, sizeof after);
+        rows[i].prepare();
+        rows[i].work(true);
+        if (answered != said || memcmp(&after, &lent, sizeof after) != 0 || memcmp(left, state, sizeof left) != 0)
+            return measure_differs(rows[i].what);
+    }
+    return measure(rows, count);
 }

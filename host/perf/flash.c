@@ -1,5 +1,7 @@
 /* The flash: its directory worked out afresh. */
-#include "perf.h"
+#include "measure.h"
+#include "plain.h"
+#include "runs.h"
 
 uint16_t perf_scan(const uint16_t *words, size_t n, size_t at); /* crates/perf */
 
@@ -47,15 +49,15 @@ static void lay_full(uint16_t *sector, size_t size) {
     sector[0] = (uint16_t)(0x3210 | segments);
 }
 
-static void proved(void) { kept = perf_scan(words, FLASH_WORDS, 2); }
-static void plain(void) { kept = plain_scan(words, FLASH_WORDS, 2); }
+static void scans(bool plain) { kept = plain ? plain_scan(words, FLASH_WORDS, 2) : perf_scan(words, FLASH_WORDS, 2); }
 
 int perf_flash_runs(void) {
+    static const struct row row = {"scan of eight full sectors, full size", NULL, scans, 2, 1.30};
     lay_full(words + UNIT, UNIT);
     for (size_t start = UNIT * 2; start < FLASH_WORDS; start += UNIT * 2)
         lay_full(words + start, UNIT * 2);
     for (size_t at = 0; at < 32; at++)
         if (perf_scan(words, FLASH_WORDS, at) != plain_scan(words, FLASH_WORDS, at) || (at % 4 == 2 && plain_scan(words, FLASH_WORDS, at) != 0))
-            return perf_differ("scan");
-    return perf_compare("scan of eight full sectors, full size", proved, plain, 2, 1.30);
+            return measure_differs("scan");
+    return measure(&row, 1);
 }

@@ -1,5 +1,7 @@
 /* Group assembly: 24 slaves, each with a whole reply of 500 words. */
-#include "perf.h"
+#include "measure.h"
+#include "plain.h"
+#include "runs.h"
 
 #include <string.h>
 
@@ -13,7 +15,7 @@ static uint16_t replies[SLAVES][REPLY];
 static uint16_t proved_area[AREA], plain_area[AREA];
 static volatile size_t kept;
 
-static void proved(void) {
+static void proved_group(void) {
     size_t built = 0;
     for (uint32_t slave = 0; slave < SLAVES; slave++)
         built = perf_take(proved_area, AREA, built, SLAVES - 1 - slave, slave, replies[slave], REPLY);
@@ -37,7 +39,7 @@ static size_t plain_take(uint16_t *area, size_t built, size_t left, uint32_t sla
     return built + n;
 }
 
-static void plain(void) {
+static void plain_group(void) {
     size_t built = 0;
     for (uint32_t slave = 0; slave < SLAVES; slave++)
         built = plain_take(plain_area, built, SLAVES - 1 - slave, slave, replies[slave], REPLY);
@@ -46,16 +48,24 @@ static void plain(void) {
     kept = built + 2;
 }
 
+static void gathers(bool plain) {
+    if (plain)
+        plain_group();
+    else
+        proved_group();
+}
+
 int perf_group_runs(void) {
+    static const struct row row = {"group of 24 replies of 500 words, on words", NULL, gathers, 20, 1.30};
     for (unsigned slave = 0; slave < SLAVES; slave++) {
         for (unsigned i = 0; i < REPLY - 1; i++)
             replies[slave][i] = (uint16_t)((slave * REPLY + i) * 40503u + 12345u);
         replies[slave][REPLY - 1] = plain_fcs(replies[slave], REPLY - 1);
     }
-    proved();
+    gathers(false);
     size_t words = kept;
-    plain();
+    gathers(true);
     if (words != kept || memcmp(proved_area, plain_area, sizeof plain_area) != 0)
-        return perf_differ("group");
-    return perf_compare("group of 24 replies of 500 words", proved, plain, 20, 1.30);
+        return measure_differs("group");
+    return measure(&row, 1);
 }

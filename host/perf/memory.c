@@ -1,8 +1,9 @@
 /* The memories: a DM run of 8,000 words read into a reply, and stored out of a segment. It crosses from page 4's half of the addresses
    into fixed memory. */
-#include "perf.h"
+#include "measure.h"
+#include "plain.h"
+#include "runs.h"
 
-#include <stdbool.h>
 #include <string.h>
 
 size_t perf_read_dm(const uint16_t *dm, size_t n, uint16_t first, uint16_t second, uint16_t *reply, size_t room); /* crates/perf */
@@ -53,12 +54,16 @@ static int plain_write(uint16_t *dm, size_t n, const uint16_t *segment, size_t w
 static uint16_t dm[DM_WORDS], other[DM_WORDS], reply[REPLY], other_reply[REPLY], segment[RUN + 3];
 static volatile size_t kept;
 
-static void proved_read(void) { kept = perf_read_dm(dm, DM_WORDS, FIRST, SECOND, reply, REPLY); }
-static void plain_reads(void) { kept = plain_read(dm, DM_WORDS, FIRST, SECOND, other_reply, REPLY); }
-static void proved_write(void) { kept = perf_write_dm(dm, DM_WORDS, segment, RUN + 3); }
-static void plain_writes(void) { kept = (size_t)plain_write(other, DM_WORDS, segment, RUN + 3); }
+static void reads(bool plain) {
+    kept = plain ? plain_read(dm, DM_WORDS, FIRST, SECOND, other_reply, REPLY) : perf_read_dm(dm, DM_WORDS, FIRST, SECOND, reply, REPLY);
+}
+static void writes(bool plain) {
+    kept = plain ? (size_t)plain_write(other, DM_WORDS, segment, RUN + 3) : (size_t)perf_write_dm(dm, DM_WORDS, segment, RUN + 3);
+}
 
 int perf_memory_runs(void) {
+    static const struct row rows[] = {{"read of a DM run of 8,000 words, on words", NULL, reads, 20, 1.50},
+                                      {"write of a DM run of 8,000 words, on words", NULL, writes, 20, 1.50}};
     for (unsigned i = 0; i < DM_WORDS; i++)
         dm[i] = other[i] = (uint16_t)(i * 40503u + 12345u);
     segment[0] = FIRST;
@@ -66,14 +71,13 @@ int perf_memory_runs(void) {
     for (unsigned i = 0; i < RUN; i++)
         segment[2 + i] = (uint16_t)(i * 25173u + 13849u);
     segment[2 + RUN] = plain_fcs(segment + 2, RUN);
-    proved_read();
-    plain_reads();
+    reads(false);
+    reads(true);
     if (kept != RUN + 3 || memcmp(reply, other_reply, sizeof reply) != 0)
-        return perf_differ("read_dm");
-    proved_write();
-    plain_writes();
+        return measure_differs("read_dm");
+    writes(false);
+    writes(true);
     if (kept != 1 || memcmp(dm, other, sizeof dm) != 0)
-        return perf_differ("write_dm");
-    return perf_compare("DM Read of 8,000 words", proved_read, plain_reads, 20, 1.50)
-        + perf_compare("DM Write of 8,000 words", proved_write, plain_writes, 20, 1.50);
+        return measure_differs("write_dm");
+    return measure(rows, sizeof rows / sizeof *rows);
 }

@@ -1,13 +1,14 @@
 -- Searches over the file sectors: by name, by address, and for a place. 01 'Flash'. Assumes nothing.
 use Prim.Native.Nat.{ℕ, zero, suc, _+_}
-use mathlib.Core.Bool.{Bool, true, false, _&&_}
+use mathlib.Core.Bool.{Bool, true, false, not, _&&_}
 use mathlib.Core.List.{List}
 use lib.ListN.{getD}
 use lib.Dec.{leb, eqb}
 use Rattle.base.specs.Pick.{pick}
 use Rattle.image.specs.Header.{nameOf, headerOk}
 use Rattle.flash.specs.Geometry.{unitOf, sizeOf, sectorAddress, entryPlace}
-use Rattle.flash.specs.Directory.{keptStatus}
+use Rattle.flash.specs.Status.{isErasing}
+use Rattle.flash.specs.Directory.{entryIs, keptStatus}
 use Rattle.flash.specs.declared.Status.{Status}
 use Rattle.flash.specs.declared.Erasing.{Erasing}
 use Rattle.flash.specs.declared.Found.{Found}
@@ -76,6 +77,10 @@ isEmptyStatus Status.Empty = true
 isEmptyStatus (Status.Good n) = false
 isEmptyStatus Status.Bad = false
 isEmptyStatus Status.Erasing = false
+
+-- Whether a sector may be a file's place as far as the directory tells: at least as many words, not being erased, and entered as empty.
+abbrev pub offered : ℕ → List ℕ → Erasing → ℕ → ℕ → Bool
+offered u directory erasing n s = leb n (sizeOf u s) && (not (isErasing erasing s) && entryIs directory s 0xFFFF Status.Empty)
 
 -- Whether a file of n words may go to a sector: an empty one with at least as many words.
 unfoldable pub takes : List ℕ → List ℕ → Erasing → ℕ → ℕ → Bool

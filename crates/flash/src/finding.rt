@@ -11,8 +11,8 @@ use crate::sectors::sector_address;
 use crate::sectors::sector_of;
 use crate::sectors::sector_size;
 ghost use mathlib.Core.Path.{_≡_};
-ghost use Prim.Native.Nat.{_<_};
-ghost use Rattle.flash.specs.Search.{isNamed, orElse, countedWith, searchOf, targetOf, addressed, takes, placeOf};
+ghost use Prim.Native.Nat.{_/_, _<_};
+ghost use Rattle.flash.specs.Search.{isNamed, orElse, countedWith, searchOf, targetOf, addressed, offered, takes, placeOf};
 
 // Whether a first word is the header of a file of this name.
 pub fn is_named(name: u16, word: u16) -> bool
@@ -91,18 +91,31 @@ pub fn sector_at(address: u16) -> Found
     found
 }
 
-// Whether a file of n words may go to a sector. Its words are looked at only where the directory says that it is empty and it is
-// large enough.
-fn may_take(directory: [u16; 32], flash: &[u16], erasing: Erasing, n: usize, sector: usize) -> bool
-    ensures { λ r. ⌜ r ≡ takes directory (now (flash .entry)) erasing n sector ⌝ }
+// Whether a sector of a flash of so many words may be the place for a file of n words, as far as the directory tells: the sector's own
+// words are not looked at.
+pub fn is_offered(
+    directory: [u16; 32],
+    len: usize,
+    erasing: Erasing,
+    n: usize,
+    sector: usize,
+) -> bool
+    ensures { λ r. ⌜ r ≡ offered (len / 16) directory erasing n sector ⌝ }
 {
-    if sector_size(flash.len(), sector) < n {
+    if sector_size(len, sector) < n {
         return false;
     }
     if is_erasing(erasing, sector) {
         return false;
     }
-    if !entry_is(directory, sector, 0xFFFF, Status::Empty) {
+    entry_is(directory, sector, 0xFFFF, Status::Empty)
+}
+
+// Whether a file of n words may go to a sector. Its words are looked at only where it is offered.
+fn may_take(directory: [u16; 32], flash: &[u16], erasing: Erasing, n: usize, sector: usize) -> bool
+    ensures { λ r. ⌜ r ≡ takes directory (now (flash .entry)) erasing n sector ⌝ }
+{
+    if !is_offered(directory, flash.len(), erasing, n, sector) {
         return false;
     }
     is_empty(sector_of(flash, sector))

@@ -1,13 +1,11 @@
 -- A step of an erasure: the words set, stored at their place, and the sector's first. Assumes nothing.
-use Prim.Native.Nat.{ℕ, zero, suc, min, _+_, _-_, _*_, _/_, _≤_, _<_}
+use Prim.Native.Nat.{ℕ, zero, suc, min, _+_, _-_, _*_, _/_, _≤_}
 use mathlib.Core.Path.{_≡_, refl, sym, ap, subst, _∙_}
-use mathlib.Core.List.{List, [], _∷_, _++_}
+use mathlib.Core.List.{List}
 use native.Mathlib.Omega.{arith}
-use native.Mathlib.Nat.{add-zero, min-le-right}
-use lib.ListN.{length, getD, take, drop, length-replicate}
-use lib.Seq.{getD-take, getD-drop}
-use Rattle.base.specs.Words.{part, laid, blanks, Below}
-use Rattle.base.proofs.Part.{below-take, below-drop, below-append}
+use native.Mathlib.Nat.{min-le-right}
+use lib.ListN.{length, length-replicate}
+use Rattle.base.specs.Words.{laid, blanks, Below}
 use Rattle.base.proofs.Laid.{length-laid, laid-none}
 use Rattle.flash.specs.Geometry.{unitOf, sizeOf, startOf, sectorOf}
 use Rattle.flash.specs.Status.{firstOf}
@@ -25,9 +23,10 @@ use Rattle.node.specs.declared.Refusal.{Refusal}
 use Rattle.node.specs.declared.Turn.{Turn}
 use Rattle.node.specs.declared.Verdict.{Verdict}
 use Rattle.node.proofs.Blanks.{step-idle, step-set}
-use Rattle.logodwen.specs.Bytes.{numberAt, wordsIn, wordsOf, bytesOf, storeWords}
+use Rattle.logodwen.specs.Bytes.{wordsIn, wordsOf, bytesOf, storeWords}
 use Rattle.logodwen.specs.Entry.{inBytes}
-use Rattle.logodwen.proofs.Runs.{length-words, length-words-of, store-words, store-laid, word-in, below-words, stored-words}
+use Rattle.logodwen.proofs.Runs.{length-words, length-words-of, store-words, store-laid, below-words}
+use Rattle.logodwen.proofs.InSector.{words-stored, below-laid}
 use Rattle.logodwen.proofs.ThereAndBack.{bytes-kept}
 use Rattle.logodwen.proofs.Exchange.{left-flash}
 
@@ -37,23 +36,6 @@ below-blanks : (n : ℕ) → Below 65536 (blanks n)
 below-blanks zero i = omega arith
 below-blanks (suc n) zero = omega arith
 below-blanks (suc n) (suc i) = below-blanks n i
-
-getD-other : (l : List ℕ) (i d e : ℕ) → i < length l → getD l i d ≡ getD l i e
-getD-other [] i d e h = let z : ⊥ = omega arith in absurd z
-getD-other (x ∷ l) zero d e h = refl
-getD-other (x ∷ l) (suc i) d e h = getD-other l i d e (omega arith)
-
--- the first word of a sector, off the bytes
-pub first-there : (bs : List ℕ) (start size : ℕ) {w : ℕ} → start + size ≤ 32768 → 0 < size → w ≡ numberAt 2 (start * 2) bs
-    → w ≡ firstOf (part (wordsIn 2 32768 bs) start size)
-first-there bs start size h pos e =
-    let here : start < 32768 = omega arith in
-    let there : start < length (wordsIn 2 32768 bs) = omega (arith, length-words 2 32768 bs) in
-    e ∙ sym (word-in 2 32768 start bs here) ∙ getD-other (wordsIn 2 32768 bs) start 0 0xFFFF there
-    ∙ sym (getD-take size (drop start (wordsIn 2 32768 bs)) 0 0xFFFF pos ∙ getD-drop start (wordsIn 2 32768 bs) 0 0xFFFF ∙ ap (λ (i : ℕ). getD (wordsIn 2 32768 bs) i 0xFFFF) (add-zero start))
-
-pub first-none : (bs : List ℕ) (start size : ℕ) → size ≡ 0 → 0xFFFF ≡ firstOf (part (wordsIn 2 32768 bs) start size)
-first-none bs start size e = ap (λ (n : ℕ). firstOf (part (wordsIn 2 32768 bs) start n)) (sym e)
 
 record Blanked (flash words : List ℕ) (at count : ℕ) : Type 0 where
   pub stores : storeWords 2 (laid words at (blanks count)) flash ≡ laid flash (at * 2) (bytesOf 2 (blanks count))
@@ -75,10 +57,6 @@ blanked flash start size done (suc k) fits room most b =
       long = length-laid (wordsIn 2 32768 flash) (start + done) (blanks (suc k)) (omega arith) ∙ w;
     }
 
-below-laid : (words new : List ℕ) (at : ℕ) → Below 65536 words → Below 65536 new → Below 65536 (laid words at new)
-unfolding laid
-below-laid words new at h g = below-append (take at words ++ new) (drop (at + length new) words) (below-append (take at words) new (below-take at words h) g) (below-drop (at + length new) words h)
-
 module _ (n : Node) (budget : ℕ) (flash : List ℕ) (p : Progress) (e : n .erasing ≡ Erasing.Sector p) (size : length flash / 2 ≡ 32768) (b : Below 256 flash) where
   abbrev fw : List ℕ
   fw = wordsOf 2 flash
@@ -96,10 +74,10 @@ module _ (n : Node) (budget : ℕ) (flash : List ℕ) (p : Progress) (e : n .era
   pub erase-left : {count first : ℕ} {next : Erasing} {t : Turn} {end : List ℕ} → count ≡ min budget (sizeOf 2048 (p .sector) - p .done)
       → next ≡ erasingAfter 2048 (Erasing.Sector p) budget
       → end ≡ laid flash ((startOf 2048 (p .sector) + p .done) * 2) (bytesOf 2 (blanks count))
-      → first ≡ firstOf (part (wordsIn 2 32768 end) (startOf 2048 (p .sector)) (sizeOf 2048 (p .sector)))
+      → first ≡ firstOf (sectorOf (wordsOf 2 end) (p .sector))
       → t ≡ steppedTo n (p .sector) first count next
       → outcome t (lentFlash end) ≡ inBytes (applied n (lentFlash fw) (eraseEffect n budget fw)) (lentFlash flash)
-  unfolding eraseCount erased sectorOf
+  unfolding eraseCount erased
   erase-left {count} {first} {next} {t} {end} c x m f s =
       let at : ℕ = startOf 2048 (p .sector) + p .done in
       let k : Blanked flash (wordsIn 2 32768 flash) at count =
@@ -110,9 +88,8 @@ module _ (n : Node) (budget : ℕ) (flash : List ℕ) (p : Progress) (e : n .era
       let stored : end ≡ storeWords 2 done flash = m ∙ sym (k .stores) ∙ ap (λ (l : List ℕ). storeWords 2 l flash) is in
       let long : length done ≡ 32768 = ap length (sym is) ∙ k .long in
       let low : Below 65536 done = subst (Below 65536) is (below-laid (wordsIn 2 32768 flash) (blanks count) at (below-words 32768 flash (omega arith) b) (below-blanks count)) in
-      let words : wordsIn 2 32768 end ≡ done = ap (wordsIn 2 32768) stored ∙ stored-words done flash 32768 long low in
-      let unit′ : 2048 ≡ unitOf done = sym (ap (λ (i : ℕ). i / 16) long) in
-      let first-is : first ≡ firstOf (sectorOf done (p .sector)) = f ∙ (λ i. firstOf (part (words i) (startOf (unit′ i) (p .sector)) (sizeOf (unit′ i) (p .sector)))) in
+      let words : wordsOf 2 end ≡ done = ap (wordsOf 2) stored ∙ words-stored flash done size long low in
+      let first-is : first ≡ firstOf (sectorOf done (p .sector)) = f ∙ ap (λ (l : List ℕ). firstOf (sectorOf l (p .sector))) words in
       left-flash (λ (w : List ℕ). applied n (lentFlash w) (eraseEffect n budget w)) flash fw refl
       (step-set n budget fw p e c′ refl x′ first first-is s) stored
 

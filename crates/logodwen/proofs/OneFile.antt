@@ -1,20 +1,17 @@
 -- Read and Test: a command on one sector, which it leaves. Assumes nothing.
-use Prim.Native.Nat.{ℕ, _+_, _-_, _*_, _/_}
+use Prim.Native.Nat.{ℕ, _-_, _/_}
 use mathlib.Core.Path.{_≡_, refl, sym, ap, _∙_}
 use mathlib.Core.Bool.{Bool, true, false, _&&_, _||_, not, false≢true}
 use mathlib.Core.List.{List}
-use native.Mathlib.Omega.{arith}
-use lib.ListN.{length, getD, take, drop}
+use lib.ListN.{length, getD, take}
 use lib.Dec.{leb, eqb}
 use borrow.Author.Tests.{eqb-true}
 use Rattle.base.specs.Pick.{pick}
-use Rattle.base.specs.Words.{part}
 use Rattle.base.proofs.Pick.{pick-case}
-use Rattle.flash.specs.Geometry.{unitOf, sizeOf, startOf, sectorOf}
+use Rattle.flash.specs.Geometry.{sectorOf}
 use Rattle.flash.specs.declared.Status.{Status}
 use Rattle.flash.specs.declared.Target.{Target}
 use Rattle.flash.specs.Directory.{keptStatus}
-use Rattle.flash.proofs.Geometry.{sector-fits}
 use Rattle.group.specs.declared.ZeroLength.{ZeroLength}
 use Rattle.node.specs.Effect.{Did, says, Lent, lent, Outcome, outcome, ownOutcome}
 use Rattle.node.specs.Settings.{statusIn}
@@ -24,10 +21,10 @@ use Rattle.node.specs.declared.Node.{Node}
 use Rattle.node.specs.declared.Route.{Route}
 use Rattle.node.specs.declared.Turn.{Turn}
 use Rattle.node.specs.declared.Verdict.{Verdict}
-use Rattle.logodwen.specs.Bytes.{wordsIn, wordsOf}
+use Rattle.logodwen.specs.Bytes.{wordsOf}
 use Rattle.logodwen.specs.Entry.{runWords, inBytes}
 use Rattle.logodwen.specs.Touch.{Quiet, fileAs, fileAt, fileOf, isFile}
-use Rattle.logodwen.proofs.Runs.{length-words-of, part-words}
+use Rattle.logodwen.proofs.Runs.{length-words-of}
 use Rattle.logodwen.proofs.Touch.{Lends, Plain, answers-plain, faulty-plain, quiet-left, says-plain}
 use Rattle.logodwen.proofs.Taken.{asked, routeIn, taken-in, verdictIn}
 
@@ -51,17 +48,6 @@ pub file-of-plain : (id : ℕ) (n : Node) (flash packet : List ℕ) → Plain (f
 file-of-plain id n flash packet =
     pick-case Plain (isErasing (n .erasing)) (λ _. says-plain ZeroLength.Abort)
     (λ _. pick-case Plain (eqb (length packet) 2) (λ _. file-at-plain id n flash (namedBy n (getD packet 1 0))) (λ _. says-plain ZeroLength.Abort))
-
--- the sector's words, off its bytes
-pub sector-words : (flash : List ℕ) (s from to : ℕ) → length flash / 2 ≡ 32768 → from ≡ startOf 2048 s * 2 → to ≡ (startOf 2048 s + sizeOf 2048 s) * 2
-    → wordsOf 2 (take (to - from) (drop from flash)) ≡ sectorOf (wordsOf 2 flash) s
-unfolding sectorOf wordsOf
-sector-words flash s from to size f t =
-    let unit : 2048 ≡ unitOf (wordsOf 2 flash) = sym (ap (λ (k : ℕ). k / 16) (length-words-of 2 flash ∙ size)) in
-    let wide : to - from ≡ sizeOf 2048 s * 2 = omega arith in
-    (λ i. wordsOf 2 (take (wide i) (drop (f i) flash)))
-    ∙ part-words (startOf 2048 s) (sizeOf 2048 s) 32768 flash (sector-fits 2048 s) (omega arith)
-    ∙ (λ i. part (wordsIn 2 (sym size i) flash) (startOf (unit i) s) (sizeOf (unit i) s))
 
 -- the status of the words is the one that the commands see
 pub seen-in : (n : Node) (flash words : List ℕ) (s : ℕ) → words ≡ sectorOf flash s → seenIn n words s ≡ seen n flash s

@@ -1,11 +1,11 @@
 -- A request by its verdict and its route, off the lengths of what is lent and the packet's first two words. Assumes nothing.
-use Prim.Native.Nat.{ℕ, _-_, _*_, _/_, _≤_, _<_}
+use Prim.Native.Nat.{ℕ, _-_, _/_, _≤_, _<_}
 use mathlib.Core.Path.{_≡_, refl, sym, ap, _∙_}
 use mathlib.Core.Bool.{Bool, true, false, false≢true}
 use mathlib.Core.List.{List}
 use native.Mathlib.Omega.{arith}
 use native.Mathlib.Decide.{decLe}
-use lib.ListN.{length, getD, List·getD-eq-default}
+use lib.ListN.{length, getD}
 use borrow.Author.Tests.{ne-eqb, lt-ltb}
 use Rattle.node.specs.State.{turn}
 use Rattle.node.specs.Effect.{Lent, Outcome, outcome, applied}
@@ -18,19 +18,10 @@ use Rattle.node.specs.declared.Refusal.{Refusal}
 use Rattle.node.specs.declared.Route.{Route}
 use Rattle.node.specs.declared.Turn.{Turn}
 use Rattle.node.specs.declared.Verdict.{Verdict}
-use Rattle.logodwen.specs.Bytes.{numberAt, wordsOf}
+use Rattle.logodwen.specs.Bytes.{wordsOf}
 use Rattle.logodwen.specs.Entry.{replyWords, runWords, inBytes}
-use Rattle.logodwen.proofs.Runs.{length-words-of, word-in}
+use Rattle.logodwen.proofs.Runs.{length-words-of}
 use Rattle.logodwen.proofs.Touch.{Lends, length-reply, runs-kept}
-
--- the words of a packet in bytes
-
-pub word-there : (packet : List ℕ) (i : ℕ) {w : ℕ} → i < length packet / 2 → w ≡ numberAt 2 (i * 2) packet → w ≡ getD (wordsOf 2 packet) i 0
-unfolding wordsOf
-word-there packet i h e = e ∙ sym (word-in 2 (length packet / 2) i packet h)
-
-pub word-none : (packet : List ℕ) (i : ℕ) → length packet / 2 ≤ i → 0 ≡ getD (wordsOf 2 packet) i 0
-word-none packet i h = sym (List·getD-eq-default (wordsOf 2 packet) 0 (omega (arith, length-words-of 2 packet)))
 
 -- a request by its verdict and its route
 

@@ -4,14 +4,13 @@ ghost use Prim.Native.Nat.{min, _+_, _-_, _*_, _/_, _≤_};
 ghost use lib.ListN.{length};
 ghost use Rattle.node.specs.Effect.{outcome, applied};
 ghost use Rattle.node.specs.Calls.{lentFlash, eraseOf, eraseEffect};
-ghost use Rattle.base.specs.Words.{part, laid, blanks};
-ghost use Rattle.flash.specs.Status.{firstOf};
+ghost use Rattle.base.specs.Words.{laid, blanks};
 ghost use Rattle.flash.specs.declared.Erasing.{Erasing};
-ghost use Rattle.logodwen.specs.Bytes.{wordsIn, wordsOf, bytesOf};
+ghost use Rattle.logodwen.specs.Bytes.{wordsOf, bytesOf};
 ghost use Rattle.logodwen.specs.Entry.{inBytes};
 use crate::answers::refuse;
+use crate::sectors::first_in;
 use crate::words::blank16;
-use crate::words::word16;
 use base::least;
 use flash::Erasing;
 use flash::Progress;
@@ -19,17 +18,6 @@ use node::Answer;
 use node::Node;
 use node::Turn;
 use node::Verdict;
-
-// The first word of a sector; FFFF where it has none.
-fn first_word(bytes: &[u8], start: usize, size: usize) -> u16
-    requires { ⌜ (65536 ≤ length (now bytes)) × (start + size ≤ 32768) ⌝ }
-    ensures { λ r. ⌜ r ≡ firstOf (part (wordsIn 2 32768 (now (bytes .entry))) start size) ⌝ }
-{
-    if size == 0 {
-        return 0xFFFF;
-    }
-    word16(bytes, start * 2)
-}
 
 // Sets words of a sector of which so many are done: as many as the budget says, or the rest.
 fn blank_sector(bytes: &mut [u8], start: usize, size: usize, done: usize, budget: usize) -> usize
@@ -56,7 +44,7 @@ fn erase_sector(node: Node, progress: Progress, budget: usize, flash: &mut [u8])
     let size = flash::sectors::sector_size(32768, sector);
     let start = flash::sectors::sector_start(32768, sector);
     let count = blank_sector(flash, start, size, done, budget);
-    node::blanking::set_step(node, sector, first_word(flash, start, size), count, next)
+    node::blanking::set_step(node, sector, first_in(flash, sector), count, next)
 }
 
 fn erase_taken(node: Node, budget: usize, flash: &mut [u8]) -> Turn

@@ -14,6 +14,7 @@ ghost use Rattle.logodwen.specs.Touch.{Quiet, fileAs, fileAt, fileOf};
 use crate::answers::answer_words;
 use crate::rooms::room_4096;
 use crate::rooms::room_4098;
+use crate::sectors::sector_in;
 use crate::words::load16;
 use crate::words::packet_word;
 use crate::words::store16;
@@ -55,11 +56,7 @@ fn on_sector(node: Node, id: u16, sector: usize, flash: &[u8], reply: &mut [u8])
     ensures { λ r. ⌜ Quiet node (fileAt id node (wordsOf 2 (now (flash .entry))) (Target.At sector)) (now (reply .entry)) r (now (reply .exit)) ⌝ }
 {
     let mut words = room_4096();
-    let start = flash::sectors::sector_start(32768, sector);
-    let size = flash::sectors::sector_size(32768, sector);
-    let from = start * 2;
-    let to = (start + size) * 2;
-    let count = load16(&flash[from..to], &mut words);
+    let count = load16(sector_in(flash, sector), &mut words);
     serve(node, id, sector, &words[..count], reply)
 }
 

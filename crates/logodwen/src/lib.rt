@@ -27,11 +27,16 @@ mod checks;
 mod codec;
 mod erasing;
 mod files;
+mod filing;
+mod load;
+mod memories;
 mod requests;
 mod rooms;
+mod sectors;
 mod settings;
 mod slaves;
 mod starting;
+mod stretches;
 mod whole;
 mod words;
 

@@ -13,10 +13,12 @@ ghost use Rattle.logodwen.specs.Bytes.{wordsOf};
 ghost use Rattle.logodwen.specs.Entry.{runWords, inBytes};
 use crate::answers::refuse;
 use crate::files::on_file;
+use crate::filing::on_filing;
+use crate::load::on_load;
+use crate::memories::on_memories;
 use crate::settings::on_settings;
 use crate::whole::needs_flash;
 use crate::whole::needs_memories;
-use crate::whole::on_whole;
 use crate::words::packet_word;
 use node::Node;
 use node::Route;
@@ -49,19 +51,13 @@ fn on_own(
     if (id == 0x05) | (id == 0x06) {
         return on_file(node, id, packet, flash, reply);
     }
-    on_whole(
-        node,
-        clock,
-        link,
-        bc,
-        errors,
-        packet,
-        flash,
-        pm,
-        dm,
-        io,
-        reply,
-    )
+    if (id == 0x45) | (id == 0x47) | (id == 0x48) {
+        return on_filing(node, id, packet, flash);
+    }
+    if id == 0x46 {
+        return on_load(node, packet, flash, pm, dm, io);
+    }
+    on_memories(node, id, packet, pm, dm, io, reply)
 }
 
 // A request that is taken, by its route, which its first two words and its length tell.

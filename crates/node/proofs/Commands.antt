@@ -3,19 +3,23 @@ use Prim.Native.Nat.{ℕ}
 use mathlib.Core.Path.{_≡_, refl, sym, ap, _∙_}
 use mathlib.Core.Bool.{Bool, true, false, _&&_, not, false≢true}
 use mathlib.Core.List.{List}
+use lib.ListN.{length, getD}
 use lib.Dec.{eqb}
 use Rattle.base.specs.Pick.{pick}
 use Rattle.base.proofs.Laid.{laid-none}
+use Rattle.image.specs.File.{fileEnd}
 use Rattle.flash.specs.Geometry.{unitOf}
 use Rattle.flash.specs.Directory.{refreshed}
+use Rattle.flash.specs.Search.{placeOf}
 use Rattle.flash.specs.declared.Erasing.{Erasing}
+use Rattle.flash.specs.declared.Found.{Found}
 use Rattle.flash.specs.declared.Status.{Status}
 use Rattle.group.specs.Ending.{zeroReply}
 use Rattle.group.specs.declared.ZeroLength.{ZeroLength}
 use Rattle.memory.specs.Segment.{Memories}
 use Rattle.node.specs.State.{turn, withFlash}
 use Rattle.node.specs.Effect.{Change, flashAfter, erasingNext, directoryAfter, Did, says, changes, lent, outcome, ownOutcome, Changes, Stores}
-use Rattle.node.specs.Files.{isErasing, unlessErasing}
+use Rattle.node.specs.Files.{isErasing, unlessErasing, namedBy, isExact, isMissing, placedFor, isNew}
 use Rattle.node.specs.declared.Answer.{Answer}
 use Rattle.node.specs.declared.Node.{Node}
 use Rattle.node.specs.declared.Turn.{Turn}
@@ -43,6 +47,18 @@ changes-as n before e h m reply = e m reply ∙ ap (ownOutcome n (lent before m 
 
 pub stores-as : (n : Node) (before : Memories) {d d′ : Did} {after : Memories} {r : Turn} → Stores n d before r after → d ≡ d′ → Stores n d′ before r after
 stores-as n before e h flash reply = e flash reply ∙ ap (ownOutcome n (lent flash before reply)) h
+
+-- the place of a file, where it may be written at all
+pub placed-new : (n : Node) (flash file : List ℕ)
+    → pick (isNew n file) (placeOf (n .directory) flash (n .erasing) (length file)) Found.Nothing ≡ placedFor n flash file
+placed-new n flash file = by (isExact (fileEnd file) (length file)) (isMissing (namedBy n (getD file 0 0)))
+  where
+    place : Found
+    place = placeOf (n .directory) flash (n .erasing) (length file)
+
+    by : (t u : Bool) → pick (t && u) place Found.Nothing ≡ pick t (pick u place Found.Nothing) Found.Nothing
+    by true u = refl
+    by false u = refl
 
 -- a command that is served, and one that is not, by the one test of both
 module _ (n : Node) (words wanted : ℕ) (d : Did) {b : Bool} (e : b ≡ (not (isErasing (n .erasing)) && eqb words wanted)) where

@@ -4,11 +4,11 @@ ghost use Prim.Native.Nat.{_≤_};
 ghost use lib.ListN.{length};
 ghost use Rattle.image.specs.File.{fileEnd};
 ghost use Rattle.flash.specs.Geometry.{sectorOf};
-ghost use Rattle.flash.specs.Directory.{refreshed};
+ghost use Rattle.flash.specs.Directory.{entered, refreshed};
 ghost use Rattle.group.specs.Ending.{zeroReply};
 ghost use Rattle.node.specs.State.{turn, withFlash};
 ghost use Rattle.node.specs.Effect.{Changes};
-ghost use Rattle.node.specs.Files.{seen, isExact, isMissing, placedFor, writeAt, writeOf, toErase, eraseAt, eraseStartOf, setTo, attributeBy, attributeAt, attributeSetOf};
+ghost use Rattle.node.specs.Files.{seen, isExact, isMissing, isNew, placedFor, writeAt, writeOf, toErase, eraseAt, eraseStartOf, setTo, attributeBy, attributeAt, attributeSetOf};
 use crate::Answer;
 use crate::Node;
 use crate::Turn;
@@ -24,6 +24,7 @@ use flash::Progress;
 use flash::Setting;
 use flash::Status;
 use flash::Target;
+use flash::sectors::first_of;
 use flash::sectors::sector_of;
 use group::ZeroLength;
 use image::End;
@@ -47,13 +48,26 @@ pub fn with_flash(node: Node, directory: [u16; 32], erasing: Erasing) -> Node
     }
 }
 
-// END, with the entry of a sector as the flash now has it and this erasure.
+// END, with this entry of a sector and this erasure.
+pub fn end_as(node: Node, sector: usize, first: u16, status: Status, erasing: Erasing) -> Turn
+    ensures { λ r. ⌜ r ≡ turn (withFlash node (entered (node .directory) sector first status) erasing) (Answer.Reply (zeroReply ZeroLength.End)) ⌝ }
+{
+    let before = node.directory;
+    let directory = flash::directory::with_entry(before, sector, first, status);
+    says(with_flash(node, directory, erasing), ZeroLength::End)
+}
+
+// The same with the entry as the flash now has it.
 fn end_with(node: Node, flash: &[u16], sector: usize, status: Status, erasing: Erasing) -> Turn
     ensures { λ r. ⌜ r ≡ turn (withFlash node (refreshed (node .directory) (now (flash .entry)) sector status) erasing) (Answer.Reply (zeroReply ZeroLength.End)) ⌝ }
 {
-    let before = node.directory;
-    let directory = flash::directory::refresh(before, flash, sector, status);
-    says(with_flash(node, directory, erasing), ZeroLength::End)
+    end_as(
+        node,
+        sector,
+        first_of(sector_of(flash, sector)),
+        status,
+        erasing,
+    )
 }
 
 // Whether a file is valid and exact.
@@ -77,16 +91,23 @@ fn is_missing(target: Target) -> bool
     }
 }
 
+// Whether a file may be written, wherever it then goes: valid and exact, and its name unused.
+pub fn is_new(node: Node, file: &[u16]) -> bool
+    ensures { λ r. ⌜ r ≡ isNew node (now (file .entry)) ⌝ }
+{
+    if !is_exact(file) {
+        return false;
+    }
+    is_missing(named_by(node, word_at(file, 0)))
+}
+
 // The sector that a file goes to.
 fn placed_for(node: Node, flash: &[u16], file: &[u16]) -> Found
     ensures { λ r. ⌜ r ≡ placedFor node (now (flash .entry)) (now (file .entry)) ⌝ }
 {
     let directory = node.directory;
     let erasing = node.erasing;
-    if !is_exact(file) {
-        return Found::Nothing;
-    }
-    if !is_missing(named_by(node, word_at(file, 0))) {
+    if !is_new(node, file) {
         return Found::Nothing;
     }
     flash::finding::place(directory, flash, erasing, file.len())
@@ -120,7 +141,7 @@ pub fn file_write(node: Node, packet: &[u16], flash: &mut [u16]) -> Turn
 }
 
 // The sector that an Erase of this word is about: by its address, or by name.
-fn to_erase(node: Node, word: u16) -> Found
+pub fn to_erase(node: Node, word: u16) -> Found
     ensures { λ r. ⌜ r ≡ toErase node word ⌝ }
 {
     if word % 16 == 0 {

@@ -1,12 +1,9 @@
-use mathlib.Core.Path.{refl, sym, ap, _∙_}
+use mathlib.Core.Path.{ap, _∙_}
 use Prim.Native.Nat.{ℕ, min, _+_, _-_, _*_}
-use mathlib.Core.List.{List}
 use native.Mathlib.Omega.{arith}
-use lib.ListN.{length}
-use Rattle.base.specs.Words.{part, laid, blanks}
-use Rattle.flash.specs.Status.{firstOf}
+use Rattle.base.specs.Words.{laid, blanks}
 use Rattle.flash.proofs.Geometry.{sector-fits}
-use Rattle.logodwen.specs.Bytes.{wordsIn, bytesOf}
+use Rattle.logodwen.specs.Bytes.{bytesOf}
 use Rattle.logodwen.proofs.Blanked.{erase-left}
 use borrow.Author.Needs.{needs}
 use Rattle.logodwen.proofs.erasing.erase_sector.Statement.{statement}
@@ -17,7 +14,6 @@ use Rattle.flash.proofs.change.erasing_after.Reads as erasing-after-reads
 use Rattle.flash.proofs.sectors.sector_size.Reads as sector-size-reads
 use Rattle.flash.proofs.sectors.sector_start.Reads as sector-start-reads
 use Rattle.logodwen.proofs.erasing.blank_sector.Reads as blank-sector-reads
-use Rattle.logodwen.proofs.erasing.first_word.Reads as first-word-reads
 use Rattle.node.proofs.blanking.set_step.Reads as set-step-reads
 
 -- src/erasing.rt:712:9
@@ -37,8 +33,8 @@ blank-sector-requires : tie.Need-blank-sector-requires
 blank-sector-requires c κs = let fits = sector-fits 2048 (c .before .before .before .before .before .args .progress .sector) in (omega (arith, c .before .before .before .before .before .pre .0), omega (arith, fits, c .before .before .sector-size .ensures, c .before .sector-start .ensures))
 
 -- src/erasing.rt:716:44
-first-word-requires : tie.Need-first-word-requires
-first-word-requires c κs = let fits = sector-fits 2048 (c .before .before .before .before .before .before .before .before .before .args .progress .sector) in (omega (arith, c .before .before .before .before .before .before .before .before .before .pre .0, c .before .before .before .blank-sector .kept .0), omega (arith, fits, c .before .before .before .before .before .before .sector-size .ensures, c .before .before .before .before .before .sector-start .ensures))
+first-in-requires : tie.Need-first-in-requires
+first-in-requires c κs = omega (arith, c .before .before .before .before .before .before .before .before .before .pre .0, c .before .before .before .blank-sector .kept .0)
 
 -- src/erasing.rt:716:5
 set-step-requires : tie.Need-set-step-requires
@@ -50,7 +46,7 @@ same-length c = search needs
 
 -- src/erasing.rt:705:1
 returns : tie.Need-returns
-returns c = let a = c .before .before .before .before .before .before .before .before .before .before .before .args in let z = c .before .before .before .before .before .before .before .before .sector-size .ensures in let s = c .before .before .before .before .before .before .before .sector-start .ensures in let done = a .progress .done in erase-left (a .node) (a .budget) (a .flash .now) (a .progress) (c .before .before .before .before .before .before .before .before .before .before .before .pre .1) (c .before .before .before .before .before .before .before .before .before .before .before .pre .0) (λ i. omega (arith, c .before .before .before .before .before .before .before .before .before .before .slice-known .given i)) (c .before .before .before .before .before .blank-sector .ensures .0 ∙ ap (λ (k : ℕ). min (a .budget) (k - done)) z) (c .before .before .before .before .before .before .before .before .before .erasing-after .ensures) (c .before .before .before .before .before .blank-sector .ensures .1 ∙ ap (λ (k : ℕ). laid (a .flash .now) ((k + done) * 2) (bytesOf 2 (blanks (c .before .before .before .before .before .blank-sector .result)))) s) (c .before .first-word .ensures ∙ (λ i. firstOf (part (wordsIn 2 32768 (c .before .before .before .before .before .blank-sector .last .0)) (s i) (z i)))) (c .set-step .ensures)
+returns c = let a = c .before .before .before .before .before .before .before .before .before .before .before .args in let z = c .before .before .before .before .before .before .before .before .sector-size .ensures in let s = c .before .before .before .before .before .before .before .sector-start .ensures in let done = a .progress .done in erase-left (a .node) (a .budget) (a .flash .now) (a .progress) (c .before .before .before .before .before .before .before .before .before .before .before .pre .1) (c .before .before .before .before .before .before .before .before .before .before .before .pre .0) (λ i. omega (arith, c .before .before .before .before .before .before .before .before .before .before .slice-known .given i)) (c .before .before .before .before .before .blank-sector .ensures .0 ∙ ap (λ (k : ℕ). min (a .budget) (k - done)) z) (c .before .before .before .before .before .before .before .before .before .erasing-after .ensures) (c .before .before .before .before .before .blank-sector .ensures .1 ∙ ap (λ (k : ℕ). laid (a .flash .now) ((k + done) * 2) (bytesOf 2 (blanks (c .before .before .before .before .before .blank-sector .result)))) s) (c .before .first-in .ensures) (c .set-step .ensures)
 
 pub erase-sector-spec : {M : Type 1} → statement M
 erase-sector-spec =
@@ -60,7 +56,7 @@ erase-sector-spec =
     sector-size-requires
     sector-start-requires
     blank-sector-requires
-    first-word-requires
+    first-in-requires
     set-step-requires
     same-length
     returns)

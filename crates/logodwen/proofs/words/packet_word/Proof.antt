@@ -1,4 +1,4 @@
-use Rattle.logodwen.proofs.Taken.{word-there, word-none}
+use Rattle.logodwen.proofs.Runs.{word-there, word-none}
 use borrow.Author.Needs.{needs}
 use Rattle.logodwen.proofs.words.packet_word.Statement.{statement}
 use Rattle.logodwen.proofs.words.packet_word.Tie as tie

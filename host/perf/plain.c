@@ -1,0 +1,64 @@
+#include "plain.h"
+
+static uint16_t table[256];
+
+static void fill_table(void) {
+    for (unsigned i = 0; i < 256; i++) {
+        unsigned c = 0, d = i << 8;
+        for (int k = 0; k < 8; k++, d <<= 1)
+            c = ((c ^ d) & 0x8000) ? (c << 1) ^ 0x1021 : c << 1;
+        table[i] = (uint16_t)c;
+    }
+}
+
+uint16_t plain_fcs(const uint16_t *words, size_t n) {
+    if (table[1] == 0)
+        fill_table();
+    uint16_t c = 0xFFFF;
+    for (size_t i = 0; i < n; i++) {
+        c = (uint16_t)(table[(c >> 8) ^ (words[i] >> 8)] ^ (c << 8));
+        c = (uint16_t)(table[(c >> 8) ^ (words[i] & 0xFF)] ^ (c << 8));
+    }
+    return c;
+}
+
+/* Where the valid segment at a place ends, or 0. */
+static size_t plain_segment_end(const uint16_t *words, size_t n, size_t at) {
+    if (n - at < 2)
+        return 0;
+    unsigned memory = words[at] >> 14, length = words[at] & 0x3FFF, page = words[at + 1] >> 14;
+    size_t body = length;
+    if (memory == 0) {
+        if (length < 2 || length % 2 != 0)
+            return 0;
+        body = length / 2 * 3;
+    } else if (memory == 1) {
+        if (length < 2)
+            return 0;
+    } else if (length < 3 || length % 2 == 0) {
+        return 0;
+    }
+    if (memory < 2 && page == 1)
+        return 0;
+    const uint16_t *from = words + at + 2;
+    if (n - at - 2 < body || from[body - 1] != plain_fcs(from, body - 1))
+        return 0;
+    if (memory == 0 && from[body - 2] % 256 != 0)
+        return 0;
+    return at + 2 + body;
+}
+
+size_t plain_file_end(const uint16_t *words, size_t n) {
+    if (n == 0)
+        return 0;
+    unsigned left = words[0] & 15;
+    if (words[0] >> 15 != 0 || left < 1 || left > 14)
+        return 0;
+    size_t at = 1;
+    for (; left != 0; left--) {
+        at = plain_segment_end(words, n, at);
+        if (at == 0)
+            return 0;
+    }
+    return at;
+}
