@@ -28,6 +28,8 @@ mod codec;
 mod erasing;
 mod files;
 mod filing;
+mod load;
+mod memories;
 mod requests;
 mod rooms;
 mod sectors;
@@ -35,6 +37,7 @@ pub mod sequence;
 mod settings;
 mod slaves;
 mod starting;
+mod stretches;
 mod whole;
 mod words;
 

@@ -13,10 +13,11 @@ ghost use Rattle.logodwen.specs.Bytes.{wordsOf};
 ghost use Rattle.logodwen.specs.Entry.{runWords, inBytes};
 use crate::files::on_file;
 use crate::filing::on_filing;
+use crate::load::on_load;
+use crate::memories::on_memories;
 use crate::settings::on_settings;
 use crate::whole::needs_flash;
 use crate::whole::needs_memories;
-use crate::whole::on_whole;
 use crate::words::packet_word;
 use node::Node;
 use node::Route;
@@ -51,19 +52,10 @@ fn on_own(
     if (id == 0x45) | (id == 0x47) | (id == 0x48) {
         return on_filing(node, id, packet, flash);
     }
-    on_whole(
-        node,
-        clock,
-        link,
-        bc,
-        errors,
-        packet,
-        flash,
-        pm,
-        dm,
-        io,
-        reply,
-    )
+    if id == 0x46 {
+        return on_load(node, packet, flash, pm, dm, io);
+    }
+    on_memories(node, id, packet, pm, dm, io, reply)
 }
 
 // A request that is taken, by its route, which its first two words and its length tell.
