@@ -2,7 +2,7 @@
 use Prim.Native.Nat.{ℕ, suc, _+_, _*_, _/_}
 use native.Mathlib.Omega.{arith}
 use mathlib.Core.List.{List, [], _∷_}
-use mathlib.Core.Path.{_≡_, refl, ap, ap₂}
+use mathlib.Core.Path.{_≡_, refl, ap₂}
 use lib.ListN.{length}
 use Rattle.fcs.specs.Fcs.{byteWords}
 use Rattle.logodwen.specs.Bytes.{valueOf, wordsIn, wordsOf}

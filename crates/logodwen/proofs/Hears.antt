@@ -8,7 +8,7 @@ use native.Mathlib.Omega.{arith}
 use native.Mathlib.Nat.{mul-div-cancel}
 use lib.ListN.{length, take, drop, take-append-drop}
 use lib.Seq.{length-take-le, drop-drop}
-use lib.Dec.{leb, ltb}
+use lib.Dec.{leb}
 use borrow.Author.Tests.{le-leb, leb-true, le-ltb}
 use Rattle.base.specs.Pick.{pick}
 use Rattle.base.specs.Words.{part, laid, Below}
@@ -32,15 +32,14 @@ use Rattle.group.specs.declared.ZeroLength.{ZeroLength}
 use Rattle.group.proofs.Behind.{length-framed, taken-by}
 use Rattle.node.specs.State.{turn}
 use Rattle.node.specs.Effect.{Effect, Outcome, outcome, applied, only}
-use Rattle.node.specs.Slaves.{askedAt, replyEffect, pollEffect, hears, silent}
-use Rattle.node.specs.Refusals.{replyVerdict, pollVerdict}
-use Rattle.node.specs.Calls.{judged, replyOf, pollOf, lentReply}
+use Rattle.node.specs.Slaves.{askedAt, pollEffect, hears, silent}
+use Rattle.node.specs.Calls.{judged, lentReply}
 use Rattle.node.specs.declared.Answer as node
 use Rattle.node.specs.declared.Node.{Node}
 use Rattle.node.specs.declared.Refusal.{Refusal}
 use Rattle.node.specs.declared.Turn.{Turn}
 use Rattle.node.specs.declared.Verdict.{Verdict}
-use Rattle.logodwen.specs.Bytes.{wordsIn, wordsOf, bytesOf, storeWords, Loaded}
+use Rattle.logodwen.specs.Bytes.{wordsOf, bytesOf, storeWords, Loaded}
 use Rattle.logodwen.specs.Entry.{replyWords, inBytes}
 use Rattle.logodwen.specs.Held.{Rest, bufferWords}
 use Rattle.logodwen.proofs.Runs.{length-words, loaded-front, part-words}

@@ -1,8 +1,8 @@
 -- A run of bytes of which the first words alone change: the words then, the bytes behind them, and the whole as the entries have it. For
 -- every word size. Assumes nothing.
-use Prim.Native.Nat.{ℕ, _+_, _-_, _*_, _/_, _^_, _≤_, _<_}
+use Prim.Native.Nat.{ℕ, _+_, _-_, _*_, _^_, _≤_}
 use mathlib.Core.Path.{_≡_, refl, sym, ap, _∙_}
-use mathlib.Core.List.{List, [], _∷_, _++_}
+use mathlib.Core.List.{List, _++_}
 use native.Mathlib.Omega.{arith}
 use native.Mathlib.Nat.{add-mul, add-zero, mul-le-mul-right}
 use lib.ListN.{length, take, drop, length-append, take-append-drop}

@@ -8,7 +8,7 @@ use native.Mathlib.Omega.{arith}
 use native.Mathlib.Nat.{add-mul, add-zero, div-mul-le-self}
 use lib.ListN.{length, getD, take, drop, set, length-append, length-drop}
 use lib.Seq.{length-take-le, take-at, take-all}
-use lib.Dec.{leb, eqb}
+use lib.Dec.{eqb}
 use borrow.Author.Tests.{le-leb, eq-eqb, ne-eqb, eqb-true}
 use Rattle.base.specs.Pick.{pick}
 use Rattle.base.specs.Words.{part, laid, Below}
@@ -25,7 +25,7 @@ use Rattle.flash.specs.Geometry.{sectorOf}
 use Rattle.flash.specs.declared.Status.{Status}
 use Rattle.flash.specs.declared.Target.{Target}
 use Rattle.group.specs.Ending as ending
-use Rattle.group.specs.Ending.{Sent, sent, replied, zeroReply, trailer}
+use Rattle.group.specs.Ending.{sent, replied, zeroReply, trailer}
 use Rattle.group.specs.declared.ZeroLength.{ZeroLength}
 use Rattle.memory.specs.Map.{indexOf}
 use Rattle.memory.specs.Run.{runOf, lowCount, runFits, wordsAt, putAt}
@@ -52,7 +52,7 @@ use Rattle.node.specs.declared.Turn.{Turn}
 use Rattle.logodwen.specs.Bytes.{numberAt, digitsOf, wordsIn, wordsOf, bytesOf, storeWords, Loaded}
 use Rattle.logodwen.specs.Entry.{memoryWords, memoriesLeft, replyWords, runWords, inBytes}
 use Rattle.logodwen.specs.Apart.{needsMemories, needsFlash}
-use Rattle.logodwen.specs.Touch.{ownTurn, Quiet, isFile, isFiling}
+use Rattle.logodwen.specs.Touch.{Quiet, isFile, isFiling}
 use Rattle.logodwen.specs.Held.{Rest}
 use Rattle.logodwen.specs.Moves.{takesSegment, performBy, MemoriesRest, Moves}
 use Rattle.logodwen.proofs.Runs.{length-words-of, put-one, word-in, below-each, part-each}

@@ -44,16 +44,9 @@ abbrev pub runsLeft : Lent → Lent → Lent
 runsLeft l before =
     lent (storeWords 2 (l .flash) (before .flash)) (memoriesLeft (l .memories) (before .memories)) (storeWords 2 (l .reply) (before .reply))
 
--- What a call comes to, with the runs in bytes; with the memories alone in bytes; and with flash and memories.
+-- What a call comes to, with the runs in bytes.
 abbrev pub inBytes : Outcome → Lent → Outcome
 inBytes o before = outcome (o .turn) (runsLeft (o .after) before)
-
-abbrev pub memoriesInBytes : Outcome → Memories → Outcome
-memoriesInBytes o before = outcome (o .turn) (lent (o .after .flash) (memoriesLeft (o .after .memories) before) (o .after .reply))
-
-abbrev pub flashInBytes : Outcome → List ℕ → Memories → Outcome
-flashInBytes o flash before =
-    outcome (o .turn) (lent (storeWords 2 (o .after .flash) flash) (memoriesLeft (o .after .memories) before) (o .after .reply))
 
 -- The number, and the state bytes.
 abbrev pub told : Outcome → Answered

@@ -38,7 +38,6 @@ mod settings;
 mod slaves;
 mod starting;
 mod stretches;
-mod whole;
 mod words;
 
 // What is pending, as the numbers in the state bytes: 0 nothing, 1 one slave, 2 a group; what the case does not use is 0.

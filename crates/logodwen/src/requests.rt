@@ -11,17 +11,29 @@ ghost use Rattle.node.specs.declared.Verdict.{Verdict};
 ghost use Rattle.node.specs.Calls.{requestOf};
 ghost use Rattle.logodwen.specs.Bytes.{wordsOf};
 ghost use Rattle.logodwen.specs.Entry.{runWords, inBytes};
+ghost use Rattle.logodwen.specs.Apart.{needsMemories, needsFlash};
 use crate::files::on_file;
 use crate::filing::on_filing;
 use crate::load::on_load;
 use crate::memories::on_memories;
 use crate::settings::on_settings;
-use crate::whole::needs_flash;
-use crate::whole::needs_memories;
 use crate::words::packet_word;
 use node::Node;
 use node::Route;
 use node::Turn;
+
+// Whether an own command touches a memory, or the flash.
+fn needs_memories(id: u16) -> bool
+    ensures { λ r. ⌜ r ≡ needsMemories id ⌝ }
+{
+    (id == 0x0F) | (id == 0x10) | (id == 0x50) | (id == 0x11) | (id == 0x51) | (id == 0x46)
+}
+
+fn needs_flash(id: u16) -> bool
+    ensures { λ r. ⌜ r ≡ needsFlash id ⌝ }
+{
+    (id == 0x05) | (id == 0x45) | (id == 0x06) | (id == 0x46) | (id == 0x47) | (id == 0x48)
+}
 
 // An own command: on the runs that it touches.
 fn on_own(
