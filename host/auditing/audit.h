@@ -122,29 +122,25 @@ static inline unsigned name_of(unsigned header) { return header >> 4 & 0xFFu; }
 
 enum { SECTOR_FIRST = 3, SECTOR_LAST = 10, SECTORS = 8 };
 
-struct node {
-    uint8_t state[LOGODWEN_STATE_BYTES], flash[LOGODWEN_FLASH_BYTES], reply[LOGODWEN_REPLY_BYTES];
-};
-
 /* What the directory says of a sector. */
 struct entry {
     unsigned first, status;
 };
 
-void node_blank(struct node *node);
-uint32_t node_start(struct node *node);
-uint64_t node_write(struct node *node, const uint8_t *words, size_t count);
-uint64_t node_read(struct node *node, unsigned name);
-uint64_t node_erase(struct node *node, struct erasure erasure);
-uint32_t node_erase_on(struct node *node); /* goes on to the end; how many words were set */
-bool node_directory(struct node *node, struct entry *directory);
+void node_blank(struct logodwen_node *node);
+uint32_t node_start(struct logodwen_node *node);
+uint64_t node_write(struct logodwen_node *node, const uint8_t *words, size_t count);
+uint64_t node_read(struct logodwen_node *node, unsigned name);
+uint64_t node_erase(struct logodwen_node *node, struct erasure erasure);
+uint32_t node_erase_on(struct logodwen_node *node); /* goes on to the end; how many words were set */
+bool node_directory(struct logodwen_node *node, struct entry *directory);
 void node_answer_text(uint64_t answered, char *text);
 
 bool entry_is_empty(struct entry entry);
 bool entry_is_bad(struct entry entry);
 bool entry_is_erasing(struct entry entry);
 size_t sector_words(unsigned sector);
-const uint8_t *sector_begin(const struct node *node, unsigned sector);
+const uint8_t *sector_begin(const struct logodwen_node *node, unsigned sector);
 unsigned directory_named(const struct entry *directory, unsigned name); /* the lowest sector with that name, or 0 */
 unsigned directory_place(const struct entry *directory, size_t words);  /* the lowest empty sector with room, or 0 */
 
@@ -161,7 +157,7 @@ struct finding {
     char detail[TEXT];
 };
 
-void verdict_on_image(struct node *node, const struct image *image, struct finding *finding);
+void verdict_on_image(struct logodwen_node *node, const struct image *image, struct finding *finding);
 
 /* The flash file (flash_file.c). */
 
@@ -177,8 +173,8 @@ struct flash_file {
 };
 
 /* Reads it; to be kept it is locked first, which may mean waiting for another audit. */
-bool flash_file_open(struct flash_file *file, const char *path, bool is_kept, struct node *node, char *why);
-bool flash_file_write(struct flash_file *file, const struct node *node, char *why);
+bool flash_file_open(struct flash_file *file, const char *path, bool is_kept, struct logodwen_node *node, char *why);
+bool flash_file_write(struct flash_file *file, const struct logodwen_node *node, char *why);
 void flash_file_close(struct flash_file *file);
 
 /* What is printed (report.c): lines parted by tabs, or an object of JSON each. */
@@ -190,7 +186,7 @@ void report_columns(void);
 void report_erased(unsigned sector, unsigned words);
 void report_left_out(const char *path, const char *why);
 void report_finding(const char *path, const struct finding *finding);
-bool report_directory(struct node *node, char *why);
+bool report_directory(struct logodwen_node *node, char *why);
 void report_totals(const size_t *totals, size_t left_out);
 void report_version(void);
 void report_progress(size_t done, size_t of);

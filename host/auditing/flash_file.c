@@ -147,7 +147,7 @@ static bool may_be_kept(struct flash_file *file, char *why) {
 
 /* Reading. */
 
-static bool is_read(struct flash_file *file, struct node *node, char *why) {
+static bool is_read(struct flash_file *file, struct logodwen_node *node, char *why) {
     struct text text;
     int bytes = open(file->path, O_RDONLY | O_NONBLOCK);
     if (bytes < 0)
@@ -170,7 +170,7 @@ static bool is_read(struct flash_file *file, struct node *node, char *why) {
     return true;
 }
 
-bool flash_file_open(struct flash_file *file, const char *path, bool is_kept, struct node *node, char *why) {
+bool flash_file_open(struct flash_file *file, const char *path, bool is_kept, struct logodwen_node *node, char *why) {
     *file = (struct flash_file){.path = path, .lock = -1};
     if (is_kept && !(is_placed(file, why) && is_locked(file, why) && may_be_kept(file, why)))
         return false;
@@ -236,7 +236,7 @@ static void settle_folder(const char *real) {
     free(folder);
 }
 
-bool flash_file_write(struct flash_file *file, const struct node *node, char *why) {
+bool flash_file_write(struct flash_file *file, const struct logodwen_node *node, char *why) {
     int out = made_beside(file);
     if (out < 0)
         return is_not_kept(file, file->beside, why);

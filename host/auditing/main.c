@@ -12,7 +12,7 @@ struct audit {
     struct options options;
     struct paths paths;
     struct flash_file file;
-    struct node node;
+    struct logodwen_node node;
     size_t totals[VERDICTS];
     int status;
     char why[TEXT];
@@ -54,14 +54,14 @@ static bool is_flash_there(struct audit *audit) {
 }
 
 /* The sector that is to be erased, 0 where no file has the name. */
-static unsigned sector_to_erase(struct node *node, struct erasure erasure) {
+static unsigned sector_to_erase(struct logodwen_node *node, struct erasure erasure) {
     struct entry directory[SECTORS];
     if (erasure.is_sector)
         return erasure.which;
     return node_directory(node, directory) ? directory_named(directory, erasure.which) : 0;
 }
 
-static bool is_empty_now(struct node *node, unsigned sector) {
+static bool is_empty_now(struct logodwen_node *node, unsigned sector) {
     struct entry directory[SECTORS];
     return sector != 0 && node_directory(node, directory) && entry_is_empty(directory[sector - SECTOR_FIRST]);
 }

@@ -3,47 +3,47 @@
 
 #include <string.h>
 
-void node_blank(struct node *node) { memset(node->flash, 0xFF, sizeof node->flash); }
+void node_blank(struct logodwen_node *node) { logodwen_node_blank(node); }
 
-uint32_t node_start(struct node *node) {
+uint32_t node_start(struct logodwen_node *node) {
+    static const struct logodwen_given given = {LOGODWEN_CDP, 1, 0, 0, 0, 0, 0};
     memset(node->state, 0, sizeof node->state);
-    return logodwen_start(LOGODWEN_CDP, 1, 0, 0, 0, 0, 0, node->flash, sizeof node->flash, node->state, sizeof node->state);
+    return logodwen_node_start(node, &given);
 }
 
-static uint64_t request(struct node *node, const uint8_t *packet, size_t words) {
-    return logodwen_request(0, 0, LOGODWEN_BC_WHOLE, 0, packet, 2 * words, node->state, sizeof node->state, node->flash,
-                            sizeof node->flash, NULL, 0, NULL, 0, NULL, 0, node->reply, sizeof node->reply);
+static uint64_t request(struct logodwen_node *node, const uint8_t *packet, size_t words) {
+    return logodwen_node_send(node, 0, 0, packet, words);
 }
 
-uint64_t node_write(struct node *node, const uint8_t *words, size_t count) {
+uint64_t node_write(struct logodwen_node *node, const uint8_t *words, size_t count) {
     static uint8_t packet[2 + IMAGE_BYTES];
     return request(node, packet, logodwen_make_with(packet, sizeof packet / 2, LOGODWEN_ID_FILE_WRITE, words, count)); /* of any length */
 }
 
-uint64_t node_read(struct node *node, unsigned name) {
+uint64_t node_read(struct logodwen_node *node, unsigned name) {
     uint8_t packet[LOGODWEN_COMMAND_BYTES];
     return request(node, packet, logodwen_make_file_read(packet, name));
 }
 
-uint64_t node_erase(struct node *node, struct erasure erasure) {
+uint64_t node_erase(struct logodwen_node *node, struct erasure erasure) {
     uint8_t packet[LOGODWEN_COMMAND_BYTES];
     return request(node, packet,
                    erasure.is_sector ? logodwen_make_erase_start_at(packet, erasure.which)
                                      : logodwen_make_erase_start(packet, erasure.which));
 }
 
-uint32_t node_erase_on(struct node *node) {
+uint32_t node_erase_on(struct logodwen_node *node) {
     enum { BUDGET = 512 }; /* words a call, as a host does that has other work between */
     uint32_t all = 0, set;
     do {
-        uint64_t answered = logodwen_erase(BUDGET, node->state, sizeof node->state, node->flash, sizeof node->flash);
+        uint64_t answered = logodwen_node_erase(node, BUDGET);
         set = logodwen_refusal(answered) == LOGODWEN_DONE ? logodwen_words(answered) : 0;
         all += set;
     } while (set != 0 && all <= LOGODWEN_FLASH_WORDS);
     return all;
 }
 
-bool node_directory(struct node *node, struct entry *directory) {
+bool node_directory(struct logodwen_node *node, struct entry *directory) {
     uint8_t packet[LOGODWEN_COMMAND_BYTES];
     uint64_t answered = request(node, packet, logodwen_make_summary(packet));
     for (unsigned sector = SECTOR_FIRST; sector <= SECTOR_LAST; sector++) {
@@ -70,7 +70,7 @@ bool entry_is_erasing(struct entry entry) { return entry.status == LOGODWEN_SECT
 
 size_t sector_words(unsigned sector) { return logodwen_sector_words(sector); }
 
-const uint8_t *sector_begin(const struct node *node, unsigned sector) { return node->flash + 2 * logodwen_sector_start(sector); }
+const uint8_t *sector_begin(const struct logodwen_node *node, unsigned sector) { return node->flash + 2 * logodwen_sector_start(sector); }
 
 unsigned directory_named(const struct entry *directory, unsigned name) {
     for (unsigned sector = SECTOR_FIRST; sector <= SECTOR_LAST; sector++) {

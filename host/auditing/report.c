@@ -230,7 +230,7 @@ static void print_sector(unsigned sector, struct entry entry, size_t words) {
     printf("\t%s\n", sector_status(entry));
 }
 
-bool report_directory(struct node *node, char *why) {
+bool report_directory(struct logodwen_node *node, char *why) {
     struct entry directory[SECTORS];
     if (!node_directory(node, directory))
         return say(why, "DISPUTED: Flash Summary was not answered with a directory");

@@ -62,7 +62,7 @@ static bool is_same(const struct image *image, const uint8_t *reply, size_t coun
     return said == is || say(detail, "the words agree, but the reply has the FCS %04X and should have %04X", said, is);
 }
 
-static bool is_read_back(struct node *node, const struct image *image, char *detail) {
+static bool is_read_back(struct logodwen_node *node, const struct image *image, char *detail) {
     unsigned header = logodwen_get(image->bytes, 0);
     uint64_t answered = node_read(node, name_of(header));
     if (logodwen_answer(answered) == LOGODWEN_REPLY && logodwen_words(answered) >= 2)
@@ -73,7 +73,7 @@ static bool is_read_back(struct node *node, const struct image *image, char *det
 }
 
 /* After a File Write that was answered END: where the directory has the file, and whether it is read back as it was signed. */
-static enum verdict read_back(struct node *node, const struct image *image, unsigned place, struct finding *finding) {
+static enum verdict read_back(struct logodwen_node *node, const struct image *image, unsigned place, struct finding *finding) {
     struct entry directory[SECTORS];
     if (node_directory(node, directory))
         finding->sector = directory_named(directory, name_of(finding->header));
@@ -86,7 +86,7 @@ static enum verdict read_back(struct node *node, const struct image *image, unsi
     return DISPUTED;
 }
 
-static enum verdict write_and_read_back(struct node *node, const struct image *image, struct finding *finding) {
+static enum verdict write_and_read_back(struct logodwen_node *node, const struct image *image, struct finding *finding) {
     static const char *const bare[4] = {"NEXT", "ERROR", "ABORT", "END"}; /* replies of no words, by BC */
     struct entry directory[SECTORS];
     if (!node_directory(node, directory)) {
@@ -108,7 +108,7 @@ static enum verdict write_and_read_back(struct node *node, const struct image *i
     return forecast.verdict;
 }
 
-void verdict_on_image(struct node *node, const struct image *image, struct finding *finding) {
+void verdict_on_image(struct logodwen_node *node, const struct image *image, struct finding *finding) {
     *finding = (struct finding){.verdict = TOO_LARGE};
     if (image->is_too_long) {
         say(finding->detail, "more than 1,048,576 bytes, not read on; " FLASH_HOLDS);
