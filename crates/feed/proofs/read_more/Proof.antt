@@ -6,31 +6,24 @@ use Rattle.feed.proofs.read_more.Lts as lts
 use Rattle.feed.proofs.read_as.Reads as read-as-reads
 use Rattle.libc.proofs.read.Reads as read-reads
 
--- src/lib.rt:82:16
 sub-rest : tie.Need-sub-rest
 sub-rest c = search needs
 
--- src/lib.rt:82:16
 part-rest-start : tie.Need-part-rest-start
 part-rest-start c = search needs
 
--- src/lib.rt:82:16
 part-rest-end : tie.Need-part-rest-end
 part-rest-end c = search needs
 
--- src/lib.rt:83:9
 read-requires : tie.Need-read-requires
 read-requires c κs = search needs
 
--- src/lib.rt:84:5
 read-as-requires : tie.Need-read-as-requires
 read-as-requires c κs = search needs
 
--- src/lib.rt:78:1
 same-length : tie.Need-same-length
 same-length c = search needs
 
--- src/lib.rt:78:1
 returns : tie.Need-returns
 returns c = search needs
 

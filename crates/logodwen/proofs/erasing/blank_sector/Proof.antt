@@ -12,35 +12,27 @@ use Rattle.logodwen.proofs.erasing.blank_sector.Lts as lts
 use Rattle.base.proofs.least.Reads as least-reads
 use Rattle.logodwen.proofs.words.blank16.Reads as blank16-reads
 
--- src/erasing.rt:697:9
 returns : tie.Need-returns
 returns c = let a = c .before .before .args in let none : a .size - a .done ≡ 0 = omega (arith, c .if1 .taken) in (sym (ap (λ (k : ℕ). min (a .budget) k) none ∙ min-zero (a .budget)), blank-none (a .bytes .now) ((a .start + a .done) * 2))
 
--- src/erasing.rt:699:31
 sub-least : tie.Need-sub-least
 sub-least c = search needs
 
--- src/erasing.rt:699:9
 least-requires : tie.Need-least-requires
 least-requires c κs = search needs
 
--- src/erasing.rt:700:21
 add-blank16 : tie.Need-add-blank16
 add-blank16 c = search needs
 
--- src/erasing.rt:700:20
 mul-blank16 : tie.Need-mul-blank16
 mul-blank16 c = search needs
 
--- src/erasing.rt:700:5
 blank16-requires : tie.Need-blank16-requires
 blank16-requires c κs = search needs
 
--- src/erasing.rt:692:1
 same-length : tie.Need-same-length
 same-length c = search needs
 
--- src/erasing.rt:692:1
 returns-2 : tie.Need-returns-2
 returns-2 c = search needs
 

@@ -16,35 +16,27 @@ use Rattle.flash.proofs.sectors.sector_start.Reads as sector-start-reads
 use Rattle.logodwen.proofs.erasing.blank_sector.Reads as blank-sector-reads
 use Rattle.node.proofs.blanking.set_step.Reads as set-step-reads
 
--- src/erasing.rt:712:9
 erasing-after-requires : tie.Need-erasing-after-requires
 erasing-after-requires c κs = search needs
 
--- src/erasing.rt:713:9
 sector-size-requires : tie.Need-sector-size-requires
 sector-size-requires c κs = search needs
 
--- src/erasing.rt:714:9
 sector-start-requires : tie.Need-sector-start-requires
 sector-start-requires c κs = search needs
 
--- src/erasing.rt:715:9
 blank-sector-requires : tie.Need-blank-sector-requires
 blank-sector-requires c κs = let fits = sector-fits 2048 (c .before .before .before .before .before .args .progress .sector) in (omega (arith, c .before .before .before .before .before .pre .0), omega (arith, fits, c .before .before .sector-size .ensures, c .before .sector-start .ensures))
 
--- src/erasing.rt:716:44
 first-in-requires : tie.Need-first-in-requires
 first-in-requires c κs = omega (arith, c .before .before .before .before .before .before .before .before .before .pre .0, c .before .before .before .blank-sector .kept .0)
 
--- src/erasing.rt:716:5
 set-step-requires : tie.Need-set-step-requires
 set-step-requires c κs = search needs
 
--- src/erasing.rt:705:1
 same-length : tie.Need-same-length
 same-length c = search needs
 
--- src/erasing.rt:705:1
 returns : tie.Need-returns
 returns c = let a = c .before .before .before .before .before .before .before .before .before .before .before .args in let z = c .before .before .before .before .before .before .before .before .sector-size .ensures in let s = c .before .before .before .before .before .before .before .sector-start .ensures in let done = a .progress .done in erase-left (a .node) (a .budget) (a .flash .now) (a .progress) (c .before .before .before .before .before .before .before .before .before .before .before .pre .1) (c .before .before .before .before .before .before .before .before .before .before .before .pre .0) (λ i. omega (arith, c .before .before .before .before .before .before .before .before .before .before .slice-known .given i)) (c .before .before .before .before .before .blank-sector .ensures .0 ∙ ap (λ (k : ℕ). min (a .budget) (k - done)) z) (c .before .before .before .before .before .before .before .before .before .erasing-after .ensures) (c .before .before .before .before .before .blank-sector .ensures .1 ∙ ap (λ (k : ℕ). laid (a .flash .now) ((k + done) * 2) (bytesOf 2 (blanks (c .before .before .before .before .before .blank-sector .result)))) s) (c .before .first-in .ensures) (c .set-step .ensures)
 

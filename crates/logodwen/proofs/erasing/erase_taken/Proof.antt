@@ -7,27 +7,21 @@ use Rattle.logodwen.proofs.erasing.erase_taken.Reads as reads
 use Rattle.logodwen.proofs.erasing.erase_taken.Lts as lts
 use Rattle.logodwen.proofs.erasing.erase_sector.Reads as erase-sector-reads
 
--- src/erasing.rt:727:21
 enum-told : tie.Need-enum-told
 enum-told c = search needs
 
--- src/erasing.rt:729:25
 enum-known-erasing : tie.Need-enum-known-erasing
 enum-known-erasing c = search needs
 
--- src/erasing.rt:729:38
 erase-sector-requires : tie.Need-erase-sector-requires
 erase-sector-requires c κs = search needs
 
--- src/erasing.rt:719:1
 returns : tie.Need-returns
 returns c = let a = c .before .before .before .args in idle-left (a .node) (a .budget) (a .flash .now) (c .enum-told .given .1) (λ i. omega (arith, c .before .before .slice-known .given i))
 
--- src/erasing.rt:719:1
 same-length : tie.Need-same-length
 same-length c = search needs
 
--- src/erasing.rt:719:1
 returns-2 : tie.Need-returns-2
 returns-2 c = search needs
 

@@ -10,27 +10,21 @@ use Rattle.logodwen.proofs.files.file_words.Lts as lts
 use Rattle.node.proofs.files.read_as.Reads as read-as-reads
 use Rattle.node.proofs.files.test_as.Reads as test-as-reads
 
--- src/files.rt:537:9
 read-as-requires : tie.Need-read-as-requires
 read-as-requires c κs = search needs
 
--- src/files.rt:537:9
 same-length : tie.Need-same-length
 same-length c = search needs
 
--- src/files.rt:537:9
 returns : tie.Need-returns
 returns c = replies-as (c .before .before .before .before .before .before .before .args .node) (c .before .before .before .before .before .before .before .args .room .now) (c .before .before .read-as .ensures) (yes _ (eq-eqb _ _ (c .before .before .before .before .if1 .taken)) refl)
 
--- src/files.rt:539:5
 test-as-requires : tie.Need-test-as-requires
 test-as-requires c κs = search needs
 
--- src/files.rt:525:1
 same-length-2 : tie.Need-same-length-2
 same-length-2 c = search needs
 
--- src/files.rt:525:1
 returns-2 : tie.Need-returns-2
 returns-2 c = replies-as (c .before .before .before .before .before .before .before .args .node) (c .before .before .before .before .before .before .before .args .room .now) (c .before .before .test-as .ensures) (no _ (ne-eqb _ _ (c .before .before .before .before .if1 .left)) refl)
 

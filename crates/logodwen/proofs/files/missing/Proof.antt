@@ -6,11 +6,9 @@ use Rattle.logodwen.proofs.files.missing.Tie as tie
 use Rattle.logodwen.proofs.files.missing.Reads as reads
 use Rattle.logodwen.proofs.files.missing.Lts as lts
 
--- src/files.rt:575:9
 returns : tie.Need-returns
 returns c = yes _ (eq-eqb _ _ (c .if1 .taken)) refl
 
--- src/files.rt:571:1
 returns-2 : tie.Need-returns-2
 returns-2 c = no _ (ne-eqb _ _ (c .if1 .left)) refl
 

@@ -17,43 +17,33 @@ use Rattle.logodwen.proofs.rooms.room_4098.Reads as room-4098-reads
 use Rattle.logodwen.proofs.words.store16.Reads as store16-reads
 use Rattle.node.proofs.files.status_in.Reads as status-in-reads
 
--- src/files.rt:547:20
 room-4098-requires : tie.Need-room-4098-requires
 room-4098-requires c κs = search needs
 
--- src/files.rt:548:9
 status-in-requires : tie.Need-status-in-requires
 status-in-requires c κs = search needs
 
--- src/files.rt:549:52
 slice-aggregate-file-words : tie.Need-slice-aggregate-file-words
 slice-aggregate-file-words c = search needs
 
--- src/files.rt:549:9
 file-words-requires : tie.Need-file-words-requires
 file-words-requires c κs = let a = c .before .before .before .before .before .args in let r = c .before .before .room-4098 .ensures in (λ end e. let g = checked-good (a .node .directory) (a .words .now) (a .node .erasing) (a .sector) end (sym (c .before .status-in .ensures) ∙ e) in (g .fits, λ h. omega (arith, g .fits, r, c .before .before .before .before .before .pre .0)), omega (arith, r))
 
--- src/files.rt:551:9
 answer-words-requires : tie.Need-answer-words-requires
 answer-words-requires c κs = search needs
 
--- src/files.rt:552:13
 array-share-prefix-room : tie.Need-array-share-prefix-room
 array-share-prefix-room c = let a = c .before .before .before .before .before .before .before .before .args in let d = fileAs (a .id) (a .node) (a .words .now) (c .before .before .before .before .status-in .result) in let p = file-plain (a .id) (a .node) (a .words .now) (c .before .before .before .before .status-in .result) in let room = c .before .before .before .before .before .room-4098 .result in let fits = replied-fits (a .node) d room p (c .before .before .file-words .ensures) (c .answer-words .ensures) in fits
 
--- src/files.rt:552:13
 slice-aggregate-store16 : tie.Need-slice-aggregate-store16
 slice-aggregate-store16 c = let a = c .before .before .before .before .before .before .before .before .before .args in let d = fileAs (a .id) (a .node) (a .words .now) (c .before .before .before .before .before .status-in .result) in let p = file-plain (a .id) (a .node) (a .words .now) (c .before .before .before .before .before .status-in .result) in let room = c .before .before .before .before .before .before .room-4098 .result in let fits = replied-fits (a .node) d room p (c .before .before .before .file-words .ensures) (c .before .answer-words .ensures) in sym (length-take-le _ _ fits)
 
--- src/files.rt:552:5
 store16-requires : tie.Need-store16-requires
 store16-requires c κs = let a = c .before .before .before .before .before .before .before .before .before .before .args in let d = fileAs (a .id) (a .node) (a .words .now) (c .before .before .before .before .before .before .status-in .result) in let p = file-plain (a .id) (a .node) (a .words .now) (c .before .before .before .before .before .before .status-in .result) in let room = c .before .before .before .before .before .before .before .room-4098 .result in let fits = replied-fits (a .node) d room p (c .before .before .before .before .file-words .ensures) (c .before .before .answer-words .ensures) in let k = c .before .before .answer-words .result in let w = c .before .before .before .before .file-words .last .1 .1 .1 .1 .0 in let e : length (take k w) ≡ k = length-take-le k w fits in omega (arith, e, fits, c .before .before .before .before .file-words .kept .1 .1 .1 .1 .0, c .before .before .before .before .before .before .before .room-4098 .ensures, c .before .before .before .before .before .before .before .before .before .before .pre .1)
 
--- src/files.rt:543:1
 same-length : tie.Need-same-length
 same-length c = search needs
 
--- src/files.rt:543:1
 returns : tie.Need-returns
 returns c = let a = c .before .before .before .before .before .before .before .before .before .before .before .before .before .args in let d = fileAs (a .id) (a .node) (a .words .now) (c .before .before .before .before .before .before .before .before .before .status-in .result) in let p = file-plain (a .id) (a .node) (a .words .now) (c .before .before .before .before .before .before .before .before .before .status-in .result) in let room = c .before .before .before .before .before .before .before .before .before .before .room-4098 .result in let fits = replied-fits (a .node) d room p (c .before .before .before .before .before .before .before .file-words .ensures) (c .before .before .before .before .before .answer-words .ensures) in quiet-is (a .node) (a .reply .now) (replied-quiet (a .node) d room (a .reply .now) p (c .before .before .before .before .before .before .before .file-words .ensures) (c .before .before .before .before .before .answer-words .ensures) (omega (arith, c .before .before .before .before .before .before .before .file-words .kept .1 .1 .1 .1 .0, c .before .before .before .before .before .before .before .before .before .before .room-4098 .ensures)) (c .before .before .store16 .ensures)) (ap (fileAs (a .id) (a .node) (a .words .now)) (c .before .before .before .before .before .before .before .before .before .status-in .ensures))
 

@@ -17,107 +17,81 @@ use Rattle.logodwen.proofs.words.packet_word.Reads as packet-word-reads
 use Rattle.node.proofs.requests.pass_by.Reads as pass-by-reads
 use Rattle.node.proofs.routing.route_by.Reads as route-by-reads
 
--- src/requests.rt:555:9
 packet-word-requires : tie.Need-packet-word-requires
 packet-word-requires c κs = search needs
 
--- src/requests.rt:556:9
 packet-word-requires-2 : tie.Need-packet-word-requires-2
 packet-word-requires-2 c κs = search needs
 
--- src/requests.rt:549:9
 route-by-requires : tie.Need-route-by-requires
 route-by-requires c κs = search needs
 
--- src/requests.rt:559:25
 enum-told : tie.Need-enum-told
 enum-told c = search needs
 
--- src/requests.rt:559:25
 pass-by-requires : tie.Need-pass-by-requires
 pass-by-requires c κs = search needs
 
--- src/requests.rt:560:28
 enum-told-2 : tie.Need-enum-told-2
 enum-told-2 c = search needs
 
--- src/requests.rt:560:28
 pass-by-requires-2 : tie.Need-pass-by-requires-2
 pass-by-requires-2 c κs = search needs
 
--- src/requests.rt:561:27
 enum-told-3 : tie.Need-enum-told-3
 enum-told-3 c = search needs
 
--- src/requests.rt:561:27
 pass-by-requires-3 : tie.Need-pass-by-requires-3
 pass-by-requires-3 c κs = search needs
 
--- src/requests.rt:562:28
 enum-told-4 : tie.Need-enum-told-4
 enum-told-4 c = search needs
 
--- src/requests.rt:562:28
 pass-by-requires-4 : tie.Need-pass-by-requires-4
 pass-by-requires-4 c κs = search needs
 
--- src/requests.rt:563:31
 enum-told-5 : tie.Need-enum-told-5
 enum-told-5 c = search needs
 
--- src/requests.rt:563:31
 pass-by-requires-5 : tie.Need-pass-by-requires-5
 pass-by-requires-5 c κs = search needs
 
--- src/requests.rt:564:20
 enum-known-route : tie.Need-enum-known-route
 enum-known-route c = search needs
 
--- src/requests.rt:564:27
 on-own-requires : tie.Need-on-own-requires
 on-own-requires c κs = let a = c .before .before .before .before .before .before .before .before .before .before .before .before .before .before .before .before .before .args in let l = lent (a .flash .now) (memories (a .pm .now) (a .dm .now) (a .io .now)) (a .reply .now) in let route-is = c .before .before .before .before .before .before .before .before .route-by .ensures ∙ (λ i. routeBy (a .node) (a .link) (a .bc) (a .errors) (length (a .packet .now) / 2) (c .before .before .before .before .before .before .before .before .before .before .packet-word .ensures i) (c .before .before .before .before .before .before .before .before .before .packet-word2 .ensures i)) ∙ route-in (a .node) (a .clock) (a .link) (a .bc) (a .errors) (a .packet .now) l in (c .before .before .before .before .before .before .before .before .before .before .before .before .before .before .before .before .before .pre .0, (c .before .before .before .before .before .before .before .before .before .before .before .before .before .before .before .before .before .pre .1, sym route-is ∙ c .before .before .before .before .before .before .route .given .1))
 
--- src/requests.rt:532:1
 returns : tie.Need-returns
 returns c = let a = c .before .before .before .before .before .before .before .before .before .before .before .before .args in let l = lent (a .flash .now) (memories (a .pm .now) (a .dm .now) (a .io .now)) (a .reply .now) in let b : Lends l = record { buffer = c .before .before .before .before .before .before .before .before .before .before .before .before .pre .0 .1; flash = λ i. omega (arith, c .before .before .before .before .before .before .before .before .before .before .slice-known .given i); pm = λ i. omega (arith, c .before .before .before .before .before .before .before .before .before .slice-known2 .given i); dm = λ i. omega (arith, c .before .before .before .before .before .before .before .before .slice-known3 .given i); io = λ i. omega (arith, c .before .before .before .before .before .before .before .slice-known4 .given i); reply = λ i. omega (arith, c .before .before .before .before .before .before .slice-known5 .given i) } in let route-is = c .before .before .before .route-by .ensures ∙ (λ i. routeBy (a .node) (a .link) (a .bc) (a .errors) (length (a .packet .now) / 2) (c .before .before .before .before .before .packet-word .ensures i) (c .before .before .before .before .packet-word2 .ensures i)) ∙ route-in (a .node) (a .clock) (a .link) (a .bc) (a .errors) (a .packet .now) l in passed-left (a .node) (a .clock) (a .link) (a .bc) (a .errors) (a .packet .now) l b (c .before .before .before .before .before .before .before .before .before .before .before .before .pre .1) route-is (c .before .enum-told .given .1) refl (c .pass-by .ensures)
 
--- src/requests.rt:532:1
 returns-2 : tie.Need-returns-2
 returns-2 c = let a = c .before .before .before .before .before .before .before .before .before .before .before .before .args in let l = lent (a .flash .now) (memories (a .pm .now) (a .dm .now) (a .io .now)) (a .reply .now) in let b : Lends l = record { buffer = c .before .before .before .before .before .before .before .before .before .before .before .before .pre .0 .1; flash = λ i. omega (arith, c .before .before .before .before .before .before .before .before .before .before .slice-known .given i); pm = λ i. omega (arith, c .before .before .before .before .before .before .before .before .before .slice-known2 .given i); dm = λ i. omega (arith, c .before .before .before .before .before .before .before .before .slice-known3 .given i); io = λ i. omega (arith, c .before .before .before .before .before .before .before .slice-known4 .given i); reply = λ i. omega (arith, c .before .before .before .before .before .before .slice-known5 .given i) } in let route-is = c .before .before .before .route-by .ensures ∙ (λ i. routeBy (a .node) (a .link) (a .bc) (a .errors) (length (a .packet .now) / 2) (c .before .before .before .before .before .packet-word .ensures i) (c .before .before .before .before .packet-word2 .ensures i)) ∙ route-in (a .node) (a .clock) (a .link) (a .bc) (a .errors) (a .packet .now) l in passed-left (a .node) (a .clock) (a .link) (a .bc) (a .errors) (a .packet .now) l b (c .before .before .before .before .before .before .before .before .before .before .before .before .pre .1) route-is (c .before .enum-told2 .given .1) refl (c .pass-by2 .ensures)
 
--- src/requests.rt:532:1
 returns-3 : tie.Need-returns-3
 returns-3 c = let a = c .before .before .before .before .before .before .before .before .before .before .before .before .args in let l = lent (a .flash .now) (memories (a .pm .now) (a .dm .now) (a .io .now)) (a .reply .now) in let b : Lends l = record { buffer = c .before .before .before .before .before .before .before .before .before .before .before .before .pre .0 .1; flash = λ i. omega (arith, c .before .before .before .before .before .before .before .before .before .before .slice-known .given i); pm = λ i. omega (arith, c .before .before .before .before .before .before .before .before .before .slice-known2 .given i); dm = λ i. omega (arith, c .before .before .before .before .before .before .before .before .slice-known3 .given i); io = λ i. omega (arith, c .before .before .before .before .before .before .before .slice-known4 .given i); reply = λ i. omega (arith, c .before .before .before .before .before .before .slice-known5 .given i) } in let route-is = c .before .before .before .route-by .ensures ∙ (λ i. routeBy (a .node) (a .link) (a .bc) (a .errors) (length (a .packet .now) / 2) (c .before .before .before .before .before .packet-word .ensures i) (c .before .before .before .before .packet-word2 .ensures i)) ∙ route-in (a .node) (a .clock) (a .link) (a .bc) (a .errors) (a .packet .now) l in passed-left (a .node) (a .clock) (a .link) (a .bc) (a .errors) (a .packet .now) l b (c .before .before .before .before .before .before .before .before .before .before .before .before .pre .1) route-is (c .before .enum-told3 .given .1) refl (c .pass-by3 .ensures)
 
--- src/requests.rt:532:1
 returns-4 : tie.Need-returns-4
 returns-4 c = let a = c .before .before .before .before .before .before .before .before .before .before .before .before .args in let l = lent (a .flash .now) (memories (a .pm .now) (a .dm .now) (a .io .now)) (a .reply .now) in let b : Lends l = record { buffer = c .before .before .before .before .before .before .before .before .before .before .before .before .pre .0 .1; flash = λ i. omega (arith, c .before .before .before .before .before .before .before .before .before .before .slice-known .given i); pm = λ i. omega (arith, c .before .before .before .before .before .before .before .before .before .slice-known2 .given i); dm = λ i. omega (arith, c .before .before .before .before .before .before .before .before .slice-known3 .given i); io = λ i. omega (arith, c .before .before .before .before .before .before .before .slice-known4 .given i); reply = λ i. omega (arith, c .before .before .before .before .before .before .slice-known5 .given i) } in let route-is = c .before .before .before .route-by .ensures ∙ (λ i. routeBy (a .node) (a .link) (a .bc) (a .errors) (length (a .packet .now) / 2) (c .before .before .before .before .before .packet-word .ensures i) (c .before .before .before .before .packet-word2 .ensures i)) ∙ route-in (a .node) (a .clock) (a .link) (a .bc) (a .errors) (a .packet .now) l in passed-left (a .node) (a .clock) (a .link) (a .bc) (a .errors) (a .packet .now) l b (c .before .before .before .before .before .before .before .before .before .before .before .before .pre .1) route-is (c .before .enum-told4 .given .1) refl (c .pass-by4 .ensures)
 
--- src/requests.rt:532:1
 returns-5 : tie.Need-returns-5
 returns-5 c = let a = c .before .before .before .before .before .before .before .before .before .before .before .before .args in let l = lent (a .flash .now) (memories (a .pm .now) (a .dm .now) (a .io .now)) (a .reply .now) in let b : Lends l = record { buffer = c .before .before .before .before .before .before .before .before .before .before .before .before .pre .0 .1; flash = λ i. omega (arith, c .before .before .before .before .before .before .before .before .before .before .slice-known .given i); pm = λ i. omega (arith, c .before .before .before .before .before .before .before .before .before .slice-known2 .given i); dm = λ i. omega (arith, c .before .before .before .before .before .before .before .before .slice-known3 .given i); io = λ i. omega (arith, c .before .before .before .before .before .before .before .slice-known4 .given i); reply = λ i. omega (arith, c .before .before .before .before .before .before .slice-known5 .given i) } in let route-is = c .before .before .before .route-by .ensures ∙ (λ i. routeBy (a .node) (a .link) (a .bc) (a .errors) (length (a .packet .now) / 2) (c .before .before .before .before .before .packet-word .ensures i) (c .before .before .before .before .packet-word2 .ensures i)) ∙ route-in (a .node) (a .clock) (a .link) (a .bc) (a .errors) (a .packet .now) l in passed-left (a .node) (a .clock) (a .link) (a .bc) (a .errors) (a .packet .now) l b (c .before .before .before .before .before .before .before .before .before .before .before .before .pre .1) route-is (c .before .enum-told5 .given .1) refl (c .pass-by5 .ensures)
 
--- src/requests.rt:532:1
 same-length : tie.Need-same-length
 same-length c = search needs
 
--- src/requests.rt:532:1
 same-length-2 : tie.Need-same-length-2
 same-length-2 c = search needs
 
--- src/requests.rt:532:1
 same-length-3 : tie.Need-same-length-3
 same-length-3 c = search needs
 
--- src/requests.rt:532:1
 same-length-4 : tie.Need-same-length-4
 same-length-4 c = search needs
 
--- src/requests.rt:532:1
 same-length-5 : tie.Need-same-length-5
 same-length-5 c = search needs
 
--- src/requests.rt:532:1
 returns-6 : tie.Need-returns-6
 returns-6 c = search needs
 

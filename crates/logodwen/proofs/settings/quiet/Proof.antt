@@ -10,27 +10,21 @@ use Rattle.logodwen.proofs.settings.quiet.Lts as lts
 use Rattle.node.proofs.files.summary.Reads as summary-reads
 use Rattle.node.proofs.settings.settings.Reads as settings-reads
 
--- src/settings.rt:426:9
 summary-requires : tie.Need-summary-requires
 summary-requires c κs = search needs
 
--- src/settings.rt:426:9
 same-length : tie.Need-same-length
 same-length c = search needs
 
--- src/settings.rt:426:9
 returns : tie.Need-returns
 returns c = replies-as (c .before .before .before .before .before .before .before .args .node) (c .before .before .before .before .before .before .before .args .room .now) (c .before .before .summary .ensures) (yes _ (eq-eqb _ _ (c .before .before .before .before .if1 .taken)) refl)
 
--- src/settings.rt:428:5
 settings-requires : tie.Need-settings-requires
 settings-requires c κs = search needs
 
--- src/settings.rt:414:1
 same-length-2 : tie.Need-same-length-2
 same-length-2 c = search needs
 
--- src/settings.rt:414:1
 returns-2 : tie.Need-returns-2
 returns-2 c = replies-as (c .before .before .before .before .before .before .before .args .node) (c .before .before .before .before .before .before .before .args .room .now) (c .before .before .settings .ensures) (no _ (ne-eqb _ _ (c .before .before .before .before .if1 .left)) refl)
 

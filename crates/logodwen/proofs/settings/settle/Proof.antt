@@ -15,35 +15,27 @@ use Rattle.logodwen.proofs.answers.answer_words.Reads as answer-words-r
 use Rattle.logodwen.proofs.settings.quiet.Reads as quiet-reads
 use Rattle.logodwen.proofs.words.store16.Reads as store16-reads
 
--- src/settings.rt:444:9
 quiet-requires : tie.Need-quiet-requires
 quiet-requires c κs = search needs
 
--- src/settings.rt:446:9
 answer-words-requires : tie.Need-answer-words-requires
 answer-words-requires c κs = search needs
 
--- src/settings.rt:447:13
 slice-reshare-prefix-store16 : tie.Need-slice-reshare-prefix-store16
 slice-reshare-prefix-store16 c = let a = c .before .before .before .before .before .before .before .before .args in let d = quietOf (a .id) (a .node) (a .clock) (a .link) (a .packet .now) in let p = quiet-plain (a .node) (a .packet .now) (a .id) (a .clock) (a .link) in let fits = replied-fits (a .node) d (a .room .now) p (c .before .before .before .quiet .ensures) (c .answer-words .ensures) in fits
 
--- src/settings.rt:447:13
 slice-aggregate-store16 : tie.Need-slice-aggregate-store16
 slice-aggregate-store16 c = let a = c .before .before .before .before .before .before .before .before .before .args in let d = quietOf (a .id) (a .node) (a .clock) (a .link) (a .packet .now) in let p = quiet-plain (a .node) (a .packet .now) (a .id) (a .clock) (a .link) in let fits = replied-fits (a .node) d (a .room .now) p (c .before .before .before .before .quiet .ensures) (c .before .answer-words .ensures) in sym (length-take-le _ _ fits)
 
--- src/settings.rt:447:5
 store16-requires : tie.Need-store16-requires
 store16-requires c κs = let a = c .before .before .before .before .before .before .before .before .before .before .args in let d = quietOf (a .id) (a .node) (a .clock) (a .link) (a .packet .now) in let p = quiet-plain (a .node) (a .packet .now) (a .id) (a .clock) (a .link) in let fits = replied-fits (a .node) d (a .room .now) p (c .before .before .before .before .before .quiet .ensures) (c .before .before .answer-words .ensures) in let k = c .before .before .answer-words .result in let w = c .before .before .before .before .before .quiet .last .1 .1 .1 .1 .1 .0 in let e : length (take k w) ≡ k = length-take-le k w fits in omega (arith, e, fits, c .before .before .before .before .before .quiet .kept .1 .1 .1 .1 .1 .0, c .before .before .before .before .before .before .before .before .before .before .pre .3, c .before .before .before .before .before .before .before .before .before .before .pre .4)
 
--- src/settings.rt:432:1
 same-length : tie.Need-same-length
 same-length c = search needs
 
--- src/settings.rt:432:1
 same-length-2 : tie.Need-same-length-2
 same-length-2 c = search needs
 
--- src/settings.rt:432:1
 returns : tie.Need-returns
 returns c = let a = c .before .before .before .before .before .before .before .before .before .before .before .before .before .args in let d = quietOf (a .id) (a .node) (a .clock) (a .link) (a .packet .now) in let p = quiet-plain (a .node) (a .packet .now) (a .id) (a .clock) (a .link) in let fits = replied-fits (a .node) d (a .room .now) p (c .before .before .before .before .before .before .before .before .quiet .ensures) (c .before .before .before .before .before .answer-words .ensures) in replied-quiet (a .node) d (a .room .now) (a .reply .now) p (c .before .before .before .before .before .before .before .before .quiet .ensures) (c .before .before .before .before .before .answer-words .ensures) (omega (arith, c .before .before .before .before .before .before .before .before .quiet .kept .1 .1 .1 .1 .1 .0, c .before .before .before .before .before .before .before .before .before .before .before .before .before .pre .3)) (c .before .before .store16 .ensures)
 

@@ -6,19 +6,15 @@ use Rattle.logodwen.proofs.words.packet_word.Reads as reads
 use Rattle.logodwen.proofs.words.packet_word.Lts as lts
 use Rattle.logodwen.proofs.words.word16.Reads as word16-reads
 
--- src/words.rt:84:9
 returns : tie.Need-returns
 returns c = word-none (c .before .before .args .packet .now) (c .before .before .args .at) (c .if1 .taken)
 
--- src/words.rt:86:20
 mul-word16 : tie.Need-mul-word16
 mul-word16 c = search needs
 
--- src/words.rt:86:5
 word16-requires : tie.Need-word16-requires
 word16-requires c κs = search needs
 
--- src/words.rt:79:1
 returns-2 : tie.Need-returns-2
 returns-2 c = word-there (c .before .before .before .args .packet .now) (c .before .before .before .args .at) (c .before .if1 .left) (c .word16 .ensures)
 
