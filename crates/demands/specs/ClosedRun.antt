@@ -7,16 +7,16 @@ use mathlib.Core.List.{List, [], _∷_, _++_}
 use lib.ListN.{take, replicate}
 use Rattle.memory.specs.Segment.{memories}
 use Rattle.group.specs.Ending.{replied}
-use Rattle.node.specs.Effect.{Outcome, Lent, lent}
+use Rattle.node.specs.Effect.{Outcome, Lent, lent, further}
 use Rattle.node.specs.declared.Answer.{Answer}
 use Rattle.node.specs.declared.Turn.{Turn}
 use Rattle.demands.specs.Machine.{Machine}
 use Rattle.demands.specs.Requests.{end}
 use Rattle.demands.specs.Anchors.{blank, file}
 
--- No memories, and a reply buffer of zeros.
+-- No memories, an area and a reply buffer of zeros.
 abbrev pub with : List ℕ → Lent
-with flash = lent flash (memories [] [] []) (replicate 12288 0)
+with flash = lent flash (memories [] [] []) (further (replicate 32768 0)) (replicate 12288 0)
 
 abbrev pub started : Machine → Turn
 started M = M .start 2 4 0 0 0 0 0 blank

@@ -7,6 +7,7 @@ use Rattle.demands.specs.Refusals.{RefusedExactly, NeverRefusedBy5, Zero
 use Rattle.demands.specs.Reached.{NoStaleRecord, SummaryIsTrue}
 use Rattle.demands.specs.Flash.{ErasureFollows, Erases, OneSector, NoBitRises}
 use Rattle.demands.specs.Files.{Writes, ReadsBack, NeverCorrupted, GoodIsServed, FlashFollows}
+use Rattle.demands.specs.Packets.{AnyDivision, LeftAlone}
 use Rattle.demands.specs.Groups.{GroupIsAsked, GroupIsItsFragments, AskedInOrder, EachAskedOnce, FragmentsStand, NothingPastTheWords}
 use Rattle.demands.specs.ClosedRun.{ClosedRun}
 
@@ -20,6 +21,9 @@ pub record Demands (M : Machine) : Type 0 where
   -- until it is erased or its attribute set.
   pub writes : Writes M
   pub reads-back : ReadsBack M
+  -- However a file is divided into packets, it is written as in one; and while its packets come no other call touches them.
+  pub any-division : AnyDivision M
+  pub left-alone : LeftAlone M
   -- A corrupted file is never handed out or loaded; a good one is.
   pub never-corrupted : NeverCorrupted M
   pub good-is-served : GoodIsServed M

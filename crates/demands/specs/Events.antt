@@ -12,7 +12,7 @@ use Rattle.group.specs.Time.{isLate}
 use Rattle.group.specs.Kind.{answer, Answer as SlaveAnswer}
 use Rattle.node.specs.Refusals.{isPending}
 use Rattle.node.specs.Route.{bcOf}
-use Rattle.node.specs.Effect.{lent, Outcome}
+use Rattle.node.specs.Effect.{Further, lent, Outcome}
 use Rattle.node.specs.Slaves.{heard, silent}
 use Rattle.node.specs.declared.Answer.{Answer}
 use Rattle.node.specs.declared.Turn.{Turn}
@@ -20,7 +20,7 @@ use Rattle.demands.specs.Machine.{Machine}
 
 -- The calls that a host may make while a group is pending.
 pub data Event : Type 0 where
-  Requested : (clock link bc : ℕ) (errors : Bool) (packet : List ℕ) (m : Memories) → Event
+  Requested : (clock link bc : ℕ) (errors : Bool) (packet : List ℕ) (m : Memories) (x : Further) → Event
   Replied : (clock slave bc : ℕ) (errors : Bool) (status address : ℕ) (words : List ℕ) → Event
   Polled : (clock : ℕ) → Event
   Erased : (budget : ℕ) → Event
@@ -48,8 +48,8 @@ host asked t flash buffer = record { turn = t; flash = flash; buffer = buffer; a
 -- One call, lent state, flash and reply buffer as the call before left them. Reply and poll aren't lent the flash, erase progress
 -- isn't lent the reply buffer.
 abbrev pub stepped : Machine → Event → Host → Host
-stepped M (Event.Requested clock link bc errors packet m) h =
-    let o : Outcome = M .request (h .turn .node) clock link bc errors packet (lent (h .flash) m (h .buffer)) in
+stepped M (Event.Requested clock link bc errors packet m x) h =
+    let o : Outcome = M .request (h .turn .node) clock link bc errors packet (lent (h .flash) m x (h .buffer)) in
     host (h .asked) (o .turn) (o .after .flash) (o .after .reply)
 stepped M (Event.Replied clock slave bc errors status address words) h =
     let o : Outcome = M .reply (h .turn .node) clock slave bc errors status address words (h .buffer) in
@@ -66,7 +66,7 @@ hosted M (e ∷ es) h = pick (isPending (h .turn .node .pending)) (hosted M es (
 
 -- A call that drops a group of this link: a request without receive errors, of 0 words, with BC 10, from that link.
 abbrev pub dropsGroup : ℕ → Event → Bool
-dropsGroup link (Event.Requested clock l bc errors packet m) = not errors && (eqb (length packet) 0 && (eqb link l && eqb (bcOf bc) 2))
+dropsGroup link (Event.Requested clock l bc errors packet m x) = not errors && (eqb (length packet) 0 && (eqb link l && eqb (bcOf bc) 2))
 dropsGroup link (Event.Replied clock slave bc errors status address words) = false
 dropsGroup link (Event.Polled clock) = false
 dropsGroup link (Event.Erased budget) = false
@@ -81,7 +81,7 @@ Undropped link (e ∷ es) = (dropsGroup link e ≡ false) × Undropped link es
 unfoldable pub heards : ℕ → List ℕ → List Event → List SlaveAnswer
 heards at [] es = []
 heards at (s ∷ ss) [] = []
-heards at (s ∷ ss) (Event.Requested clock link bc errors packet m ∷ es) = heards at (s ∷ ss) es
+heards at (s ∷ ss) (Event.Requested clock link bc errors packet m x ∷ es) = heards at (s ∷ ss) es
 heards at (s ∷ ss) (Event.Replied clock slave bc errors status address words ∷ es) =
     pick (eqb s slave) (answer (heard (isLate clock at) errors status address bc) words ∷ heards clock ss es) (heards at (s ∷ ss) es)
 heards at (s ∷ ss) (Event.Polled clock ∷ es) = pick (isLate clock at) (answer silent [] ∷ heards clock ss es) (heards at (s ∷ ss) es)

@@ -1,11 +1,11 @@
 -- Demand 2, of files: a file that fits is written, what was written reads back, and a corrupted file is never handed out or loaded. 01
--- 'Flash' and 'What calls owe'. Assumes nothing.
+-- 'Flash' and 'What calls owe'; a file may come in several packets (02, request 1). Assumes nothing.
 use Prim.Native.Nat.{ℕ, _+_, _≤_, _<_}
 use mathlib.Core.Path.{_≡_}
 use mathlib.Core.Logic.{_⊎_}
 use mathlib.Core.Bool.{Bool, true, false, _&&_, _||_}
 use mathlib.Core.List.{List, [], _∷_}
-use lib.ListN.{length, getD, take, drop}
+use lib.ListN.{length, getD, take}
 use lib.Dec.{eqb}
 use Rattle.base.specs.Words.{laid, Below}
 use Rattle.image.specs.Header.{nameOf}
@@ -24,12 +24,12 @@ use Rattle.memory.specs.Segment.{Memories}
 use Rattle.memory.specs.Load.{fileSegments, allFit, allStored}
 use Rattle.group.specs.declared.Reply.{Reply}
 use Rattle.node.specs.State.{turn, faulted}
-use Rattle.node.specs.Effect.{Outcome, outcome, Lent, lent}
+use Rattle.node.specs.Effect.{Outcome, outcome, Further, Lent, lent}
 use Rattle.node.specs.Files.{namedBy, placedFor, toErase}
 use Rattle.node.specs.declared.Answer.{Answer}
 use Rattle.node.specs.declared.Node.{Node}
 use Rattle.demands.specs.Machine.{Machine, Call, turnOf, flashOf}
-use Rattle.demands.specs.Requests.{end, abort, Delivered, isCommand, handed}
+use Rattle.demands.specs.Requests.{end, abort, Arrives, Delivered, isCommand, isWrite, brought, handed}
 use Rattle.demands.specs.Reached.{Step, Reached}
 
 -- A valid and exact file.
@@ -51,27 +51,27 @@ pub record Takes (flash : List ℕ) (words s : ℕ) : Type 0 where
   pub room : words ≤ sizeOf (unitOf flash) s
 
 -- In a state reached, with no erasure in progress, a File Write of a valid and exact file whose name is unused, where some sector takes
--- it, is answered END.
+-- it, is answered END; of several packets the last is.
 abbrev pub Writes : Machine → Type 0
 Writes M =
     (n : Node) (flash : List ℕ) → Reached M n flash → n .erasing ≡ Erasing.Nothing
-    → (clock link bc : ℕ) (errors : Bool) (packet : List ℕ) (m : Memories) (reply : List ℕ)
-    → isCommand 0x45 packet ≡ true → Delivered M n clock link bc errors packet (lent flash m reply)
-    → IsFile (drop 1 packet) → Unused (fileName (drop 1 packet)) flash
-    → (s : ℕ) → Takes flash (length (drop 1 packet)) s
-    → M .request n clock link bc errors packet (lent flash m reply) .turn .answer ≡ end
+    → (clock link bc : ℕ) (errors : Bool) (packet : List ℕ) (m : Memories) (x : Further) (reply : List ℕ)
+    → isWrite n link bc packet ≡ true → Arrives M n clock link bc errors packet (lent flash m x reply)
+    → let file : List ℕ = brought n bc packet x in
+    IsFile file → Unused (fileName file) flash → (s : ℕ) → Takes flash (length file) s
+    → M .request n clock link bc errors packet (lent flash m x reply) .turn .answer ≡ end
 
 -- An Erase that names the sector; an Attribute Set of the name.
 abbrev pub ErasesSector : ℕ → Call → Node → Type 0
 ErasesSector s (Call.Start kind ports subdetector program version tests clock) n = ⊥
-ErasesSector s (Call.Request clock link bc errors packet m reply) n = (isCommand 0x47 packet ≡ true) × (toErase n (getD packet 1 0) ≡ Found.At s)
+ErasesSector s (Call.Request clock link bc errors packet m x reply) n = (isCommand 0x47 bc packet ≡ true) × (toErase n (getD packet 1 0) ≡ Found.At s)
 ErasesSector s (Call.Reply clock slave bc errors status address words reply) n = ⊥
 ErasesSector s (Call.Poll clock reply) n = ⊥
 ErasesSector s (Call.Erase budget) n = ⊥
 
 abbrev pub setsAttribute : ℕ → Call → Bool
 setsAttribute name (Call.Start kind ports subdetector program version tests clock) = false
-setsAttribute name (Call.Request clock link bc errors packet m reply) = isCommand 0x48 packet && eqb (nameOf (getD packet 1 0)) name
+setsAttribute name (Call.Request clock link bc errors packet m x reply) = isCommand 0x48 bc packet && eqb (nameOf (getD packet 1 0)) name
 setsAttribute name (Call.Reply clock slave bc errors status address words reply) = false
 setsAttribute name (Call.Poll clock reply) = false
 setsAttribute name (Call.Erase budget) = false
@@ -95,10 +95,10 @@ pub data Runs (M : Machine) (s name : ℕ) (n : Node) (flash : List ℕ) : Node 
 -- Every File Read of its name answers the very words.
 abbrev pub Reads : Machine → List ℕ → Node → List ℕ → Type 0
 Reads M file n flash =
-    (clock link bc : ℕ) (errors : Bool) (packet : List ℕ) (m : Memories) (reply : List ℕ)
-    → isCommand 0x05 packet ≡ true → length packet ≡ 2 → nameOf (getD packet 1 0) ≡ fileName file
-    → Delivered M n clock link bc errors packet (lent flash m reply)
-    → M .request n clock link bc errors packet (lent flash m reply) ≡ handed n (lent flash m reply) file
+    (clock link bc : ℕ) (errors : Bool) (packet : List ℕ) (m : Memories) (x : Further) (reply : List ℕ)
+    → isCommand 0x05 bc packet ≡ true → length packet ≡ 2 → nameOf (getD packet 1 0) ≡ fileName file
+    → Delivered M n clock link bc errors packet (lent flash m x reply)
+    → M .request n clock link bc errors packet (lent flash m x reply) ≡ handed n (lent flash m x reply) file
 
 -- A file that was written: valid, exact and of an unused name, to the lowest sector that takes it; no other word of the flash changed. And
 -- after any calls that spare it, with no erasure in progress, it reads back, if it has up to 12,286 words.
@@ -116,9 +116,10 @@ pub record Written (M : Machine) (flash file : List ℕ) (o : Outcome) : Type 0 
 abbrev pub ReadsBack : Machine → Type 0
 ReadsBack M =
     (n : Node) (flash : List ℕ) → Reached M n flash
-    → (clock link bc : ℕ) (errors : Bool) (packet : List ℕ) (m : Memories) (reply : List ℕ) → Below 65536 packet → isCommand 0x45 packet ≡ true
-    → let o : Outcome = M .request n clock link bc errors packet (lent flash m reply) in
-    o .turn .answer ≡ end → Written M flash (drop 1 packet) o
+    → (clock link bc : ℕ) (errors : Bool) (packet : List ℕ) (m : Memories) (x : Further) (reply : List ℕ) → Below 65536 packet → Below 65536 (x .area)
+    → isWrite n link bc packet ≡ true
+    → let o : Outcome = M .request n clock link bc errors packet (lent flash m x reply) in
+    o .turn .answer ≡ end → Written M flash (brought n bc packet x) o
 
 -- A word of a sector's kept entry isn't the one worked out afresh.
 pub record Differs (n : Node) (flash : List ℕ) (s : ℕ) : Type 0 where
@@ -137,7 +138,7 @@ pub record Names (n : Node) (flash packet : List ℕ) (s : ℕ) (file : List ℕ
 
 -- Its segments stored in the memories, in file order.
 abbrev pub loaded : Node → Lent → List ℕ → Outcome
-loaded n l file = outcome (turn n end) (lent (l .flash) (allStored (fileSegments file) (l .memories)) (l .reply))
+loaded n l file = outcome (turn n end) (lent (l .flash) (allStored (fileSegments file) (l .memories)) (l .further) (l .reply))
 
 -- What a command that handed out or loaded a file came to: it named a good one, and did so with it.
 pub record Did (does : Node → Lent → List ℕ → Outcome) (n : Node) (packet : List ℕ) (l : Lent) (o : Outcome) : Type 0 where
@@ -150,26 +151,26 @@ pub record Did (does : Node → Lent → List ℕ → Outcome) (n : Node) (packe
 -- error is added. A Read that answers words hands out a good file, whole; a Load that is answered END, or changes a memory, loads one.
 -- Requests other than Load, Perform IO and the Memory Writes change no memory.
 pub record NeverCorrupted (M : Machine) : Type 0 where
-  pub aborts : (n : Node) (clock link bc : ℕ) (errors : Bool) (packet : List ℕ) (l : Lent) (s : ℕ) → (isCommand 0x05 packet || isCommand 0x46 packet) ≡ true
+  pub aborts : (n : Node) (clock link bc : ℕ) (errors : Bool) (packet : List ℕ) (l : Lent) (s : ℕ) → (isCommand 0x05 bc packet || isCommand 0x46 bc packet) ≡ true
       → Delivered M n clock link bc errors packet l → length packet ≡ 2 → n .erasing ≡ Erasing.Nothing → namedBy n (getD packet 1 0) ≡ Target.At s
       → ((file : List ℕ) → Names n (l .flash) packet s file → ⊥)
       → M .request n clock link bc errors packet l ≡ outcome (turn (faulted true n) abort) l
-  pub hands-out : (n : Node) (clock link bc : ℕ) (errors : Bool) (packet : List ℕ) (l : Lent) (r : Reply) → isCommand 0x05 packet ≡ true
+  pub hands-out : (n : Node) (clock link bc : ℕ) (errors : Bool) (packet : List ℕ) (l : Lent) (r : Reply) → isCommand 0x05 bc packet ≡ true
       → let o : Outcome = M .request n clock link bc errors packet l in
       o .turn .answer ≡ Answer.Reply r → 0 < r .words → Did handed n packet l o
-  pub loads : (n : Node) (clock link bc : ℕ) (errors : Bool) (packet : List ℕ) (l : Lent) → isCommand 0x46 packet ≡ true
+  pub loads : (n : Node) (clock link bc : ℕ) (errors : Bool) (packet : List ℕ) (l : Lent) → isCommand 0x46 bc packet ≡ true
       → let o : Outcome = M .request n clock link bc errors packet l in
       (o .turn .answer ≡ end) ⊎ (o .after .memories ≡ l .memories → ⊥) → Did loaded n packet l o
   pub leaves : (n : Node) (clock link bc : ℕ) (errors : Bool) (packet : List ℕ) (l : Lent)
-      → (isCommand 0x46 packet || isCommand 0x0F packet || isCommand 0x50 packet || isCommand 0x51 packet) ≡ false
+      → (isCommand 0x46 bc packet || isCommand 0x0F bc packet || isCommand 0x50 bc packet || isCommand 0x51 bc packet) ≡ false
       → M .request n clock link bc errors packet l .after .memories ≡ l .memories
 
 -- Nor is a good file withheld: Read hands it out, if it has up to 12,286 words, and Load loads it, if every segment fits.
 pub record GoodIsServed (M : Machine) : Type 0 where
-  pub read : (n : Node) (clock link bc : ℕ) (errors : Bool) (packet : List ℕ) (l : Lent) (s : ℕ) (file : List ℕ) → isCommand 0x05 packet ≡ true
+  pub read : (n : Node) (clock link bc : ℕ) (errors : Bool) (packet : List ℕ) (l : Lent) (s : ℕ) (file : List ℕ) → isCommand 0x05 bc packet ≡ true
       → Delivered M n clock link bc errors packet l → length packet ≡ 2 → Names n (l .flash) packet s file → length file ≤ 12286
       → M .request n clock link bc errors packet l ≡ handed n l file
-  pub load : (n : Node) (clock link bc : ℕ) (errors : Bool) (packet : List ℕ) (l : Lent) (s : ℕ) (file : List ℕ) → isCommand 0x46 packet ≡ true
+  pub load : (n : Node) (clock link bc : ℕ) (errors : Bool) (packet : List ℕ) (l : Lent) (s : ℕ) (file : List ℕ) → isCommand 0x46 bc packet ≡ true
       → Delivered M n clock link bc errors packet l → length packet ≡ 2 → Names n (l .flash) packet s file
       → allFit (length (l .memories .pm)) (length (l .memories .dm)) (length (l .memories .io)) (fileSegments file) ≡ true
       → M .request n clock link bc errors packet l ≡ loaded n l file
@@ -181,14 +182,14 @@ pub record Lays (l : Lent) (o : Outcome) (s : ℕ) (words : List ℕ) : Type 0 w
   pub room : length words ≤ sizeOf (unitOf (l .flash)) s
   pub flash : o .after .flash ≡ laid (l .flash) (startOf (unitOf (l .flash)) s) words
 
-pub record LaysFile (n : Node) (packet : List ℕ) (l : Lent) (o : Outcome) : Type 0 where
-  pub command : isCommand 0x45 packet ≡ true
+pub record LaysFile (n : Node) (link bc : ℕ) (packet : List ℕ) (l : Lent) (o : Outcome) : Type 0 where
+  pub command : isWrite n link bc packet ≡ true
   pub sector : ℕ
-  pub placed : placedFor n (l .flash) (drop 1 packet) ≡ Found.At sector
-  pub lays : Lays l o sector (drop 1 packet)
+  pub placed : placedFor n (l .flash) (brought n bc packet (l .further)) ≡ Found.At sector
+  pub lays : Lays l o sector (brought n bc packet (l .further))
 
-pub record LaysHeader (n : Node) (packet : List ℕ) (l : Lent) (o : Outcome) : Type 0 where
-  pub command : isCommand 0x48 packet ≡ true
+pub record LaysHeader (n : Node) (bc : ℕ) (packet : List ℕ) (l : Lent) (o : Outcome) : Type 0 where
+  pub command : isCommand 0x48 bc packet ≡ true
   pub sector : ℕ
   pub file : List ℕ
   pub names : Names n (l .flash) packet sector file
@@ -201,4 +202,4 @@ abbrev pub FlashFollows : Machine → Type 0
 FlashFollows M =
     (n : Node) (clock link bc : ℕ) (errors : Bool) (packet : List ℕ) (l : Lent)
     → let o : Outcome = M .request n clock link bc errors packet l in
-    (o .after .flash ≡ l .flash) ⊎ (LaysFile n packet l o ⊎ LaysHeader n packet l o)
+    (o .after .flash ≡ l .flash) ⊎ (LaysFile n link bc packet l o ⊎ LaysHeader n bc packet l o)

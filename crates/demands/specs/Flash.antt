@@ -5,7 +5,7 @@ use mathlib.Core.Path.{_≡_}
 use mathlib.Core.Logic.{_⊎_}
 use mathlib.Core.Bool.{Bool, true, false}
 use mathlib.Core.List.{List}
-use lib.ListN.{length, getD, drop}
+use lib.ListN.{length, getD}
 use Rattle.base.specs.Pick.{pick}
 use Rattle.base.specs.Words.{laid, blanks}
 use Rattle.flash.specs.Geometry.{isSector, unitOf, sizeOf, startOf, sectorOf}
@@ -13,19 +13,19 @@ use Rattle.flash.specs.Status.{isEmpty, progress}
 use Rattle.flash.specs.Change.{restOf, eraseCount, erased, erasingAfter, OnlySector, bitOf}
 use Rattle.flash.specs.declared.Erasing.{Erasing}
 use Rattle.flash.specs.declared.Found.{Found}
-use Rattle.node.specs.Effect.{Outcome, Lent}
+use Rattle.node.specs.Effect.{Further, Outcome, Lent}
 use Rattle.node.specs.Files.{namedBy, placedFor, foundBy, toErase}
 use Rattle.node.specs.declared.Answer.{Answer}
 use Rattle.node.specs.declared.Node.{Node}
 use Rattle.demands.specs.Machine.{Machine, Call, isStart, turnOf, flashOf, isRefused}
-use Rattle.demands.specs.Requests.{end, Delivered, isCommand}
+use Rattle.demands.specs.Requests.{end, Delivered, isCommand, isWrite, brought}
 use Rattle.demands.specs.Reached.{Step}
 
 -- The sector that a request may change: where File Write places its file, and the one of the name that Attribute Set is given.
-abbrev pub requestSite : Node → List ℕ → List ℕ → Found
-requestSite n flash packet =
-    pick (isCommand 0x45 packet) (placedFor n flash (drop 1 packet))
-    (pick (isCommand 0x48 packet) (foundBy (namedBy n (getD packet 1 0)))
+abbrev pub requestSite : Node → List ℕ → ℕ → ℕ → List ℕ → Further → Found
+requestSite n flash link bc packet x =
+    pick (isWrite n link bc packet) (placedFor n flash (brought n bc packet x))
+    (pick (isCommand 0x48 bc packet) (foundBy (namedBy n (getD packet 1 0)))
     Found.Nothing)
 
 -- The sector that is being erased.
@@ -36,7 +36,7 @@ erasingSite (Erasing.Sector p) = Found.At (p .sector)
 -- The sector that a call may change, by what it is given and the state: start reads the flash, and reply and poll aren't lent it.
 abbrev pub siteOf : Call → Node → List ℕ → Found
 siteOf (Call.Start kind ports subdetector program version tests clock) n flash = Found.Nothing
-siteOf (Call.Request clock link bc errors packet m reply) n flash = requestSite n flash packet
+siteOf (Call.Request clock link bc errors packet m x reply) n flash = requestSite n flash link bc packet x
 siteOf (Call.Reply clock slave bc errors status address words reply) n flash = Found.Nothing
 siteOf (Call.Poll clock reply) n flash = Found.Nothing
 siteOf (Call.Erase budget) n flash = erasingSite (n .erasing)
@@ -64,7 +64,7 @@ InStep (Erasing.Sector p) flash budget i =
 -- Of a call, those of its step; no other call sets any.
 abbrev pub SetByErasing : Call → Node → List ℕ → ℕ → Type 0
 SetByErasing (Call.Start kind ports subdetector program version tests clock) n flash i = ⊥
-SetByErasing (Call.Request clock link bc errors packet m reply) n flash i = ⊥
+SetByErasing (Call.Request clock link bc errors packet m x reply) n flash i = ⊥
 SetByErasing (Call.Reply clock slave bc errors status address words reply) n flash i = ⊥
 SetByErasing (Call.Poll clock reply) n flash i = ⊥
 SetByErasing (Call.Erase budget) n flash i = InStep (n .erasing) flash budget i
@@ -77,8 +77,8 @@ NoBitRises M =
 
 -- What an Erase that is answered END has done: nothing was being erased, and the erasure of the sector that it names has begun. It only
 -- begins.
-pub record Begins (n : Node) (flash packet : List ℕ) (o : Outcome) : Type 0 where
-  pub command : isCommand 0x47 packet ≡ true
+pub record Begins (n : Node) (flash : List ℕ) (bc : ℕ) (packet : List ℕ) (o : Outcome) : Type 0 where
+  pub command : isCommand 0x47 bc packet ≡ true
   pub answer : o .turn .answer ≡ end
   pub idle : n .erasing ≡ Erasing.Nothing
   pub sector : ℕ
@@ -101,7 +101,7 @@ pub record ErasureFollows (M : Machine) : Type 0 where
       → M .start kind ports subdetector program version tests clock flash .node .erasing ≡ Erasing.Nothing
   pub request : (n : Node) (clock link bc : ℕ) (errors : Bool) (packet : List ℕ) (l : Lent)
       → let o : Outcome = M .request n clock link bc errors packet l in
-      (o .turn .node .erasing ≡ n .erasing) ⊎ Begins n (l .flash) packet o
+      (o .turn .node .erasing ≡ n .erasing) ⊎ Begins n (l .flash) bc packet o
   pub reply : (n : Node) (clock slave bc : ℕ) (errors : Bool) (status address : ℕ) (words reply : List ℕ)
       → M .reply n clock slave bc errors status address words reply .turn .node .erasing ≡ n .erasing
   pub poll : (n : Node) (clock : ℕ) (reply : List ℕ) → M .poll n clock reply .turn .node .erasing ≡ n .erasing
@@ -111,7 +111,7 @@ pub record ErasureFollows (M : Machine) : Type 0 where
 -- Of a step that a host makes: the words that it is given to erase, those that it counts, and whether it starts the node again.
 abbrev pub budgetOf : Call → ℕ
 budgetOf (Call.Start kind ports subdetector program version tests clock) = 0
-budgetOf (Call.Request clock link bc errors packet m reply) = 0
+budgetOf (Call.Request clock link bc errors packet m x reply) = 0
 budgetOf (Call.Reply clock slave bc errors status address words reply) = 0
 budgetOf (Call.Poll clock reply) = 0
 budgetOf (Call.Erase budget) = budget
@@ -159,12 +159,12 @@ pub record HasSet (s : ℕ) (flash : List ℕ) (m : Node) (after : List ℕ) (gi
 -- Any state and flash. An Erase that names a sector is answered END, unless an erasure is in progress; one that is answered END has begun
 -- the erasure of that sector; and whatever calls follow, it sets what its erase progress is given.
 pub record Erases (M : Machine) : Type 0 where
-  pub starts : (n : Node) (clock link bc : ℕ) (errors : Bool) (packet : List ℕ) (l : Lent) (s : ℕ) → isCommand 0x47 packet ≡ true
+  pub starts : (n : Node) (clock link bc : ℕ) (errors : Bool) (packet : List ℕ) (l : Lent) (s : ℕ) → isCommand 0x47 bc packet ≡ true
       → Delivered M n clock link bc errors packet l → length packet ≡ 2 → n .erasing ≡ Erasing.Nothing → toErase n (getD packet 1 0) ≡ Found.At s
       → M .request n clock link bc errors packet l .turn .answer ≡ end
-  pub begins : (n : Node) (clock link bc : ℕ) (errors : Bool) (packet : List ℕ) (l : Lent) → isCommand 0x47 packet ≡ true
-      → M .request n clock link bc errors packet l .turn .answer ≡ end → Begins n (l .flash) packet (M .request n clock link bc errors packet l)
-  pub sets : (n : Node) (clock link bc : ℕ) (errors : Bool) (packet : List ℕ) (l : Lent) (s : ℕ) → isCommand 0x47 packet ≡ true
+  pub begins : (n : Node) (clock link bc : ℕ) (errors : Bool) (packet : List ℕ) (l : Lent) → isCommand 0x47 bc packet ≡ true
+      → M .request n clock link bc errors packet l .turn .answer ≡ end → Begins n (l .flash) bc packet (M .request n clock link bc errors packet l)
+  pub sets : (n : Node) (clock link bc : ℕ) (errors : Bool) (packet : List ℕ) (l : Lent) (s : ℕ) → isCommand 0x47 bc packet ≡ true
       → let o : Outcome = M .request n clock link bc errors packet l in
       o .turn .answer ≡ end → toErase n (getD packet 1 0) ≡ Found.At s
       → (m : Node) (after : List ℕ) (given counted : ℕ) → Course M (sizeOf (unitOf (l .flash)) s) (o .turn .node) (l .flash) m after given counted

@@ -4,6 +4,7 @@ pub mod Reached
 pub mod Refusals
 pub mod Flash
 pub mod Files
+pub mod Packets
 pub mod Events
 pub mod Groups
 pub mod Anchors

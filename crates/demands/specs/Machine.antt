@@ -4,7 +4,7 @@ use Prim.Native.Nat.{ℕ}
 use mathlib.Core.Bool.{Bool, true, false}
 use mathlib.Core.List.{List}
 use Rattle.memory.specs.Segment.{Memories}
-use Rattle.node.specs.Effect.{Lent, lent, Outcome}
+use Rattle.node.specs.Effect.{Further, Lent, lent, Outcome}
 use Rattle.node.specs.Calls.{startOf, requestOf, replyOf, pollOf, eraseOf}
 use Rattle.node.specs.declared.Answer.{Answer}
 use Rattle.node.specs.declared.Node.{Node}
@@ -25,7 +25,7 @@ logodwen = record { start = startOf; request = requestOf; reply = replyOf; poll 
 -- A call, with all that it is given and lent but the state and the flash.
 pub data Call : Type 0 where
   Start : (kind ports subdetector program version tests clock : ℕ) → Call
-  Request : (clock link bc : ℕ) (errors : Bool) (packet : List ℕ) (m : Memories) (reply : List ℕ) → Call
+  Request : (clock link bc : ℕ) (errors : Bool) (packet : List ℕ) (m : Memories) (x : Further) (reply : List ℕ) → Call
   Reply : (clock slave bc : ℕ) (errors : Bool) (status address : ℕ) (words reply : List ℕ) → Call
   Poll : (clock : ℕ) (reply : List ℕ) → Call
   Erase : (budget : ℕ) → Call
@@ -33,7 +33,7 @@ pub data Call : Type 0 where
 -- A call that starts the node; every other takes a state.
 abbrev pub isStart : Call → Bool
 isStart (Call.Start kind ports subdetector program version tests clock) = true
-isStart (Call.Request clock link bc errors packet m reply) = false
+isStart (Call.Request clock link bc errors packet m x reply) = false
 isStart (Call.Reply clock slave bc errors status address words reply) = false
 isStart (Call.Poll clock reply) = false
 isStart (Call.Erase budget) = false
@@ -42,8 +42,8 @@ isStart (Call.Erase budget) = false
 abbrev pub turnOf : Machine → Call → Node → List ℕ → Turn
 turnOf M (Call.Start kind ports subdetector program version tests clock) n flash =
     M .start kind ports subdetector program version tests clock flash
-turnOf M (Call.Request clock link bc errors packet m reply) n flash =
-    M .request n clock link bc errors packet (lent flash m reply) .turn
+turnOf M (Call.Request clock link bc errors packet m x reply) n flash =
+    M .request n clock link bc errors packet (lent flash m x reply) .turn
 turnOf M (Call.Reply clock slave bc errors status address words reply) n flash =
     M .reply n clock slave bc errors status address words reply .turn
 turnOf M (Call.Poll clock reply) n flash = M .poll n clock reply .turn
@@ -52,8 +52,8 @@ turnOf M (Call.Erase budget) n flash = M .erase n budget flash .turn
 -- The flash after it: start reads it, reply and poll are not lent it.
 abbrev pub flashOf : Machine → Call → Node → List ℕ → List ℕ
 flashOf M (Call.Start kind ports subdetector program version tests clock) n flash = flash
-flashOf M (Call.Request clock link bc errors packet m reply) n flash =
-    M .request n clock link bc errors packet (lent flash m reply) .after .flash
+flashOf M (Call.Request clock link bc errors packet m x reply) n flash =
+    M .request n clock link bc errors packet (lent flash m x reply) .after .flash
 flashOf M (Call.Reply clock slave bc errors status address words reply) n flash = flash
 flashOf M (Call.Poll clock reply) n flash = flash
 flashOf M (Call.Erase budget) n flash = M .erase n budget flash .after .flash

@@ -9,15 +9,15 @@ use Rattle.base.specs.Pick.{pick}
 use Rattle.base.specs.Words.{Below}
 use Rattle.flash.specs.Directory.{directoryOf}
 use Rattle.memory.specs.Segment.{Memories}
-use Rattle.node.specs.Effect.{lent}
+use Rattle.node.specs.Effect.{Further, lent}
 use Rattle.node.specs.declared.Node.{Node}
 use Rattle.demands.specs.Machine.{Machine, Call, isStart, turnOf, flashOf, isRefused}
 use Rattle.demands.specs.Requests.{Delivered, isCommand, handed}
 
--- A packet is lent as 16-bit words.
+-- A packet and the area are lent as 16-bit words.
 abbrev pub Lends16 : Call → Type 0
 Lends16 (Call.Start kind ports subdetector program version tests clock) = Unit {0}
-Lends16 (Call.Request clock link bc errors packet m reply) = Below 65536 packet
+Lends16 (Call.Request clock link bc errors packet m x reply) = Below 65536 packet × Below 65536 (x .area)
 Lends16 (Call.Reply clock slave bc errors status address words reply) = Unit {0}
 Lends16 (Call.Poll clock reply) = Unit {0}
 Lends16 (Call.Erase budget) = Unit {0}
@@ -28,8 +28,8 @@ abbrev pub stateAfter : Machine → Call → Node → List ℕ → Node
 stateAfter M c n flash = pick (isStart c && isRefused (turnOf M c n flash .answer)) n (turnOf M c n flash .node)
 
 -- One call of a host that keeps a state and a flash, and what it keeps after it. The call is lent both, and accepted or refused; or it is
--- refused, lent that state with whatever flash, or that flash with whatever state. Memories, reply buffer, clock and packet are fresh at
--- every call.
+-- refused, lent that state with whatever flash, or that flash with whatever state. Memories, area, reply buffer, clock and packet are fresh
+-- at every call.
 pub data Step (M : Machine) (n : Node) (flash : List ℕ) : Node → List ℕ → Type 0 where
   Made : (c : Call) → Lends16 c → Step M n flash (stateAfter M c n flash) (flashOf M c n flash)
   OtherFlash : (c : Call) (other : List ℕ) → isRefused (turnOf M c n other .answer) ≡ true → Step M n flash (stateAfter M c n other) flash
@@ -50,6 +50,6 @@ NoStaleRecord M = (n : Node) (flash : List ℕ) → Reached M n flash → n .dir
 abbrev pub SummaryIsTrue : Machine → Type 0
 SummaryIsTrue M =
     (n : Node) (flash : List ℕ) → Reached M n flash
-    → (clock link bc : ℕ) (errors : Bool) (packet : List ℕ) (m : Memories) (reply : List ℕ)
-    → Delivered M n clock link bc errors packet (lent flash m reply) → isCommand 0x07 packet ≡ true → length packet ≡ 1
-    → M .request n clock link bc errors packet (lent flash m reply) ≡ handed n (lent flash m reply) (directoryOf flash (n .erasing))
+    → (clock link bc : ℕ) (errors : Bool) (packet : List ℕ) (m : Memories) (x : Further) (reply : List ℕ)
+    → Delivered M n clock link bc errors packet (lent flash m x reply) → isCommand 0x07 bc packet ≡ true → length packet ≡ 1
+    → M .request n clock link bc errors packet (lent flash m x reply) ≡ handed n (lent flash m x reply) (directoryOf flash (n .erasing))

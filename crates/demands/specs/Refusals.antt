@@ -1,5 +1,5 @@
 -- Demand 1, of refusals: each call is refused by the number of the first cause that holds and then changes nothing, and no state
--- reached is refused by 5. 01 'Call refusals', each cause in the words of its table. Assumes nothing.
+-- reached is refused by 5. 01 'Call refusals', each cause in the words of its table; 8 is of 02, request 1. Assumes nothing.
 use Prim.Native.Nat.{ℕ, _+_, _*_, _/_, _%_, _^_, _≤_, _<_}
 use mathlib.Core.Path.{_≡_}
 use mathlib.Core.Logic.{_⊎_, _↔_}
@@ -18,6 +18,7 @@ use Rattle.node.specs.declared.Gathering.{Gathering}
 use Rattle.node.specs.declared.Node.{Node}
 use Rattle.node.specs.declared.Pending.{Pending}
 use Rattle.node.specs.declared.Turn.{Turn}
+use Rattle.node.specs.declared.Writing.{Writing}
 use Rattle.demands.specs.Machine.{Machine, Call, isStart, turnOf, isRefused}
 use Rattle.demands.specs.Reached.{Reached}
 
@@ -69,8 +70,13 @@ PendingIn ports Pending.Nothing = Unit {0}
 PendingIn ports (Pending.Slave a) = AskIn ports a
 PendingIn ports (Pending.Group a g) = AskIn ports a × GatheringIn (a .slave) g
 
--- Kind CDP 1 or CDDC 2, 1 to 4 ports, sub-detector up to 7, a flash of either size, mode 0 to 3, masks of 24 bits, and what is erasing
--- and what is pending as above.
+-- While a write stands its link is below the ports, and its words joined are at most 32,768. 02, request 1.
+abbrev pub WritingIn : ℕ → Writing → Type 0
+WritingIn ports Writing.Nothing = Unit {0}
+WritingIn ports (Writing.File j) = (j .link < ports) × (j .words ≤ 32768)
+
+-- Kind CDP 1 or CDDC 2, 1 to 4 ports, sub-detector up to 7, a flash of either size, mode 0 to 3, masks of 24 bits, and what is erasing,
+-- what is pending and the write that stands as above.
 pub record IsState (n : Node) : Type 0 where
   pub kind : (n .given .kind ≡ 1) ⊎ (n .given .kind ≡ 2)
   pub ports : (1 ≤ n .given .ports) × (n .given .ports ≤ 4)
@@ -80,6 +86,7 @@ pub record IsState (n : Node) : Type 0 where
   pub masks : (i : ℕ) → getD (n .masks) i 0 < 16777216
   pub erasing : ErasingIn (n .given .«flash_words») (n .erasing)
   pub pending : PendingIn (n .given .ports) (n .pending)
+  pub writing : WritingIn (n .given .ports) (n .writing)
 
 -- 6 and 7: a request is pending; a slave is now being asked.
 abbrev pub IsPending : Pending → Type 0
@@ -114,6 +121,7 @@ requestCauses n link packet l =
     flashCause n (l .flash)
     ∷ replyCause (l .reply)
     ∷ cause 3 (((32768 < length (l .memories .pm)) ⊎ (32768 < length (l .memories .dm))) ⊎ (4096 < length (l .memories .io)))
+    ∷ cause 8 (length (l .further .area) < 32768)
     ∷ cause 4 (link < n .given .ports → ⊥)
     ∷ stateCause n
     ∷ cause 6 (IsPending (n .pending) × (1 ≤ length packet))

@@ -1,11 +1,13 @@
--- Wrong nodes, those that 01 names under 'What calls owe' and others, each a machine of its own, and for each the demand that it fails, by
+-- Wrong nodes, those that 01 names under 'What calls owe' and others, of 02's rules too, each a machine of its own, and for each the demand that it fails, by
 -- its name in `Demands`. A call of which nothing is said is ours. Assumes nothing.
 use Prim.Native.Nat.{ℕ}
+use mathlib.Core.Bool.{_&&_, not}
 use mathlib.Core.List.{List, []}
-use lib.ListN.{length}
+use lib.ListN.{length, getD}
 use lib.Dec.{eqb}
 use Rattle.base.specs.Pick.{pick}
 use Rattle.base.specs.Words.{laid}
+use Rattle.image.specs.Header.{headerOk}
 use Rattle.flash.specs.Geometry.{sectorOf}
 use Rattle.flash.specs.Status.{progress}
 use Rattle.flash.specs.Directory.{refreshed, directoryOf}
@@ -13,18 +15,21 @@ use Rattle.flash.specs.declared.Erasing.{Erasing}
 use Rattle.flash.specs.declared.Status.{Status}
 use Rattle.memory.specs.Segment.{memories}
 use Rattle.group.specs.declared.Reply.{Reply}
-use Rattle.node.specs.State.{turn, withFlash}
-use Rattle.node.specs.Effect.{Lent, lent, Outcome, outcome}
+use Rattle.node.specs.State.{turn, joining, withFlash, withWriting}
+use Rattle.node.specs.Route.{bcOf}
+use Rattle.node.specs.Effect.{Lent, lent, further, Outcome, outcome}
 use Rattle.node.specs.Calls.{lentReply, lentFlash, nobody, startOf, requestOf, replyOf, pollOf, eraseOf}
 use Rattle.node.specs.declared.Answer.{Answer}
 use Rattle.node.specs.declared.Node.{Node}
 use Rattle.node.specs.declared.Refusal.{Refusal}
+use Rattle.node.specs.declared.Writing.{Writing}
 use Rattle.demands.specs.Machine.{Machine}
 use Rattle.demands.specs.Requests.{end, abort, isCommand}
 use Rattle.demands.specs.Reached.{NoStaleRecord}
 use Rattle.demands.specs.Refusals.{RefusedExactly}
 use Rattle.demands.specs.Flash.{ErasureFollows, Erases}
 use Rattle.demands.specs.Files.{Writes, ReadsBack, NeverCorrupted, FlashFollows}
+use Rattle.demands.specs.Packets.{AnyDivision, LeftAlone}
 use Rattle.demands.specs.ClosedRun.{ClosedRun}
 
 -- Once started, always refuses.
@@ -54,7 +59,7 @@ aborting =
 
 -- Does what a request asks for, but answers each with the same reply.
 abbrev pub replying : Reply → List ℕ → Lent → Outcome → Outcome
-replying r ws l o = outcome (turn (o .turn .node) (Answer.Reply r)) (lent (o .after .flash) (o .after .memories) (laid (l .reply) 0 ws))
+replying r ws l o = outcome (turn (o .turn .node) (Answer.Reply r)) (lent (o .after .flash) (o .after .memories) (o .after .further) (laid (l .reply) 0 ws))
 
 abbrev pub constant : Reply → List ℕ → Machine
 constant r ws =
@@ -68,7 +73,7 @@ constant r ws =
 
 -- Answers as it should, but changes nothing: neither state nor flash nor memories.
 abbrev pub unchanging : Node → Lent → Outcome → Outcome
-unchanging n l o = outcome (turn n (o .turn .answer)) (lent (l .flash) (l .memories) (o .after .reply))
+unchanging n l o = outcome (turn n (o .turn .answer)) (lent (l .flash) (l .memories) (l .further) (o .after .reply))
 
 abbrev pub idle : Machine
 idle =
@@ -173,16 +178,17 @@ dropping =
     }
 
 -- Loads from a half-erased sector: during an erasure it answers Load as it should, and puts that sector's words into PM.
-abbrev pub loadsHalf : Erasing → List ℕ → Outcome → Outcome
-loadsHalf Erasing.Nothing packet o = o
-loadsHalf (Erasing.Sector p) packet o =
-    pick (isCommand 0x46 packet) (outcome (o .turn) (lent (o .after .flash) (memories (sectorOf (o .after .flash) (p .sector)) [] []) (o .after .reply))) o
+abbrev pub loadsHalf : Erasing → ℕ → List ℕ → Outcome → Outcome
+loadsHalf Erasing.Nothing bc packet o = o
+loadsHalf (Erasing.Sector p) bc packet o =
+    pick (isCommand 0x46 bc packet)
+    (outcome (o .turn) (lent (o .after .flash) (memories (sectorOf (o .after .flash) (p .sector)) [] []) (o .after .further) (o .after .reply))) o
 
 abbrev pub loader : Machine
 loader =
     record {
       start = startOf;
-      request = λ n clock link bc errors packet l. loadsHalf (n .erasing) packet (requestOf n clock link bc errors packet l);
+      request = λ n clock link bc errors packet l. loadsHalf (n .erasing) bc packet (requestOf n clock link bc errors packet l);
       reply = replyOf;
       poll = pollOf;
       erase = eraseOf;
@@ -203,7 +209,7 @@ lying =
       start = startOf;
       request = λ n clock link bc errors packet l.
           let o : Outcome = requestOf n clock link bc errors packet l in
-          pick (isCommand 0x45 packet) (outcome (turn (o .turn .node) (lies (o .turn .answer))) (o .after)) o;
+          pick (isCommand 0x45 bc packet) (outcome (turn (o .turn .node) (lies (o .turn .answer))) (o .after)) o;
       reply = replyOf;
       poll = pollOf;
       erase = eraseOf;
@@ -216,7 +222,49 @@ denying =
       start = startOf;
       request = λ n clock link bc errors packet l.
           let o : Outcome = requestOf n clock link bc errors packet l in
-          pick (isCommand 0x45 packet) (outcome (turn (o .turn .node) abort) (o .after)) o;
+          pick (isCommand 0x45 bc packet) (outcome (turn (o .turn .node) abort) (o .after)) o;
+      reply = replyOf;
+      poll = pollOf;
+      erase = eraseOf;
+    }
+
+-- Judges what is in the first packet of a file: ABORT where its words begin with no header of a valid file.
+abbrev pub judging : Machine
+judging =
+    record {
+      start = startOf;
+      request = λ n clock link bc errors packet l.
+          pick (eqb (bcOf bc) 2 && not (headerOk (getD packet 1 0))) (outcome (turn n abort) l) (requestOf n clock link bc errors packet l);
+      reply = replyOf;
+      poll = pollOf;
+      erase = eraseOf;
+    }
+
+-- Forgets the header word's place: in the first packet of a file it joins with the others.
+abbrev pub hoarding : Machine
+hoarding =
+    record {
+      start = startOf;
+      request = λ n clock link bc errors packet l.
+          let o : Outcome = requestOf n clock link bc errors packet l in
+          pick (eqb (bcOf bc) 2)
+          (outcome (turn (withWriting (o .turn .node) (Writing.File (joining link (length packet)))) (o .turn .answer))
+          (lent (o .after .flash) (o .after .memories) (further (laid (l .further .area) 0 packet)) (o .after .reply))) o;
+      reply = replyOf;
+      poll = pollOf;
+      erase = eraseOf;
+    }
+
+-- Lets any link's packets between into the write that stands.
+abbrev pub writer : Writing → ℕ → ℕ
+writer Writing.Nothing link = link
+writer (Writing.File j) link = j .link
+
+abbrev pub mixing : Machine
+mixing =
+    record {
+      start = startOf;
+      request = λ n clock link bc errors packet l. requestOf n clock (pick (eqb (bcOf bc) 0) (writer (n .writing) link) link) bc errors packet l;
       reply = replyOf;
       poll = pollOf;
       erase = eraseOf;
@@ -239,6 +287,10 @@ pub record ShutOut : Type 0 where
   -- says END and stores nothing; stores and says ABORT
   pub stores-nothing : ReadsBack lying → ⊥
   pub stores-silently : FlashFollows denying → ⊥
+  -- of several packets judges the first, joins its header word, mixes the links
+  pub judges-first : AnyDivision judging → ⊥
+  pub joins-header : AnyDivision hoarding → ⊥
+  pub mixes-links : LeftAlone mixing → ⊥
   -- loads from a half-erased sector
   pub loads-half : NeverCorrupted loader → ⊥
   -- erases all at the first progress call
