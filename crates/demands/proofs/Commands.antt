@@ -3,7 +3,7 @@
 use Prim.Native.Nat.{ℕ, _≤_}
 use mathlib.Core.Path.{_≡_, refl, sym, ap, _∙_}
 use mathlib.Core.Logic.{_⊎_, inl, inr, ⊎-elim}
-use mathlib.Core.Bool.{Bool, true, false, _||_, not, false≢true}
+use mathlib.Core.Bool.{Bool, true, false, _&&_, false≢true}
 use mathlib.Core.List.{List}
 use native.Mathlib.Omega.{arith}
 use lib.ListN.{length, getD}
@@ -15,7 +15,7 @@ use Rattle.group.specs.Ending.{replied, zeroReply}
 use Rattle.group.specs.declared.Reply.{Reply}
 use Rattle.group.specs.declared.ZeroLength.{ZeroLength}
 use Rattle.node.specs.Effect.{Lent, Outcome, applied, ownOutcome}
-use Rattle.node.specs.Route.{firstByte, secondByte, bcOf, drops, addressed, routeOf}
+use Rattle.node.specs.Route.{firstByte, secondByte, bcOf, writes, drops, addressed, firstPacket, laterPacket, routeOf}
 use Rattle.node.specs.Own.{ownOf}
 use Rattle.node.specs.Calls.{judged, routed, requestOf}
 use Rattle.node.specs.declared.Answer.{Answer}
@@ -24,10 +24,10 @@ use Rattle.node.specs.declared.Route.{Route}
 use Rattle.node.specs.declared.Verdict.{Verdict}
 use Rattle.node.proofs.Routes.{Command, command-words}
 use Rattle.demands.specs.Machine.{logodwen, isRefused}
-use Rattle.demands.specs.Requests.{Delivered, isCommand}
+use Rattle.demands.specs.Requests.{Arrives, Delivered, isCommand}
 use Rattle.demands.proofs.Taken.{verdictOn, requestEffect, judged-fine}
 
-not-empty : (packet : List ℕ) → 1 ≤ length packet → eqb (length packet) 0 ≡ false
+pub not-empty : (packet : List ℕ) → 1 ≤ length packet → eqb (length packet) 0 ≡ false
 not-empty packet h = ne-eqb (length packet) 0 (λ e. absurd (omega (arith, h, e)))
 
 -- a request that is delivered is taken, and comes to step 4
@@ -35,25 +35,31 @@ pub record Comes (n : Node) (link bc : ℕ) (errors : Bool) (packet : List ℕ) 
   pub fine : verdictOn n link packet l ≡ Verdict.Fine
   pub route : addressed (n .given .kind) (n .masks) (length packet) (getD packet 0 0) (getD packet 1 0) ≡ routeOf n link bc errors packet
 
+pub arrives-fine : (n : Node) (clock link bc : ℕ) (errors : Bool) (packet : List ℕ) (l : Lent) → Arrives logodwen n clock link bc errors packet l → verdictOn n link packet l ≡ Verdict.Fine
+unfolding requestOf
+arrives-fine n clock link bc errors packet l a = judged-fine (verdictOn n link packet l) n l (requestEffect n clock link bc errors packet l) (a .taken)
+
 pub delivered-comes : (n : Node) (clock link bc : ℕ) (errors : Bool) (packet : List ℕ) (l : Lent) → Delivered logodwen n clock link bc errors packet l → Comes n link bc errors packet l
 unfolding requestOf routeOf
 delivered-comes n clock link bc errors packet l d =
-    let m = d .most in
-    let b = d .whole in
-    let step3 : (ltb 8192 (length packet) || not (eqb (bcOf bc) 3)) ≡ false = λ i. le-ltb 8192 (length packet) m i || not (eq-eqb (bcOf bc) 3 b i) in
+    let a = d .arrives in
     record {
-      fine = judged-fine (verdictOn n link packet l) n l (requestEffect n clock link bc errors packet l) (d .taken);
-      route = no _ (d .clean) (no _ (not-empty packet (d .least)) (no _ step3 refl));
+      fine = arrives-fine n clock link bc errors packet l a;
+      route = no _ (a .clean) (no _ (not-empty packet (a .least)) (no _ (le-ltb 8192 (length packet) (a .most)) (yes _ (eq-eqb (bcOf bc) 3 (d .whole)) (no _ (a .free (d .whole)) refl))));
     }
 
--- the command that a packet names
-pub command-told : (id : ℕ) (packet : List ℕ) → isCommand id packet ≡ true → Command packet id
-command-told id packet c =
+-- the command that a packet names, which it does whole
+pub command-whole : (id bc : ℕ) (packet : List ℕ) → isCommand id bc packet ≡ true → eqb (bcOf bc) 3 ≡ true
+command-whole id bc packet c = and-left (eqb (bcOf bc) 3) (eqb (firstByte (getD packet 0 0)) 0x2E && eqb (secondByte (getD packet 0 0)) id) c
+
+pub command-told : (id bc : ℕ) (packet : List ℕ) → isCommand id bc packet ≡ true → Command packet id
+command-told id bc packet c =
     let first = eqb (firstByte (getD packet 0 0)) 0x2E in
     let second = eqb (secondByte (getD packet 0 0)) id in
+    let named = and-right (eqb (bcOf bc) 3) (first && second) c in
     record {
-      own = eqb-true (firstByte (getD packet 0 0)) 0x2E (and-left first second c);
-      number = eqb-true (secondByte (getD packet 0 0)) id (and-right first second c);
+      own = eqb-true (firstByte (getD packet 0 0)) 0x2E (and-left first second named);
+      number = eqb-true (secondByte (getD packet 0 0)) id (and-right first second named);
     }
 
 -- the reply that an answer is, or else another
@@ -75,30 +81,54 @@ wordsIn a = replyIn a (replied 0 0) .words
 pub not-end : {A : Type 0} (k : ℕ) → eqb k 3 ≡ false → k ≡ 3 → A
 not-end k h e = absurd (eqb-false k 3 h e)
 
-module _ (n : Node) (clock link bc : ℕ) (errors : Bool) (packet : List ℕ) (l : Lent) (id : ℕ) (c : isCommand id packet ≡ true) where
+-- a request that is refused, or answered other than END, and leaves flash, erasure and memories
+module _ (n : Node) (clock link bc : ℕ) (errors : Bool) (packet : List ℕ) (l : Lent) where
+  pub record Unserved : Type 0 where
+    pub answer : requestOf n clock link bc errors packet l .turn .answer ≡ Answer.Reply (zeroReply ZeroLength.End) → ⊥
+    pub flash : requestOf n clock link bc errors packet l .after .flash ≡ l .flash
+    pub memories : requestOf n clock link bc errors packet l .after .memories ≡ l .memories
+    pub erasing : requestOf n clock link bc errors packet l .turn .node .erasing ≡ n .erasing
+
+  pub unserved : (o : Outcome) → requestOf n clock link bc errors packet l ≡ o → (o .turn .answer ≡ Answer.Reply (zeroReply ZeroLength.End) → ⊥)
+      → o .after .flash ≡ l .flash → o .after .memories ≡ l .memories → o .turn .node .erasing ≡ n .erasing → Unserved
+  unserved o is a f m e =
+      record {
+        answer = λ h. a (ap (λ (x : Outcome). x .turn .answer) (sym is) ∙ h);
+        flash = ap (λ (x : Outcome). x .after .flash) is ∙ f;
+        memories = ap (λ (x : Outcome). x .after .memories) is ∙ m;
+        erasing = ap (λ (x : Outcome). x .turn .node .erasing) is ∙ e;
+      }
+
+-- a command is the node's own, or is not served
+module _ (n : Node) (clock link bc : ℕ) (errors : Bool) (packet : List ℕ) (l : Lent) (id : ℕ) (c : isCommand id bc packet ≡ true) where
   own-route : Route.Own id ≡ addressed (n .given .kind) (n .masks) (length packet) (getD packet 0 0) (getD packet 1 0)
   unfolding addressed
   own-route =
-      let k = command-told id packet c in
+      let k = command-told id bc packet c in
       yes _ (eq-eqb (firstByte (getD packet 0 0)) 0x2E (k .own)) (ap Route.Own (sym (k .number)))
 
-  -- steps 1 to 3 let it pass, or answer ERROR
-  command-route : (routeOf n link bc errors packet ≡ Route.Own id) ⊎ (routeOf n link bc errors packet ≡ Route.Wrong)
+  -- steps 1 to 3 let it pass, or answer ERROR, and may drop a write
+  command-route : (routeOf n link bc errors packet ≡ Route.Own id) ⊎ ((routeOf n link bc errors packet ≡ Route.Wrong) ⊎ (routeOf n link bc errors packet ≡ Route.Broken))
   unfolding routeOf
-  command-route = by errors (eqb (length packet) 0) (not-empty packet (command-words packet id (command-told id packet c))) (ltb 8192 (length packet) || not (eqb (bcOf bc) 3))
+  command-route =
+      by errors (eqb (length packet) 0) (not-empty packet (command-words packet id (command-told id bc packet c))) (ltb 8192 (length packet)) (eqb (bcOf bc) 3)
+      (command-whole id bc packet c) (writes (n .writing) link)
     where
-      route : Bool → Bool → Bool → Route
-      route s t u =
+      route : Bool → Bool → Bool → Bool → Bool → Route
+      route s t u b w =
           pick s Route.Wrong
-          (pick t (pick (drops (n .pending) link bc) Route.Dropped Route.Unserved)
+          (pick t (pick (drops n link bc) Route.Dropped Route.Unserved)
           (pick u Route.Wrong
-          (addressed (n .given .kind) (n .masks) (length packet) (getD packet 0 0) (getD packet 1 0))))
+          (pick b (pick w Route.Broken (addressed (n .given .kind) (n .masks) (length packet) (getD packet 0 0) (getD packet 1 0)))
+          (pick (eqb (bcOf bc) 2) (firstPacket (n .writing) link (getD packet 0 0)) (laterPacket (n .writing) link (eqb (bcOf bc) 1) (length packet))))))
 
-      by : (s t : Bool) → t ≡ false → (u : Bool) → (route s t u ≡ Route.Own id) ⊎ (route s t u ≡ Route.Wrong)
-      by true t e u = inr refl
-      by false true e u = absurd (false≢true (sym e))
-      by false false e true = inr refl
-      by false false e false = inl (sym own-route)
+      by : (s t : Bool) → t ≡ false → (u b : Bool) → b ≡ true → (w : Bool) → (route s t u b w ≡ Route.Own id) ⊎ ((route s t u b w ≡ Route.Wrong) ⊎ (route s t u b w ≡ Route.Broken))
+      by true t e u b f w = inr (inl refl)
+      by false true e u b f w = absurd (false≢true (sym e))
+      by false false e true b f w = inr (inl refl)
+      by false false e false true f true = inr (inr refl)
+      by false false e false true f false = inl (sym own-route)
+      by false false e false false f w = absurd (false≢true f)
 
   pub record Own : Type 0 where
     pub fine : verdictOn n link packet l ≡ Verdict.Fine
@@ -113,7 +143,8 @@ module _ (n : Node) (clock link bc : ℕ) (errors : Bool) (packet : List ℕ) (l
   unfolding requestOf
   answered-own t e =
       let v = judged-fine (verdictOn n link packet l) n l (requestEffect n clock link bc errors packet l) t in
-      ⊎-elim (own-is v) (λ r. absurd (e (λ i. judged (v i) n l (routed (r i) n clock link packet l) .turn .answer))) command-route
+      let error : (r : Route) → routed r n clock link packet l .answer ≡ Answer.Reply (zeroReply ZeroLength.Error) → routeOf n link bc errors packet ≡ r → Own = λ r h q. absurd (e ((λ i. judged (v i) n l (routed (q i) n clock link packet l) .turn .answer) ∙ h)) in
+      ⊎-elim (own-is v) (⊎-elim (error Route.Wrong refl) (error Route.Broken refl)) command-route
 
   pub ended-own : requestOf n clock link bc errors packet l .turn .answer ≡ Answer.Reply (zeroReply ZeroLength.End) → Own × (ownOf id n clock link packet l .reply .bc ≡ 3)
   ended-own h =
@@ -123,30 +154,15 @@ module _ (n : Node) (clock link bc : ℕ) (errors : Bool) (packet : List ℕ) (l
   pub delivered-own : Delivered logodwen n clock link bc errors packet l → Own
   delivered-own d = let k = delivered-comes n clock link bc errors packet l d in own-is (k .fine) (sym (own-route ∙ k .route))
 
-  -- or it is refused, or answered ERROR, and leaves flash, erasure and memories
-  pub record Unserved : Type 0 where
-    pub answer : requestOf n clock link bc errors packet l .turn .answer ≡ Answer.Reply (zeroReply ZeroLength.End) → ⊥
-    pub flash : requestOf n clock link bc errors packet l .after .flash ≡ l .flash
-    pub memories : requestOf n clock link bc errors packet l .after .memories ≡ l .memories
-    pub erasing : requestOf n clock link bc errors packet l .turn .node .erasing ≡ n .erasing
-
-  unserved : (o : Outcome) → requestOf n clock link bc errors packet l ≡ o → (o .turn .answer ≡ Answer.Reply (zeroReply ZeroLength.End) → ⊥)
-      → o .after .flash ≡ l .flash → o .after .memories ≡ l .memories → o .turn .node .erasing ≡ n .erasing → Unserved
-  unserved o is a f m e =
-      record {
-        answer = λ h. a (ap (λ (x : Outcome). x .turn .answer) (sym is) ∙ h);
-        flash = ap (λ (x : Outcome). x .after .flash) is ∙ f;
-        memories = ap (λ (x : Outcome). x .after .memories) is ∙ m;
-        erasing = ap (λ (x : Outcome). x .turn .node .erasing) is ∙ e;
-      }
-
-  pub own-or-not : Own ⊎ Unserved
+  pub own-or-not : Own ⊎ Unserved n clock link bc errors packet l
   unfolding requestOf
   own-or-not = by (verdictOn n link packet l) refl
     where
-      by : (v : Verdict) → verdictOn n link packet l ≡ v → Own ⊎ Unserved
+      by : (v : Verdict) → verdictOn n link packet l ≡ v → Own ⊎ Unserved n clock link bc errors packet l
       by Verdict.Fine v =
           ⊎-elim (λ r. inl (own-is v r))
-          (λ r. inr (unserved (applied n l (routed Route.Wrong n clock link packet l)) (λ i. judged (v i) n l (routed (r i) n clock link packet l)) (λ h. not-end 1 refl (ap bcIn h)) refl refl refl))
+          (⊎-elim
+          (λ r. inr (unserved n clock link bc errors packet l (applied n l (routed Route.Wrong n clock link packet l)) (λ i. judged (v i) n l (routed (r i) n clock link packet l)) (λ h. not-end 1 refl (ap bcIn h)) refl refl refl))
+          (λ r. inr (unserved n clock link bc errors packet l (applied n l (routed Route.Broken n clock link packet l)) (λ i. judged (v i) n l (routed (r i) n clock link packet l)) (λ h. not-end 1 refl (ap bcIn h)) refl refl refl)))
           command-route
-      by (Verdict.No x) v = inr (unserved (judged (Verdict.No x) n l (requestEffect n clock link bc errors packet l)) (λ i. judged (v i) n l (requestEffect n clock link bc errors packet l)) (λ h. false≢true (sym (ap isRefused h))) refl refl refl)
+      by (Verdict.No x) v = inr (unserved n clock link bc errors packet l (judged (Verdict.No x) n l (requestEffect n clock link bc errors packet l)) (λ i. judged (v i) n l (requestEffect n clock link bc errors packet l)) (λ h. false≢true (sym (ap isRefused h))) refl refl refl)

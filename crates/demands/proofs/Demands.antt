@@ -10,6 +10,7 @@ use Rattle.demands.proofs.NeverCorrupted.{never-corrupted, good-is-serv
 use Rattle.demands.proofs.Lays.{flash-follows}
 use Rattle.demands.proofs.Writes.{writes}
 use Rattle.demands.proofs.ReadsBack.{reads-back}
+use Rattle.demands.proofs.Packets.{any-division, left-alone}
 use Rattle.demands.proofs.Asks.{group-is-asked}
 use Rattle.demands.proofs.Groups.{group-is-its-fragments, asked-in-order, each-asked-once, fragments-stand, nothing-past-the-words}
 use Rattle.demands.proofs.ClosedRun.{closed-run}
@@ -22,6 +23,8 @@ demands =
       zeros-refused = zeros-refused;
       writes = writes;
       reads-back = reads-back;
+      any-division = any-division;
+      left-alone = left-alone;
       never-corrupted = never-corrupted;
       good-is-served = good-is-served;
       erases = erases;

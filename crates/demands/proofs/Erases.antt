@@ -73,28 +73,28 @@ module _ (n : Node) (flash : List ℕ) (erases : isErasing (n .erasing) ≡ true
   not-idle : {A : Type 0} → n .erasing ≡ Erasing.Nothing → A
   not-idle e = absurd (false≢true (sym (ap isErasing e) ∙ erases))
 
-  request-leaves : (clock link bc : ℕ) (errors : Bool) (packet : List ℕ) (m : Memories) (reply : List ℕ) → Leaves (Call.Request clock link bc errors packet m reply) n flash
+  request-leaves : (clock link bc : ℕ) (errors : Bool) (packet : List ℕ) (m : Memories) (x : Further) (reply : List ℕ) → Leaves (Call.Request clock link bc errors packet m x reply) n flash
   unfolding requestOf
-  request-leaves clock link bc errors packet m reply =
+  request-leaves clock link bc errors packet m x reply =
       record {
-        erasing = ⊎-elim (λ e. e) (λ b. not-idle (b .idle)) (erasure-follows .request n clock link bc errors packet (lent flash m reply));
-        words = words (verdictOn n link packet (lent flash m reply));
-        count = count (verdictOn n link packet (lent flash m reply));
+        erasing = ⊎-elim (λ e. e) (λ b. not-idle (b .idle)) (erasure-follows .request n clock link bc errors packet (lent flash m x reply));
+        words = words (verdictOn n link packet (lent flash m x reply));
+        count = count (verdictOn n link packet (lent flash m x reply));
       }
     where
-      why : (c : Change) → Why c n flash packet → flashAfter c (n .erasing) flash ≡ flash
+      why : (c : Change) → Why c n link bc packet (lent flash m x reply) → flashAfter c (n .erasing) flash ≡ flash
       why Change.Kept w = refl
       why (Change.Wrote s file) w = not-idle (w .idle)
       why (Change.Headed s end header) w = not-idle (w .idle)
       why (Change.Begun s) w = refl
       why (Change.Blanked budget) w = absurd w
 
-      words : (v : Verdict) → judged v n (lent flash m reply) (requestEffect n clock link bc errors packet (lent flash m reply)) .after .flash ≡ flash
-      words Verdict.Fine = why (requestEffect n clock link bc errors packet (lent flash m reply) .change) (request-why n (lent flash m reply) packet clock link bc errors .0)
+      words : (v : Verdict) → judged v n (lent flash m x reply) (requestEffect n clock link bc errors packet (lent flash m x reply)) .after .flash ≡ flash
+      words Verdict.Fine = why (requestEffect n clock link bc errors packet (lent flash m x reply) .change) (request-why n link bc packet (lent flash m x reply) clock errors .0)
       words (Verdict.No r) = refl
 
-      count : (v : Verdict) → countOf (judged v n (lent flash m reply) (requestEffect n clock link bc errors packet (lent flash m reply)) .turn .answer) ≡ 0
-      count Verdict.Fine = request-answer CountsNone (λ _. refl) (λ _. refl) n clock link bc errors packet (lent flash m reply)
+      count : (v : Verdict) → countOf (judged v n (lent flash m x reply) (requestEffect n clock link bc errors packet (lent flash m x reply)) .turn .answer) ≡ 0
+      count Verdict.Fine = request-answer CountsNone (λ _. refl) (λ _. refl) n clock link bc errors packet (lent flash m x reply)
       count (Verdict.No r) = refl
 
   reply-leaves : (clock slave bc : ℕ) (errors : Bool) (status address : ℕ) (words reply : List ℕ) → Leaves (Call.Reply clock slave bc errors status address words reply) n flash
@@ -232,9 +232,9 @@ module _ (n : Node) (flash : List ℕ) (s : ℕ) (v : Valid n flash) (sector : i
   made-stage : (c : Call) (m : Node) (now : List ℕ) (given counted : ℕ) → given < size → isStart c ≡ false → Lends16 c → Stage m now given counted
       → Stage (stateAfter logodwen c m now) (flashOf logodwen c m now) (given + budgetOf c) (counted + countOf (turnOf logodwen c m now .answer))
   made-stage (Call.Start kind ports subdetector program version tests clock) m now given counted less q b stage = absurd (false≢true (sym q))
-  made-stage (Call.Request clock link bc errors packet memories reply) m now given counted less q b stage =
-      left-stage (Call.Request clock link bc errors packet memories reply) m now given counted less b stage
-      (request-leaves m now (ap isErasing (stage .has .going less)) clock link bc errors packet memories reply)
+  made-stage (Call.Request clock link bc errors packet memories x reply) m now given counted less q b stage =
+      left-stage (Call.Request clock link bc errors packet memories x reply) m now given counted less b stage
+      (request-leaves m now (ap isErasing (stage .has .going less)) clock link bc errors packet memories x reply)
   made-stage (Call.Reply clock slave bc errors status address words reply) m now given counted less q b stage =
       left-stage (Call.Reply clock slave bc errors status address words reply) m now given counted less b stage
       (reply-leaves m now (ap isErasing (stage .has .going less)) clock slave bc errors status address words reply)
@@ -264,11 +264,11 @@ begun-valid n l s fit sector =
     let words : ℕ = n .given .«flash_words» in
     let some = subst (λ (x : ℕ). 0 < sizeOf (x / 16) s) (sym (fit .size)) (some-words (unitOf (l .flash)) s (some-unit n (l .flash) v) sector) in
     record {
-      ranges = record { given = r .given; mode = r .mode; masks = r .masks; erasing = and-both sector (lt-ltb 0 (sizeOf (words / 16) s) some); pending = r .pending };
+      ranges = record { given = r .given; mode = r .mode; masks = r .masks; erasing = and-both sector (lt-ltb 0 (sizeOf (words / 16) s) some); pending = r .pending; writing = r .writing };
       size = fit .size;
     }
 
-erase-sets : (n : Node) (clock link bc : ℕ) (errors : Bool) (packet : List ℕ) (l : Lent) (s : ℕ) → isCommand 0x47 packet ≡ true
+erase-sets : (n : Node) (clock link bc : ℕ) (errors : Bool) (packet : List ℕ) (l : Lent) (s : ℕ) → isCommand 0x47 bc packet ≡ true
     → requestOf n clock link bc errors packet l .turn .answer ≡ end → toErase n (getD packet 1 0) ≡ Found.At s
     → (m : Node) (after : List ℕ) (given counted : ℕ) → Course logodwen (sizeOf (unitOf (l .flash)) s) (requestOf n clock link bc errors packet l .turn .node) (l .flash) m after given counted
     → HasSet s (l .flash) m after given counted
@@ -277,8 +277,8 @@ erase-sets n clock link bc errors packet l s c h named m after given counted cou
     let b = began n clock link packet l (ended-own n clock link bc errors packet l 0x47 c h .1) in
     let third : b .sector ≡ s = found-same (sym (b .named) ∙ named) in
     let o = own .is ∙ ap (ownOutcome n l) (b .is ∙ ap (λ (x : ℕ). changes (Change.Begun x)) third) in
-    let sector = erase-sector n l packet (getD packet 1 0) s named in
-    course-stage (nodeAfter n (l .flash) (owns n l (changes (Change.Begun s)))) (l .flash) s (begun-valid n l s (request-fine n link _ _ _ _ _ _ (own .fine) .fits) sector) sector refl
+    let sector = erase-sector n (getD packet 1 0) s named in
+    course-stage (nodeAfter n (l .flash) (owns n l (changes (Change.Begun s)))) (l .flash) s (begun-valid n l s (request-fine n link _ _ _ _ _ _ _ (own .fine) .fits) sector) sector refl
     (subst (λ (x : Node). Course logodwen (sizeOf (unitOf (l .flash)) s) x (l .flash) m after given counted) (ap (λ (x : Outcome). x .turn .node) o) course) .has
   where
     sectorIn : Found → ℕ
@@ -288,7 +288,7 @@ erase-sets n clock link bc errors packet l s c h named m after given counted cou
     found-same : {x y : ℕ} → Found.At x ≡ Found.At y → x ≡ y
     found-same e = ap sectorIn e
 
-erase-starts : (n : Node) (clock link bc : ℕ) (errors : Bool) (packet : List ℕ) (l : Lent) (s : ℕ) → isCommand 0x47 packet ≡ true
+erase-starts : (n : Node) (clock link bc : ℕ) (errors : Bool) (packet : List ℕ) (l : Lent) (s : ℕ) → isCommand 0x47 bc packet ≡ true
     → Delivered logodwen n clock link bc errors packet l → length packet ≡ 2 → n .erasing ≡ Erasing.Nothing → toErase n (getD packet 1 0) ≡ Found.At s
     → requestOf n clock link bc errors packet l .turn .answer ≡ end
 unfolding ownOf filesOf eraseStartOf

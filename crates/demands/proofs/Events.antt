@@ -2,14 +2,14 @@
 -- group ends. By walking what refuses the call and what it does. Assumes nothing.
 use Prim.Native.Nat.{ℕ, suc, _+_, _≤_}
 use mathlib.Core.Path.{_≡_, refl, sym, ap, _∙_, subst}
-use mathlib.Core.Bool.{Bool, true, false, _&&_, not, false≢true}
+use mathlib.Core.Bool.{Bool, true, false, _&&_, _||_, not, false≢true}
 use mathlib.Core.List.{List, [], _∷_, append-nil}
 use native.Mathlib.Omega.{arith}
 use lib.Dec.{eqb, leb, ltb}
 use lib.ListN.{length}
 use borrow.Author.Tests.{eq-eqb, eqb-true, leb-false, le-ltb, leb-true}
 use Rattle.base.specs.Pick.{pick}
-use Rattle.base.proofs.Pick.{yes, no, and-left, and-right}
+use Rattle.base.proofs.Pick.{yes, no, pick-case, and-left, and-right}
 use Rattle.memory.specs.Segment.{Memories}
 use Rattle.group.specs.Time.{isLate}
 use Rattle.group.specs.Kind.{answer, Answer as SlaveAnswer}
@@ -21,13 +21,13 @@ use Rattle.group.specs.declared.Next.{Next}
 use Rattle.group.proofs.Sets.{up-tells}
 use Rattle.group.proofs.Takes.{taken-changes}
 use Rattle.node.specs.State.{turn}
-use Rattle.node.specs.Valid.{pendingOk, stateOk, askOk, gatheringOk}
+use Rattle.node.specs.Valid.{pendingOk, writingOk, stateOk, askOk, gatheringOk}
 use Rattle.node.specs.Refusals.{isPending, isAsked, requestVerdict, replyVerdict, pollVerdict, eraseVerdict}
-use Rattle.node.specs.Route.{bcOf, drops, routeOf}
+use Rattle.node.specs.Route.{bcOf, asks, writes, drops, routeOf}
 use Rattle.node.specs.Settings.{statusIn}
-use Rattle.node.specs.Effect.{Effect, only, Lent, lent, Outcome, nodeAfter}
+use Rattle.node.specs.Effect.{Effect, only, Further, Lent, lent, Outcome, nodeAfter, Join, writingAfter}
 use Rattle.node.specs.Slaves.{ask, gathering, heard, silent, goesOn, hears, askedAt, withAmswire, errorIn, replyEffect, pollEffect}
-use Rattle.node.specs.Calls.{judged, lentReply, lentFlash, routed, requestOf, replyOf, pollOf, eraseEffect, eraseOf}
+use Rattle.node.specs.Calls.{judged, lentReply, lentFlash, pendingWithout, routed, requestOf, replyOf, pollOf, eraseEffect, eraseOf}
 use Rattle.node.specs.declared.Answer.{Answer}
 use Rattle.node.specs.declared.Node.{Node}
 use Rattle.node.specs.declared.Pending.{Pending}
@@ -80,39 +80,66 @@ erase-quiet h budget = go (eraseVerdict n (length flash)) refl
 
 -- a request that does not drop the group is refused, or has 0 words
 pub request-quiet : {link from set own at s : ℕ} {ss : List ℕ} {b : Built} {h : Host} → Going link from set own at s ss b h
-    → (clock l bc : ℕ) (errors : Bool) (packet : List ℕ) (m : Memories) → dropsGroup link (Event.Requested clock l bc errors packet m) ≡ false
-    → Quiet h (stepped logodwen (Event.Requested clock l bc errors packet m) h)
+    → (clock l bc : ℕ) (errors : Bool) (packet : List ℕ) (m : Memories) (x : Further) → dropsGroup link (Event.Requested clock l bc errors packet m x) ≡ false
+    → Quiet h (stepped logodwen (Event.Requested clock l bc errors packet m x) h)
 unfolding requestOf routeOf stateOk
-request-quiet {link} {from} {set} {own} {at} {s} {ss} {b} {h} k clock l bc errors packet m d = go verdict refl
+request-quiet {link} {from} {set} {own} {at} {s} {ss} {b} {h} k clock l bc errors packet m x d = go verdict refl
   where
     n : Node
     n = h .turn .node
 
     L : Lent
-    L = lent (h .flash) m (h .buffer)
+    L = lent (h .flash) m x (h .buffer)
 
     verdict : Verdict
-    verdict = requestVerdict n l (length packet) (length (h .flash)) (length (m .pm)) (length (m .dm)) (length (m .io)) (length (h .buffer))
+    verdict = requestVerdict n l (length packet) (length (h .flash)) (length (m .pm)) (length (m .dm)) (length (m .io)) (length (x .area)) (length (h .buffer))
 
     empty : verdict ≡ Verdict.Fine → eqb (length packet) 0 ≡ true
     empty e =
-        let busy = request-fine n l (length packet) (length (h .flash)) (length (m .pm)) (length (m .dm)) (length (m .io)) (length (h .buffer)) e .free in
+        let busy = request-fine n l (length packet) (length (h .flash)) (length (m .pm)) (length (m .dm)) (length (m .io)) (length (x .area)) (length (h .buffer)) e .free in
         let free : leb 1 (length packet) ≡ false = ap (λ (x : Pending). isPending x && leb 1 (length packet)) (sym (k .pending)) ∙ busy in
         eq-eqb (length packet) 0 (omega (arith, leb-false 1 (length packet) free))
 
     after : Verdict → Route → Host
     after v r = let o : Outcome = judged v n L (routed r n clock l packet L) in host (h .asked) (o .turn) (o .after .flash) (o .after .reply)
 
-    by : (t : Bool) → t ≡ false → Quiet h (after Verdict.Fine (pick t Route.Dropped Route.Unserved))
-    by true e = absurd (false≢true (sym e))
-    by false e = record { pending = refl; ok = λ v. v; buffer = refl; status = refl; asked = append-nil (h .asked) }
+    -- another link's write is dropped, and the group stays
+    dropped : asks (n .pending) l ≡ false → Quiet h (after Verdict.Fine Route.Dropped)
+    dropped e =
+        let same : n .pending ≡ pendingWithout (n .pending) l = no _ e refl in
+        record {
+          pending = sym same;
+          ok = λ v.
+              let r = ranges-tell n v in
+              ranges-told (after Verdict.Fine Route.Dropped .turn .node)
+              (record {
+                given = r .given;
+                mode = r .mode;
+                masks = r .masks;
+                erasing = r .erasing;
+                pending = subst (λ (p : Pending). pendingOk (n .given .ports) p ≡ true) same (r .pending);
+                writing = pick-case (λ (j : Join). writingOk (n .given .ports) (writingAfter j (n .writing)) ≡ true) (writes (n .writing) l) (λ _. refl) (λ _. r .writing);
+              });
+          buffer = refl;
+          status = refl;
+          asked = append-nil (h .asked);
+        }
+
+    and-one : (t : Bool) → (t && true) ≡ false → t ≡ false
+    and-one true e = e
+    and-one false e = refl
+
+    by : (t : Bool) → drops n l bc ≡ t → eqb (length packet) 0 ≡ true → (eqb (length packet) 0 && (eqb link l && eqb (bcOf bc) 2)) ≡ false
+        → Quiet h (after Verdict.Fine (pick t Route.Dropped Route.Unserved))
+    by true e z f =
+        let two = and-right (asks (n .pending) l || writes (n .writing) l) (eqb (bcOf bc) 2) e in
+        dropped (ap (λ (p : Pending). asks p l) (k .pending) ∙ and-one (eqb link l) ((λ i. sym z i && (eqb link l && sym two i)) ∙ f))
+    by false e z f = record { pending = refl; ok = λ v. v; buffer = refl; status = refl; asked = append-nil (h .asked) }
 
     at-errors : (x : Bool) (rest : Route) → eqb (length packet) 0 ≡ true → (not x && (eqb (length packet) 0 && (eqb link l && eqb (bcOf bc) 2))) ≡ false
-        → Quiet h (after Verdict.Fine (pick x Route.Wrong (pick (eqb (length packet) 0) (pick (drops (n .pending) l bc) Route.Dropped Route.Unserved) rest)))
+        → Quiet h (after Verdict.Fine (pick x Route.Wrong (pick (eqb (length packet) 0) (pick (drops n l bc) Route.Dropped Route.Unserved) rest)))
     at-errors true rest z f = record { pending = refl; ok = λ v. v; buffer = refl; status = refl; asked = append-nil (h .asked) }
-    at-errors false rest z f =
-        let g : drops (n .pending) l bc ≡ false = ap (λ (x : Pending). drops x l bc) (k .pending) ∙ ap (λ (x : Bool). x && (eqb link l && eqb (bcOf bc) 2)) (sym z) ∙ f in
-        rw z (by (drops (n .pending) l bc) g)
+    at-errors false rest z f = rw z (by (drops n l bc) refl z f)
 
     go : (v : Verdict) → verdict ≡ v → Quiet h (after v (routeOf n l bc errors packet))
     go Verdict.Fine e = at-errors errors _ (empty e) d

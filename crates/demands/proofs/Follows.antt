@@ -60,7 +60,7 @@ module _ (n : Node) (clock link bc : ℕ) (errors : Bool) (packet : List ℕ) (l
   abbrev asked : Outcome
   asked = requestOf n clock link bc errors packet l
 
-  began-begins : (c : isCommand 0x47 packet ≡ true) → Own n clock link bc errors packet l 0x47 c → Began n packet (ownOf 0x47 n clock link packet l) → Begins n (l .flash) packet asked
+  began-begins : (c : isCommand 0x47 bc packet ≡ true) → Own n clock link bc errors packet l 0x47 c → Began n packet (ownOf 0x47 n clock link packet l) → Begins n (l .flash) bc packet asked
   began-begins c own b =
       let o = own .is ∙ ap (ownOutcome n l) (b .is) in
       record {
@@ -68,48 +68,48 @@ module _ (n : Node) (clock link bc : ℕ) (errors : Bool) (packet : List ℕ) (l
         answer = ap (λ (x : Outcome). x .turn .answer) o;
         idle = b .idle;
         sector = b .sector;
-        is = erase-sector n l packet (getD packet 1 0) (b .sector) (b .named);
+        is = erase-sector n (getD packet 1 0) (b .sector) (b .named);
         named = b .named;
         begun = ap (λ (x : Outcome). x .turn .node .erasing) o;
         kept = ap (λ (x : Outcome). x .after .flash) o;
       }
 
   -- one that is answered END has begun it
-  pub erase-begins : isCommand 0x47 packet ≡ true → asked .turn .answer ≡ end → Begins n (l .flash) packet asked
+  pub erase-begins : isCommand 0x47 bc packet ≡ true → asked .turn .answer ≡ end → Begins n (l .flash) bc packet asked
   erase-begins c h =
       let own = ended-own n clock link bc errors packet l 0x47 c h in
       began-begins c (own .0) (began n clock link packet l (own .1))
 
   -- a request leaves it, or is such an Erase
   abbrev Follows : Type 0
-  Follows = (asked .turn .node .erasing ≡ n .erasing) ⊎ Begins n (l .flash) packet asked
+  Follows = (asked .turn .node .erasing ≡ n .erasing) ⊎ Begins n (l .flash) bc packet asked
 
-  command-follows : isCommand 0x47 packet ≡ true → Follows
+  command-follows : isCommand 0x47 bc packet ≡ true → Follows
   command-follows c =
       ⊎-elim
       (λ own. ⊎-elim (λ e. inl (ap (λ (x : Outcome). x .turn .node .erasing) (own .is ∙ ap (ownOutcome n l) e))) (λ b. inr (began-begins c own b)) (erase-did n clock link packet l))
       (λ u. inl (u .erasing))
       (own-or-not n clock link bc errors packet l 0x47 c)
 
-  other-follows : isCommand 0x47 packet ≡ false → Follows
+  other-follows : isCommand 0x47 bc packet ≡ false → Follows
   unfolding requestOf
   other-follows c = inl (by (verdictOn n link packet l))
     where
-      why : (x : Change) → Why x n (l .flash) packet → erasingNext x (n .erasing) (unitOf (l .flash)) ≡ n .erasing
+      why : (x : Change) → Why x n link bc packet l → erasingNext x (n .erasing) (unitOf (l .flash)) ≡ n .erasing
       why Change.Kept w = refl
       why (Change.Wrote s file) w = refl
       why (Change.Headed s file header) w = refl
-      why (Change.Begun s) w = absurd (false≢true (sym c ∙ command-is 0x47 (w .command)))
+      why (Change.Begun s) w = absurd (false≢true (sym c ∙ command-is 0x47 (w .whole .one) (w .command)))
       why (Change.Blanked budget) w = absurd w
 
       by : (v : Verdict) → judged v n l (requestEffect n clock link bc errors packet l) .turn .node .erasing ≡ n .erasing
-      by Verdict.Fine = why (requestEffect n clock link bc errors packet l .change) (request-why n l packet clock link bc errors .0)
+      by Verdict.Fine = why (requestEffect n clock link bc errors packet l .change) (request-why n link bc packet l clock errors .0)
       by (Verdict.No r) = refl
 
   follows-request : Follows
-  follows-request = by (isCommand 0x47 packet) refl
+  follows-request = by (isCommand 0x47 bc packet) refl
     where
-      by : (t : Bool) → isCommand 0x47 packet ≡ t → Follows
+      by : (t : Bool) → isCommand 0x47 bc packet ≡ t → Follows
       by true c = command-follows c
       by false c = other-follows c
 

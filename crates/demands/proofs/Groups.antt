@@ -31,7 +31,7 @@ use Rattle.group.proofs.Groups.{assembled-room, taken-all, group-sent}
 use Rattle.group.proofs.Tallies.{Keeps, zero-keeps, whole-keeps, common-tells, common-told}
 use Rattle.node.specs.Valid.{stateOk, pendingOk}
 use Rattle.node.specs.Refusals.{isPending, isAsked}
-use Rattle.node.specs.Route.{asking, firstByte, secondByte, bcOf, drops, groupFrom, grouped, maskIn, addressed, routeOf}
+use Rattle.node.specs.Route.{asking, firstByte, secondByte, bcOf, writes, drops, groupFrom, grouped, maskIn, addressed, firstPacket, laterPacket, routeOf}
 use Rattle.node.specs.Settings.{statusIn}
 use Rattle.node.specs.Effect.{Effect, Lent, Outcome}
 use Rattle.node.specs.Slaves.{heard, silent, errorIn}
@@ -40,6 +40,7 @@ use Rattle.node.specs.declared.Answer.{Answer}
 use Rattle.node.specs.declared.Node.{Node}
 use Rattle.node.specs.declared.Pending.{Pending}
 use Rattle.node.specs.declared.Route.{Route}
+use Rattle.node.specs.declared.Writing.{Writing}
 use Rattle.node.specs.declared.Verdict.{Verdict}
 use Rattle.node.proofs.Ranges.{ranges-tell, ranges-told, request-pending}
 use Rattle.node.proofs.Verdicts.{RequestFine, request-fine}
@@ -113,9 +114,9 @@ ran [] {s = s} {h = h} k u =
       ended = λ l. absurd (omega arith);
       asked = sym (append-nil (h .asked));
     }
-ran (Event.Requested clock l bc errors packet m ∷ es) k u =
-    let q = request-quiet k clock l bc errors packet m (u .0) in
-    rw (hosted-goes k (Event.Requested clock l bc errors packet m) es) (ran-quiet q (ran es (quiet-goes k q) (u .1)))
+ran (Event.Requested clock l bc errors packet m x ∷ es) k u =
+    let q = request-quiet k clock l bc errors packet m x (u .0) in
+    rw (hosted-goes k (Event.Requested clock l bc errors packet m x) es) (ran-quiet q (ran es (quiet-goes k q) (u .1)))
 ran (Event.Erased budget ∷ es) {h = h} k u =
     let q = erase-quiet h budget in
     rw (hosted-goes k (Event.Erased budget) es) (ran-quiet q (ran es (quiet-goes k q) (u .1)))
@@ -180,27 +181,47 @@ module _ (r : GroupRun logodwen) where
       go false false true p q s e = eqb-true byte 0x2A s
       go false false false p q s e = absurd (false≢true e)
 
-  route-found : Finds (routeOf (r .node) (r .link) (r .bc) (r .errors) (r .packet))
-  unfolding routeOf addressed
-  route-found =
-      pick-case Finds (r .errors) (λ _ a. absurd (reply-asks _ a))
-      (λ _. pick-case Finds (eqb (length (r .packet)) 0)
-      (λ _. pick-case Finds (drops (r .node .pending) (r .link) (r .bc)) (λ _ a. absurd (reply-asks _ a)) (λ _ a. absurd (reply-asks _ a)))
-      (λ _. pick-case Finds (ltb 8192 (length (r .packet)) || not (eqb (bcOf (r .bc)) 3)) (λ _ a. absurd (reply-asks _ a))
-      (λ _. pick-case Finds (eqb byte 0x2E) (λ e. absurd (other (eqb-true byte 0x2E e)))
+  whole-found : Finds (addressed (r .node .given .kind) (r .node .masks) (length (r .packet)) (getD (r .packet) 0 0) (getD (r .packet) 1 0))
+  unfolding addressed
+  whole-found =
+      pick-case Finds (eqb byte 0x2E) (λ e. absurd (other (eqb-true byte 0x2E e)))
       (λ _. pick-case Finds (leb byte 0x17) (λ e. absurd (low (leb-true byte 0x17 e)))
       (λ _. pick-case Finds (eqb byte 0x40)
       (λ e. pick-case Finds (leb (secondByte (getD (r .packet) 0 0)) 15)
       (λ _. group-found 1 (getD (r .node .masks) (secondByte (getD (r .packet) 0 0)) 0) (yes _ e refl)) (λ _ a. absurd (reply-asks _ a)))
       (λ e. pick-case Finds (eqb byte 0x23)
       (λ f. group-found 2 (maskIn (getD (r .packet) 0 0) (getD (r .packet) 1 0)) (no _ e (yes _ f refl)))
-      (λ f. pick-case Finds (eqb byte 0x2A) (λ _. group-found 1 0xFFFFFF (no _ e (no _ f refl))) (λ _ a. absurd (reply-asks _ a)))))))))
+      (λ f. pick-case Finds (eqb byte 0x2A) (λ _. group-found 1 0xFFFFFF (no _ e (no _ f refl))) (λ _ a. absurd (reply-asks _ a))))))
     where
       low : byte ≤ 0x17 → ⊥
       low h = let e = group-byte (λ a. omega arith) (λ a. omega arith) in omega arith
 
       other : byte ≡ 0x2E → ⊥
       other h = let e = group-byte (λ a. omega arith) (λ a. omega arith) in omega arith
+
+  -- a packet of a write asks nobody
+  first-found : (w : Writing) → Finds (firstPacket w (r .link) (getD (r .packet) 0 0))
+  first-found Writing.Nothing = pick-case Finds (eqb (getD (r .packet) 0 0) 0x452E) (λ _ a. absurd (reply-asks _ a)) (λ _ a. absurd (reply-asks _ a))
+  first-found (Writing.File j) =
+      pick-case Finds (eqb (j .link) (r .link)) (λ _ a. absurd (reply-asks _ a))
+      (λ _. pick-case Finds (eqb (getD (r .packet) 0 0) 0x452E) (λ _ a. absurd (reply-asks _ a)) (λ _ a. absurd (reply-asks _ a)))
+
+  later-found : (w : Writing) (t : Bool) → Finds (laterPacket w (r .link) t (length (r .packet)))
+  later-found Writing.Nothing t a = absurd (reply-asks _ a)
+  later-found (Writing.File j) t =
+      pick-case Finds (eqb (j .link) (r .link))
+      (λ _. pick-case Finds (ltb 32768 (j .words + length (r .packet))) (λ _ a. absurd (reply-asks _ a)) (λ _. pick-case Finds t (λ _ a. absurd (reply-asks _ a)) (λ _ a. absurd (reply-asks _ a))))
+      (λ _ a. absurd (reply-asks _ a))
+
+  route-found : Finds (routeOf (r .node) (r .link) (r .bc) (r .errors) (r .packet))
+  unfolding routeOf
+  route-found =
+      pick-case Finds (r .errors) (λ _ a. absurd (reply-asks _ a))
+      (λ _. pick-case Finds (eqb (length (r .packet)) 0)
+      (λ _. pick-case Finds (drops (r .node) (r .link) (r .bc)) (λ _ a. absurd (reply-asks _ a)) (λ _ a. absurd (reply-asks _ a)))
+      (λ _. pick-case Finds (ltb 8192 (length (r .packet))) (λ _ a. absurd (reply-asks _ a))
+      (λ _. pick-case Finds (eqb (bcOf (r .bc)) 3) (λ _. pick-case Finds (writes (r .node .writing) (r .link)) (λ _ a. absurd (reply-asks _ a)) (λ _. whole-found))
+      (λ _. pick-case Finds (eqb (bcOf (r .bc)) 2) (λ _. first-found (r .node .writing)) (λ _. later-found (r .node .writing) (eqb (bcOf (r .bc)) 1))))))
 
   record Begins (h : Host) : Type 0 where
     from : ℕ
@@ -227,7 +248,7 @@ module _ (r : GroupRun logodwen) where
       after : Verdict → Route → Host
       after v x = let o : Outcome = judged v n l (does x) in host [] (o .turn) (o .after .flash) (o .after .reply)
 
-      taken′ : RequestFine n (r .link) (length (r .packet)) (length (l .flash)) (length (l .reply)) → (x : Route) → Found x → pendingOk (n .given .ports) (does x .pending) ≡ true
+      taken′ : RequestFine n (r .link) (length (r .packet)) (length (l .flash)) (length (l .further .area)) (length (l .reply)) → (x : Route) → Found x → pendingOk (n .given .ports) (does x .pending) ≡ true
           → Begins (after Verdict.Fine x)
       taken′ fine x f p =
           let v = ranges-tell n (fine .fits .state) in
@@ -250,6 +271,7 @@ module _ (r : GroupRun logodwen) where
                     masks = v .masks;
                     erasing = v .erasing;
                     pending = q;
+                    writing = v .writing;
                   });
               space = fine .buffer;
               status = refl;

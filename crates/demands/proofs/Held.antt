@@ -29,7 +29,8 @@ use Rattle.flash.proofs.Kept.{target-tells, missing-tells}
 use Rattle.flash.proofs.Storing.{stored-only, stored-reads-back, stored-first, sector-word}
 use Rattle.flash.proofs.Attribute.{setting-tells, cleared-name, headed-first}
 use Rattle.flash.proofs.Erasure.{erased-only, erased-or-blank}
-use Rattle.node.specs.Effect.{Change, flashAfter}
+use Rattle.memory.specs.Segment.{Memories}
+use Rattle.node.specs.Effect.{Change, flashAfter, Further, Lent, lent}
 use Rattle.node.specs.declared.Node.{Node}
 use Rattle.node.proofs.Why.{Why, Written}
 use Rattle.node.proofs.Directories.{Erases}
@@ -107,10 +108,10 @@ module _ (s : ℕ) (file flash : List ℕ) (held : Held s file flash) where
       by j p n (Dec.no e) = ap (λ (x : List ℕ). isNamed (fileName file) (firstOf x)) (other-kept only sector j p e) ∙ held .alone j p n
 
   -- the change of a request
-  pub why-held : (c : Change) (n : Node) (packet : List ℕ) → n .directory ≡ directoryOf flash (n .erasing) → Why c n flash packet → (isCommand 0x48 packet && eqb (nameOf (getD packet 1 0)) (fileName file)) ≡ false
+  pub why-held : (c : Change) (n : Node) (link bc : ℕ) (packet : List ℕ) (m : Memories) (x : Further) (reply : List ℕ) → n .directory ≡ directoryOf flash (n .erasing) → Why c n link bc packet (lent flash m x reply) → (isCommand 0x48 bc packet && eqb (nameOf (getD packet 1 0)) (fileName file)) ≡ false
       → Held s file (flashAfter c (n .erasing) flash)
-  why-held Change.Kept n packet fresh w a = held
-  why-held (Change.Wrote t g) n packet fresh w a = other-held t (flashAfter (Change.Wrote t g) (n .erasing) flash) (w .place .sector) (stored-only flash t g) apart free
+  why-held Change.Kept n link bc packet m x reply fresh w a = held
+  why-held (Change.Wrote t g) n link bc packet m x reply fresh w a = other-held t (flashAfter (Change.Wrote t g) (n .erasing) flash) (w .place .sector) (stored-only flash t g) apart free
     where
       apart : t ≡ s → ⊥
       apart e = false≢true (sym (file-not-empty (sectorOf flash s) (length file) held-file) ∙ ap (λ (x : ℕ). isEmpty (sectorOf flash x)) (sym e) ∙ w .place .empty)
@@ -125,14 +126,14 @@ module _ (s : ℕ) (file flash : List ℕ) (held : Held s file flash) where
           let least = file-tells g (length g) (w .valid) .least in
           ap (isNamed (fileName file)) (stored-first flash t g (w .place .sector) (w .place .room) (w .place .empty) (w .valid) ∙ first-word g (omega arith))
           ∙ named-other (fileName file) (getD g 0 0) (λ e. not-named (nameOf (getD g 0 0)) (getD file 0 0) held-header name (sym e))
-  why-held (Change.Headed t end header) n packet fresh w a = other-held t (flashAfter (Change.Headed t end header) (n .erasing) flash) (w .sector) (stored-only flash t (header ∷ [])) apart free
+  why-held (Change.Headed t end header) n link bc packet m x reply fresh w a = other-held t (flashAfter (Change.Headed t end header) (n .erasing) flash) (w .sector) (stored-only flash t (header ∷ [])) apart free
     where
       apart : t ≡ s → ⊥
       apart e =
           let passes = target-tells (n .directory) (nameOf (getD packet 1 0)) t (w .found) .passes in
           let word = ap (λ (x : ℕ). getD (n .directory) (entryPlace x) 0) e ∙ entry-first n flash fresh s (held .sector) ∙ held-first in
           let name = named-tells (nameOf (getD packet 1 0)) (getD file 0 0) (ap (isNamed (nameOf (getD packet 1 0))) (sym word) ∙ passes) in
-          false≢true (sym a ∙ and-both (command-is 0x48 (w .command)) (eq-eqb (nameOf (getD packet 1 0)) (fileName file) (sym name)))
+          false≢true (sym a ∙ and-both (command-is 0x48 (w .whole .one) (w .command)) (eq-eqb (nameOf (getD packet 1 0)) (fileName file) (sym name)))
 
       ok : headerOk (firstOf (sectorOf flash t)) ≡ true
       ok =
@@ -146,8 +147,8 @@ module _ (s : ℕ) (file flash : List ℕ) (held : Held s file flash) where
           let same = cleared-name (setting-tells (firstOf (sectorOf flash t)) (getD packet 2 0) header (w .set)) in
           ap (isNamed (fileName file)) (headed-first flash t end (getD packet 2 0) header (w .sector) (w .good) (w .set))
           ∙ named-other (fileName file) header (λ e. not-named (fileName file) (firstOf (sectorOf flash t)) ok (held .alone t (w .sector) apart) (sym same ∙ e))
-  why-held (Change.Begun t) n packet fresh w a = held
-  why-held (Change.Blanked budget) n packet fresh w a = absurd w
+  why-held (Change.Begun t) n link bc packet m x reply fresh w a = held
+  why-held (Change.Blanked budget) n link bc packet m x reply fresh w a = absurd w
 
   -- a step of the erasure of another sector
   pub step-held : (e : Erasing) (budget : ℕ) → Erases e flash → (erasingSite e ≡ Found.At s → ⊥) → Held s file (erased flash e budget)
@@ -174,8 +175,9 @@ module _ (s : ℕ) (file flash : List ℕ) (held : Held s file flash) where
           by (inr e) = ap (isNamed (fileName file)) e ∙ named-blank (fileName file)
 
 -- a file just stored
-pub stored-held : (s : ℕ) (file : List ℕ) (n : Node) (flash packet : List ℕ) → n .directory ≡ directoryOf flash (n .erasing) → Written n flash packet s file → Held s file (flashAfter (Change.Wrote s file) (n .erasing) flash)
-stored-held s file n flash packet fresh w =
+pub stored-held : (s : ℕ) (file : List ℕ) (n : Node) (link bc : ℕ) (packet : List ℕ) (l : Lent) → n .directory ≡ directoryOf (l .flash) (n .erasing) → Written n link bc packet l s file → Held s file (flashAfter (Change.Wrote s file) (n .erasing) (l .flash))
+stored-held s file n link bc packet l fresh w =
+    let flash = l .flash in
     record {
       sector = w .place .sector;
       valid = w .valid;

@@ -5,7 +5,7 @@ use mathlib.Core.Logic.{_⊎_, inl, inr, ⊎-elim}
 use mathlib.Core.Bool.{Bool, true, false}
 use mathlib.Core.List.{List, [], _∷_}
 use native.Mathlib.Omega.{arith}
-use lib.ListN.{length, getD, take, drop, length-take}
+use lib.ListN.{length, getD, take, length-take}
 use lib.Seq.{getD-take}
 use lib.Dec.{eqb}
 use borrow.Author.Tests.{le-leb}
@@ -22,16 +22,18 @@ use Rattle.flash.specs.declared.Target.{Target}
 use Rattle.flash.proofs.Geometry.{length-sector}
 use Rattle.group.specs.declared.ZeroLength.{ZeroLength}
 use Rattle.node.specs.Effect.{Did, says, changes, Change, flashAfter, Lent, Outcome, ownOutcome}
-use Rattle.node.specs.Files.{isErasing, namedBy, seen, placedFor, writeAt, writeOf, setTo, attributeBy, attributeAt, attributeSetOf}
+use Rattle.node.specs.Files.{isErasing, namedBy, seen, placedFor, writeAt, fileWriteOf, setTo, attributeBy, attributeAt, attributeSetOf}
 use Rattle.node.specs.Own.{filesOf, ownOf}
 use Rattle.node.specs.Calls.{requestOf}
+use Rattle.node.specs.declared.Answer.{Answer}
 use Rattle.node.specs.declared.Node.{Node}
 use Rattle.node.proofs.Why.{placed-tells}
 use Rattle.demands.specs.Machine.{Call, logodwen}
-use Rattle.demands.specs.Requests.{isCommand}
+use Rattle.demands.specs.Requests.{isCommand, isWrite, brought}
 use Rattle.demands.specs.Flash.{requestSite, Within}
 use Rattle.demands.specs.Files.{Names, LaysFile, LaysHeader, FlashFollows}
-use Rattle.demands.proofs.Commands.{command-told, own-or-not, Own}
+use Rattle.demands.proofs.Commands.{own-or-not, Own}
+use Rattle.demands.proofs.Brings.{Serves, brings}
 use Rattle.demands.proofs.Flash.{one-sector}
 use Rattle.demands.proofs.Follows.{idle-tells}
 use Rattle.demands.proofs.Good.{good-tells}
@@ -41,25 +43,26 @@ pub stored-laid : (flash : List ℕ) (s : ℕ) (words : List ℕ) → length wor
 unfolding stored
 stored-laid flash s words room = sym (yes _ (le-leb (length words) (sizeOf (unitOf flash) s) room) refl)
 
+-- File Write stores a file where it is placed, or says ABORT
+pub record Placed (n : Node) (flash file : List ℕ) : Type 0 where
+  pub idle : n .erasing ≡ Erasing.Nothing
+  pub sector : ℕ
+  pub placed : placedFor n flash file ≡ Found.At sector
+  pub is : fileWriteOf n flash file ≡ changes (Change.Wrote sector file)
+
+pub write-did : (n : Node) (flash file : List ℕ) → (fileWriteOf n flash file ≡ says ZeroLength.Abort) ⊎ Placed n flash file
+unfolding fileWriteOf
+write-did n flash file = by (n .erasing) refl
+  where
+    at : n .erasing ≡ Erasing.Nothing → (f : Found) → placedFor n flash file ≡ f → (fileWriteOf n flash file ≡ says ZeroLength.Abort) ⊎ Placed n flash file
+    at idle Found.Nothing e = inl (sym (no _ (ap isErasing idle) (ap (writeAt file) (sym e))))
+    at idle (Found.At s) e = inr (record { idle = idle; sector = s; placed = e; is = sym (no _ (ap isErasing idle) (ap (writeAt file) (sym e))) })
+
+    by : (x : Erasing) → n .erasing ≡ x → (fileWriteOf n flash file ≡ says ZeroLength.Abort) ⊎ Placed n flash file
+    by Erasing.Nothing e = at e (placedFor n flash file) refl
+    by (Erasing.Sector p) e = inl (sym (yes _ (ap isErasing e) refl))
+
 module _ (n : Node) (clock link : ℕ) (packet : List ℕ) (l : Lent) where
-  -- a File Write stores its file where it is placed, or says ABORT
-  pub record Placed (d : Did) : Type 0 where
-    pub idle : n .erasing ≡ Erasing.Nothing
-    pub sector : ℕ
-    pub placed : placedFor n (l .flash) (drop 1 packet) ≡ Found.At sector
-    pub is : d ≡ changes (Change.Wrote sector (drop 1 packet))
-
-  abbrev pub PlacedOr : Did → Type 0
-  PlacedOr d = (d ≡ says ZeroLength.Abort) ⊎ Placed d
-
-  pub write-did : PlacedOr (ownOf 0x45 n clock link packet l)
-  unfolding ownOf filesOf writeOf
-  write-did = pick-case PlacedOr (isErasing (n .erasing)) (λ _. inl refl) (λ e. at (idle-tells (n .erasing) e) (placedFor n (l .flash) (drop 1 packet)) refl)
-    where
-      at : n .erasing ≡ Erasing.Nothing → (f : Found) → placedFor n (l .flash) (drop 1 packet) ≡ f → PlacedOr (writeAt (drop 1 packet) f)
-      at idle Found.Nothing e = inl refl
-      at idle (Found.At s) e = inr (record { idle = idle; sector = s; placed = e; is = refl })
-
   -- an Attribute Set changes the header of a good file, or nothing
   record Headed (d : Did) : Type 0 where
     sector : ℕ
@@ -104,28 +107,28 @@ module _ (n : Node) (clock link bc : ℕ) (errors : Bool) (packet : List ℕ) (l
   asked = requestOf n clock link bc errors packet l
 
   abbrev Follows : Type 0
-  Follows = (asked .after .flash ≡ l .flash) ⊎ (LaysFile n packet l asked ⊎ LaysHeader n packet l asked)
+  Follows = (asked .after .flash ≡ l .flash) ⊎ (LaysFile n link bc packet l asked ⊎ LaysHeader n bc packet l asked)
 
   -- a change of nothing leaves the flash
   same : (d : Did) → asked ≡ ownOutcome n l d → d .change ≡ Change.Kept → asked .after .flash ≡ l .flash
   same d o e = ap (λ (x : Outcome). x .after .flash) o ∙ ap (λ (c : Change). flashAfter c (n .erasing) (l .flash)) e
 
-  pub lays-file : (c : isCommand 0x45 packet ≡ true) → Own n clock link bc errors packet l 0x45 c → Placed n clock link packet l (ownOf 0x45 n clock link packet l) → LaysFile n packet l asked
-  lays-file c own p =
-      let o = own .is ∙ ap (ownOutcome n l) (p .is) in
-      let w = placed-tells n l packet (drop 1 packet) (p .sector) (command-told 0x45 packet c) (p .idle) refl (p .placed) in
+  lays-file : isWrite n link bc packet ≡ true → Serves n clock link bc errors packet l (brought n bc packet (l .further)) → Placed n (l .flash) (brought n bc packet (l .further)) → LaysFile n link bc packet l asked
+  lays-file c v p =
+      let file : List ℕ = brought n bc packet (l .further) in
+      let w = placed-tells n link bc packet l file (p .sector) (v .source) (p .idle) (p .placed) in
       record {
         command = c;
         sector = p .sector;
         placed = p .placed;
         lays = record {
-          answer = ap (λ (x : Outcome). x .turn .answer) o;
+          answer = v .answer ∙ ap (λ (d : Did). Answer.Reply (d .reply)) (p .is);
           room = w .place .room;
-          flash = ap (λ (x : Outcome). x .after .flash) o ∙ stored-laid (l .flash) (p .sector) (drop 1 packet) (w .place .room);
+          flash = v .flash ∙ ap (λ (d : Did). flashAfter (d .change) (n .erasing) (l .flash)) (p .is) ∙ stored-laid (l .flash) (p .sector) file (w .place .room);
         };
       }
 
-  lays-header : (c : isCommand 0x48 packet ≡ true) → Own n clock link bc errors packet l 0x48 c → Headed n clock link packet l (ownOf 0x48 n clock link packet l) → LaysHeader n packet l asked
+  lays-header : (c : isCommand 0x48 bc packet ≡ true) → Own n clock link bc errors packet l 0x48 c → Headed n clock link packet l (ownOf 0x48 n clock link packet l) → LaysHeader n bc packet l asked
   lays-header c own h =
       let o = own .is ∙ ap (ownOutcome n l) (h .is) in
       let words : List ℕ = sectorOf (l .flash) (h .sector) in
@@ -148,29 +151,29 @@ module _ (n : Node) (clock link bc : ℕ) (errors : Bool) (packet : List ℕ) (l
         };
       }
 
-  by-write : isCommand 0x45 packet ≡ true → Follows
+  by-write : isWrite n link bc packet ≡ true → Follows
   by-write c =
       ⊎-elim
-      (λ own. ⊎-elim (λ e. inl (same (ownOf 0x45 n clock link packet l) (own .is) (ap (λ (d : Did). d .change) e))) (λ p. inr (inl (lays-file c own p))) (write-did n clock link packet l))
+      (λ v. ⊎-elim (λ e. inl (v .flash ∙ ap (λ (d : Did). flashAfter (d .change) (n .erasing) (l .flash)) e)) (λ p. inr (inl (lays-file c v p))) (write-did n (l .flash) (brought n bc packet (l .further))))
       (λ u. inl (u .flash))
-      (own-or-not n clock link bc errors packet l 0x45 c)
+      (brings n clock link bc errors packet l c)
 
-  by-attribute : isCommand 0x48 packet ≡ true → Follows
+  by-attribute : isCommand 0x48 bc packet ≡ true → Follows
   by-attribute c =
       ⊎-elim
       (λ own. ⊎-elim (λ e. inl (same (ownOf 0x48 n clock link packet l) (own .is) e)) (λ h. inr (inr (lays-header c own h))) (attribute-did n clock link packet l))
       (λ u. inl (u .flash))
       (own-or-not n clock link bc errors packet l 0x48 c)
 
-  by-other : isCommand 0x45 packet ≡ false → isCommand 0x48 packet ≡ false → Follows
+  by-other : isWrite n link bc packet ≡ false → isCommand 0x48 bc packet ≡ false → Follows
   by-other c d =
-      let site : Found.Nothing ≡ requestSite n (l .flash) packet = no _ c (no _ d refl) in
-      inl (subst (λ (f : Found). Within f (l .flash) (asked .after .flash)) (sym site) (one-sector (Call.Request clock link bc errors packet (l .memories) (l .reply)) n (l .flash)))
+      let site : Found.Nothing ≡ requestSite n (l .flash) link bc packet (l .further) = no _ c (no _ d refl) in
+      inl (subst (λ (f : Found). Within f (l .flash) (asked .after .flash)) (sym site) (one-sector (Call.Request clock link bc errors packet (l .memories) (l .further) (l .reply)) n (l .flash)))
 
 pub flash-follows : FlashFollows logodwen
-flash-follows n clock link bc errors packet l = by (isCommand 0x45 packet) (isCommand 0x48 packet) refl refl
+flash-follows n clock link bc errors packet l = by (isWrite n link bc packet) (isCommand 0x48 bc packet) refl refl
   where
-    by : (t u : Bool) → isCommand 0x45 packet ≡ t → isCommand 0x48 packet ≡ u → Follows n clock link bc errors packet l
+    by : (t u : Bool) → isWrite n link bc packet ≡ t → isCommand 0x48 bc packet ≡ u → Follows n clock link bc errors packet l
     by true u c d = by-write n clock link bc errors packet l c
     by false true c d = by-attribute n clock link bc errors packet l d
     by false false c d = by-other n clock link bc errors packet l c d

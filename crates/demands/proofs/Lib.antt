@@ -10,10 +10,12 @@ pub mod Erases
 pub mod Good
 pub mod Memories
 pub mod NeverCorrupted
+pub mod Brings
 pub mod Lays
 pub mod Held
 pub mod Writes
 pub mod ReadsBack
+pub mod Packets
 pub mod Slaves
 pub mod Asks
 pub mod Events

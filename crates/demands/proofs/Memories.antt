@@ -16,13 +16,13 @@ use Rattle.flash.specs.declared.Target.{Target}
 use Rattle.memory.specs.Command.{readable}
 use Rattle.node.specs.Effect.{Did, Store, memoriesAfter, Lent}
 use Rattle.node.specs.Settings.{statusIn as ownStatus, statusOf, pingOf, modeReadOf, modeWriteOf, maskReadOf, maskWriteOf}
-use Rattle.node.specs.Files.{isErasing, namedBy, seen, readBy, readAt, readOf, placedFor, writeAt, writeOf, testAt, testOf, toErase, eraseAt, eraseStartOf, setTo, attributeBy, attributeAt, attributeSetOf, summaryOf}
+use Rattle.node.specs.Files.{isErasing, namedBy, seen, readBy, readAt, readOf, placedFor, writeAt, fileWriteOf, joined, testAt, testOf, toErase, eraseAt, eraseStartOf, setTo, attributeBy, attributeAt, attributeSetOf, summaryOf}
 use Rattle.node.specs.Memories.{dataRoom, memoryReadOf}
 use Rattle.node.specs.Own.{settingsOf, memoriesOf, filesOf, onFiles, onMemories, ownOf}
 use Rattle.node.specs.Calls.{judged, routed, requestOf}
 use Rattle.node.specs.declared.Node.{Node}
 use Rattle.node.specs.declared.Verdict.{Verdict}
-use Rattle.node.proofs.Routes.{Command, route-case}
+use Rattle.node.proofs.Routes.{Command, Whole, route-case}
 use Rattle.demands.specs.Requests.{isCommand}
 use Rattle.demands.proofs.Taken.{verdictOn, requestEffect}
 use Rattle.demands.proofs.Flash.{command-is}
@@ -46,11 +46,11 @@ module _ (n : Node) (clock link : ℕ) (packet : List ℕ) (l : Lent) where
       at Target.Missing = refl
       at (Target.At s) = by s (seen n (l .flash) s)
 
-  write-keeps : Keeps (writeOf n (l .flash) packet)
-  unfolding writeOf
-  write-keeps = pick-case Keeps (isErasing (n .erasing)) (λ _. refl) (λ _. at (placedFor n (l .flash) (drop 1 packet)))
+  write-keeps : (file : List ℕ) → Keeps (fileWriteOf n (l .flash) file)
+  unfolding fileWriteOf
+  write-keeps file = pick-case Keeps (isErasing (n .erasing)) (λ _. refl) (λ _. at (placedFor n (l .flash) file))
     where
-      at : (f : Found) → Keeps (writeAt (drop 1 packet) f)
+      at : (f : Found) → Keeps (writeAt file f)
       at Found.Nothing = refl
       at (Found.At s) = refl
 
@@ -114,7 +114,7 @@ module _ (n : Node) (clock link : ℕ) (packet : List ℕ) (l : Lent) where
   own-keeps id a b c d =
       pick-case Keeps (onFiles id)
       (λ _. pick-case Keeps (eqb id 0x05) (λ _. read-keeps)
-      (λ _. pick-case Keeps (eqb id 0x45) (λ _. write-keeps)
+      (λ _. pick-case Keeps (eqb id 0x45) (λ _. write-keeps (drop 1 packet))
       (λ _. pick-case Keeps (eqb id 0x06) (λ _. test-keeps)
       (λ _. pick-case Keeps (eqb id 0x46) (λ e. absurd (false≢true (sym a ∙ e)))
       (λ _. pick-case Keeps (eqb id 0x07) (λ _. summary-keeps)
@@ -132,7 +132,7 @@ module _ (n : Node) (clock link : ℕ) (packet : List ℕ) (l : Lent) where
 
 -- so no other request does
 pub memories-left : (n : Node) (clock link bc : ℕ) (errors : Bool) (packet : List ℕ) (l : Lent)
-    → (isCommand 0x46 packet || isCommand 0x0F packet || isCommand 0x50 packet || isCommand 0x51 packet) ≡ false
+    → (isCommand 0x46 bc packet || isCommand 0x0F bc packet || isCommand 0x50 bc packet || isCommand 0x51 bc packet) ≡ false
     → requestOf n clock link bc errors packet l .after .memories ≡ l .memories
 unfolding requestOf
 memories-left n clock link bc errors packet l h = by (verdictOn n link packet l)
@@ -144,13 +144,14 @@ memories-left n clock link bc errors packet l h = by (verdictOn n link packet l)
     none false false false true e = absurd (false≢true (sym e))
     none false false false false e = (refl, refl, refl, refl)
 
-    own : (id : ℕ) → Command packet id → ownOf id n clock link packet l .store ≡ Store.Kept
-    own id c =
-        let k = none (isCommand 0x46 packet) (isCommand 0x0F packet) (isCommand 0x50 packet) (isCommand 0x51 packet) h in
-        own-keeps n clock link packet l id (sym (command-is 0x46 c) ∙ k .0) (sym (command-is 0x0F c) ∙ k .1) (sym (command-is 0x50 c) ∙ k .2) (sym (command-is 0x51 c) ∙ k .3)
+    own : (id : ℕ) → Whole n link bc → Command packet id → ownOf id n clock link packet l .store ≡ Store.Kept
+    own id w c =
+        let k = none (isCommand 0x46 bc packet) (isCommand 0x0F bc packet) (isCommand 0x50 bc packet) (isCommand 0x51 bc packet) h in
+        own-keeps n clock link packet l id (sym (command-is 0x46 (w .one) c) ∙ k .0) (sym (command-is 0x0F (w .one) c) ∙ k .1) (sym (command-is 0x50 (w .one) c) ∙ k .2) (sym (command-is 0x51 (w .one) c) ∙ k .3)
 
     by : (v : Verdict) → judged v n l (requestEffect n clock link bc errors packet l) .after .memories ≡ l .memories
     by Verdict.Fine =
-        route-case (λ r. memoriesAfter (routed r n clock link packet l .store) (l .memories) ≡ l .memories) n link bc errors packet refl refl (λ _. refl)
-        (λ id c. ap (λ (x : Store). memoriesAfter x (l .memories)) (own id c)) (λ s e. refl) (λ set from s named e. refl)
+        route-case (λ r. memoriesAfter (routed r n clock link packet l .store) (l .memories) ≡ l .memories) n link bc errors packet refl refl (λ _ _. refl) (λ _ _. refl) (λ _ _. refl)
+        (λ from at j. refl) (λ at w. ap (λ (x : Store). memoriesAfter x (l .memories)) (write-keeps n clock link packet l (joined (l .further .area) at packet)))
+        (λ id w c. ap (λ (x : Store). memoriesAfter x (l .memories)) (own id w c)) (λ s e. refl) (λ set from s named e. refl)
     by (Verdict.No r) = refl

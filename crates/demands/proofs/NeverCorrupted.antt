@@ -69,13 +69,13 @@ module _ (n : Node) (clock link : ℕ) (packet : List ℕ) (l : Lent) (s : ℕ) 
       by Status.Bad e = refl
       by Status.Erasing e = refl
 
-aborts : (n : Node) (clock link bc : ℕ) (errors : Bool) (packet : List ℕ) (l : Lent) (s : ℕ) → (isCommand 0x05 packet || isCommand 0x46 packet) ≡ true
+aborts : (n : Node) (clock link bc : ℕ) (errors : Bool) (packet : List ℕ) (l : Lent) (s : ℕ) → (isCommand 0x05 bc packet || isCommand 0x46 bc packet) ≡ true
     → Delivered logodwen n clock link bc errors packet l → length packet ≡ 2 → n .erasing ≡ Erasing.Nothing
     → namedBy n (getD packet 1 0) ≡ Target.At s → ((file : List ℕ) → Names n (l .flash) packet s file → ⊥)
     → requestOf n clock link bc errors packet l ≡ outcome (turn (faulted true n) abort) l
-aborts n clock link bc errors packet l s c d two idle named bad = by (isCommand 0x05 packet) refl c
+aborts n clock link bc errors packet l s c d two idle named bad = by (isCommand 0x05 bc packet) refl c
   where
-    by : (t : Bool) → isCommand 0x05 packet ≡ t → (t || isCommand 0x46 packet) ≡ true → requestOf n clock link bc errors packet l ≡ outcome (turn (faulted true n) abort) l
+    by : (t : Bool) → isCommand 0x05 bc packet ≡ t → (t || isCommand 0x46 bc packet) ≡ true → requestOf n clock link bc errors packet l ≡ outcome (turn (faulted true n) abort) l
     by true e q =
         delivered-own n clock link bc errors packet l 0x05 e d .is ∙ ap (ownOutcome n l) (read-faulty n clock link packet l s two idle named bad) ∙ sym (zero-told n ZeroLength.Abort true l)
     by false e q =
@@ -108,7 +108,7 @@ module _ (n : Node) (packet : List ℕ) (l : Lent) (r : Reply) (some : 0 < r .wo
       at idle Target.Missing e = no-words ZeroLength.End
       at idle (Target.At s) e = by idle s e (seen n (l .flash) s) refl
 
-hands-out : (n : Node) (clock link bc : ℕ) (errors : Bool) (packet : List ℕ) (l : Lent) (r : Reply) → isCommand 0x05 packet ≡ true
+hands-out : (n : Node) (clock link bc : ℕ) (errors : Bool) (packet : List ℕ) (l : Lent) (r : Reply) → isCommand 0x05 bc packet ≡ true
     → requestOf n clock link bc errors packet l .turn .answer ≡ Answer.Reply r → 0 < r .words
     → Did handed n packet l (requestOf n clock link bc errors packet l)
 hands-out n clock link bc errors packet l r c h some =
@@ -161,7 +161,7 @@ module _ (n : Node) (packet : List ℕ) (l : Lent) where
       at idle Target.Missing e = withheld false
       at idle (Target.At s) e = by idle s e (seen n (l .flash) s) refl
 
-loads : (n : Node) (clock link bc : ℕ) (errors : Bool) (packet : List ℕ) (l : Lent) → isCommand 0x46 packet ≡ true
+loads : (n : Node) (clock link bc : ℕ) (errors : Bool) (packet : List ℕ) (l : Lent) → isCommand 0x46 bc packet ≡ true
     → (requestOf n clock link bc errors packet l .turn .answer ≡ end) ⊎ (requestOf n clock link bc errors packet l .after .memories ≡ l .memories → ⊥)
     → Did loaded n packet l (requestOf n clock link bc errors packet l)
 loads n clock link bc errors packet l c h =

@@ -24,8 +24,8 @@ unfolding ownOf filesOf summaryOf
 summary-did n clock link packet l h = sym (yes _ (eq-eqb (length packet) 1 h) refl)
 
 pub summary-is-true : SummaryIsTrue logodwen
-summary-is-true n flash r clock link bc errors packet m reply d c h =
-    let l : Lent = lent flash m reply in
+summary-is-true n flash r clock link bc errors packet m x reply d c h =
+    let l : Lent = lent flash m x reply in
     delivered-own n clock link bc errors packet l 0x07 c d .is
     ∙ ap (ownOutcome n l) (summary-did n clock link packet l h)
     ∙ ap (handed n l) (no-stale-record n flash r)

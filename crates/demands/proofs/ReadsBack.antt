@@ -3,11 +3,12 @@
 use Prim.Native.Nat.{ℕ, _+_}
 use mathlib.Core.Path.{_≡_, refl, sym, ap, _∙_, subst}
 use mathlib.Core.Logic.{_⊎_, ⊎-elim}
-use mathlib.Core.Bool.{Bool, true, false, _&&_}
+use mathlib.Core.Bool.{Bool, true, false, _&&_, false≢true}
 use mathlib.Core.List.{List}
 use native.Mathlib.Omega.{arith}
-use lib.ListN.{length, getD, drop}
+use lib.ListN.{length, getD}
 use lib.Dec.{eqb, leb}
+use borrow.Author.Tests.{eqb-true}
 use Rattle.base.specs.Pick.{pick}
 use Rattle.base.proofs.Pick.{pick-case, pick-first, and-left}
 use Rattle.image.specs.Header.{nameOf}
@@ -23,21 +24,23 @@ use Rattle.flash.specs.declared.Target.{Target}
 use Rattle.flash.proofs.Kept.{missing-tells}
 use Rattle.flash.proofs.Entries.{directory-word}
 use Rattle.flash.proofs.Searches.{found-told}
-use Rattle.node.specs.Effect.{Lent, lent, Did, Outcome, ownOutcome}
+use Rattle.node.specs.Effect.{Lent, lent, Did, flashAfter, erasingNext}
 use Rattle.node.specs.Files.{namedBy, isExact, isMissing, placedFor}
-use Rattle.node.specs.Own.{ownOf}
+use Rattle.node.specs.Route.{bcOf}
 use Rattle.node.specs.Refusals.{eraseVerdict}
 use Rattle.node.specs.Calls.{judged, lentFlash, startOf, requestOf, eraseEffect, eraseOf}
 use Rattle.node.specs.declared.Node.{Node}
 use Rattle.node.specs.declared.Verdict.{Verdict}
 use Rattle.node.proofs.Why.{request-why, placed-tells}
 use Rattle.demands.specs.Machine.{Call, logodwen, flashOf, isRefused}
-use Rattle.demands.specs.Requests.{isCommand}
+use Rattle.demands.specs.Requests.{isCommand, brought}
 use Rattle.demands.specs.Reached.{stateAfter, Step}
 use Rattle.demands.specs.Flash.{erasingSite}
 use Rattle.demands.specs.Files.{fileName, setsAttribute, Spares, SparesIn, Runs, Names, Written, ReadsBack}
 use Rattle.demands.proofs.Taken.{verdictOn, requestEffect}
-use Rattle.demands.proofs.Commands.{command-told, not-end, ended-own, Own}
+use Rattle.demands.proofs.Commands.{command-whole, command-told, bcIn, not-end}
+use Rattle.demands.proofs.Flash.{command-write}
+use Rattle.demands.proofs.Brings.{Serves, brings}
 use Rattle.demands.proofs.Sound.{Sound, call-keeps, refused-same, refused-flash, reached-sound}
 use Rattle.demands.proofs.Follows.{erasure-follows}
 use Rattle.demands.proofs.Lays.{stored-laid, Placed, write-did, flash-follows}
@@ -63,9 +66,9 @@ call-spared : (c : Call) (n : Node) (flash : List ℕ) (s name : ℕ) → Spares
 call-spared (Call.Start kind ports subdetector program version tests clock) n flash s name p o e =
     pick-case (λ (m : Node). erasingSite (m .erasing) ≡ Found.At s → ⊥) (isRefused (startOf kind ports subdetector program version tests clock flash .answer)) (λ _. o)
     (λ _ q. no-site s (sym (ap erasingSite (erasure-follows .start kind ports subdetector program version tests clock flash)) ∙ q)) e
-call-spared (Call.Request clock link bc errors packet m reply) n flash s name p o e =
+call-spared (Call.Request clock link bc errors packet m x reply) n flash s name p o e =
     ⊎-elim (λ q. o (ap erasingSite (sym q) ∙ e)) (λ b. p .erase (b .command, b .named ∙ sym (ap erasingSite (b .begun)) ∙ e) (b .answer))
-    (erasure-follows .request n clock link bc errors packet (lent flash m reply))
+    (erasure-follows .request n clock link bc errors packet (lent flash m x reply))
 call-spared (Call.Reply clock slave bc errors status address words reply) n flash s name p o e =
     o (ap erasingSite (sym (erasure-follows .reply n clock slave bc errors status address words reply)) ∙ e)
 call-spared (Call.Poll clock reply) n flash s name p o e = o (ap erasingSite (sym (erasure-follows .poll n clock reply)) ∙ e)
@@ -80,24 +83,24 @@ call-held : (c : Call) (n : Node) (flash : List ℕ) (s : ℕ) (file : List ℕ)
     → Held s file flash → Held s file (flashOf logodwen c n flash)
 unfolding requestOf eraseOf
 call-held (Call.Start kind ports subdetector program version tests clock) n flash s file sound o p h = h
-call-held (Call.Request clock link bc errors packet m reply) n flash s file sound o p h = attribute (isCommand 0x48 packet && eqb (nameOf (getD packet 1 0)) (fileName file)) refl
+call-held (Call.Request clock link bc errors packet m x reply) n flash s file sound o p h = attribute (isCommand 0x48 bc packet && eqb (nameOf (getD packet 1 0)) (fileName file)) refl
   where
-    by : (isCommand 0x48 packet && eqb (nameOf (getD packet 1 0)) (fileName file)) ≡ false
-        → (v : Verdict) → Held s file (judged v n (lent flash m reply) (requestEffect n clock link bc errors packet (lent flash m reply)) .after .flash)
+    by : (isCommand 0x48 bc packet && eqb (nameOf (getD packet 1 0)) (fileName file)) ≡ false
+        → (v : Verdict) → Held s file (judged v n (lent flash m x reply) (requestEffect n clock link bc errors packet (lent flash m x reply)) .after .flash)
     by a Verdict.Fine =
-        why-held s file flash h (requestEffect n clock link bc errors packet (lent flash m reply) .change) n packet (sound .fresh .summary)
-        (request-why n (lent flash m reply) packet clock link bc errors .0) a
+        why-held s file flash h (requestEffect n clock link bc errors packet (lent flash m x reply) .change) n link bc packet m x reply (sound .fresh .summary)
+        (request-why n link bc packet (lent flash m x reply) clock errors .0) a
     by a (Verdict.No r) = h
 
-    same : isCommand 0x48 packet ≡ true → setsAttribute (fileName file) (Call.Request clock link bc errors packet m reply) ≡ true → flashOf logodwen (Call.Request clock link bc errors packet m reply) n flash ≡ flash
+    same : isCommand 0x48 bc packet ≡ true → setsAttribute (fileName file) (Call.Request clock link bc errors packet m x reply) ≡ true → flashOf logodwen (Call.Request clock link bc errors packet m x reply) n flash ≡ flash
     same c a =
         ⊎-elim (λ e. e)
-        (⊎-elim (λ w. absurd (omega (arith, command-told 0x45 packet (w .command) .number, command-told 0x48 packet c .number))) (λ w. p .attribute a (w .lays .answer)))
-        (flash-follows n clock link bc errors packet (lent flash m reply))
+        (⊎-elim (λ w. absurd (false≢true (sym (command-write n link (eqb-true (bcOf bc) 3 (command-whole 0x48 bc packet c)) (command-told 0x48 bc packet c)) ∙ w .command))) (λ w. p .attribute a (w .lays .answer)))
+        (flash-follows n clock link bc errors packet (lent flash m x reply))
 
-    attribute : (t : Bool) → (isCommand 0x48 packet && eqb (nameOf (getD packet 1 0)) (fileName file)) ≡ t → Held s file (flashOf logodwen (Call.Request clock link bc errors packet m reply) n flash)
-    attribute true a = subst (Held s file) (sym (same (and-left (isCommand 0x48 packet) (eqb (nameOf (getD packet 1 0)) (fileName file)) a) a)) h
-    attribute false a = by a (verdictOn n link packet (lent flash m reply))
+    attribute : (t : Bool) → (isCommand 0x48 bc packet && eqb (nameOf (getD packet 1 0)) (fileName file)) ≡ t → Held s file (flashOf logodwen (Call.Request clock link bc errors packet m x reply) n flash)
+    attribute true a = subst (Held s file) (sym (same (and-left (isCommand 0x48 bc packet) (eqb (nameOf (getD packet 1 0)) (fileName file)) a) a)) h
+    attribute false a = by a (verdictOn n link packet (lent flash m x reply))
 call-held (Call.Reply clock slave bc errors status address words reply) n flash s file sound o p h = h
 call-held (Call.Poll clock reply) n flash s file sound o p h = h
 call-held (Call.Erase budget) n flash s file sound o p h = by (eraseVerdict n (length flash))
@@ -159,33 +162,36 @@ placed-at n flash file s h =
 
 -- a File Write answered END
 pub reads-back : ReadsBack logodwen
-reads-back n flash r clock link bc errors packet m reply b c h =
-    let l : Lent = lent flash m reply in
-    let own = ended-own n clock link bc errors packet l 0x45 c h in
-    ⊎-elim (λ e. not-end 2 refl (sym (ap (λ (d : Did). d .reply .bc) e) ∙ own .1)) (written (own .0)) (write-did n clock link packet l)
+reads-back n flash r clock link bc errors packet m x reply b c h =
+    ⊎-elim
+    (λ v. ⊎-elim (λ e. not-end 2 refl (sym (ap (λ (d : Did). d .reply .bc) e) ∙ sym (ap bcIn (v .answer)) ∙ ap bcIn h)) (written v) (write-did n flash (brought n bc packet x)))
+    (λ u. absurd (u .answer h))
+    (brings n clock link bc errors packet (lent flash m x reply) c)
   where
-    written : Own n clock link bc errors packet (lent flash m reply) 0x45 c → Placed n clock link packet (lent flash m reply) (ownOf 0x45 n clock link packet (lent flash m reply))
-        → Written logodwen flash (drop 1 packet) (requestOf n clock link bc errors packet (lent flash m reply))
-    written own p =
-        let l : Lent = lent flash m reply in
+    written : Serves n clock link bc errors packet (lent flash m x reply) (brought n bc packet x) → Placed n flash (brought n bc packet x)
+        → Written logodwen flash (brought n bc packet x) (requestOf n clock link bc errors packet (lent flash m x reply))
+    written v p =
+        let l : Lent = lent flash m x reply in
+        let file : List ℕ = brought n bc packet x in
         let sound = reached-sound r in
-        let w = placed-tells n l packet (drop 1 packet) (p .sector) (command-told 0x45 packet c) (p .idle) refl (p .placed) in
-        let o = own .is ∙ ap (ownOutcome n l) (p .is) in
-        let stays : Stays (p .sector) (drop 1 packet) (requestOf n clock link bc errors packet l .turn .node) (requestOf n clock link bc errors packet l .after .flash) =
+        let w = placed-tells n link bc packet l file (p .sector) (v .source) (p .idle) (p .placed) in
+        let laid-so = v .flash ∙ ap (λ (d : Did). flashAfter (d .change) (n .erasing) flash) (p .is) in
+        let erasing = v .erasing ∙ ap (λ (d : Did). erasingNext (d .change) (n .erasing) (unitOf flash)) (p .is) ∙ p .idle in
+        let stays : Stays (p .sector) file (requestOf n clock link bc errors packet l .turn .node) (requestOf n clock link bc errors packet l .after .flash) =
         record {
-          sound = call-keeps (Call.Request clock link bc errors packet m reply) n flash b sound;
-          spared = λ e. no-site (p .sector) (sym (ap (λ (x : Outcome). erasingSite (x .turn .node .erasing)) o ∙ ap erasingSite (p .idle)) ∙ e);
-          held = subst (λ (x : Outcome). Held (p .sector) (drop 1 packet) (x .after .flash)) (sym o) (stored-held (p .sector) (drop 1 packet) n flash packet (sound .fresh .summary) w);
+          sound = call-keeps (Call.Request clock link bc errors packet m x reply) n flash b sound;
+          spared = λ e. no-site (p .sector) (sym (ap erasingSite erasing) ∙ e);
+          held = subst (Held (p .sector) file) (sym laid-so) (stored-held (p .sector) file n link bc packet l (sound .fresh .summary) w);
         } in
         record {
           valid = w .valid;
-          unused = λ t q. ap (isNamed (fileName (drop 1 packet))) (sym (entry-first n flash (sound .fresh .summary) t q)) ∙ missing-tells (n .directory) (fileName (drop 1 packet)) (w .unused) t q;
+          unused = λ t q. ap (isNamed (fileName file)) (sym (entry-first n flash (sound .fresh .summary) t q)) ∙ missing-tells (n .directory) (fileName file) (w .unused) t q;
           sector = p .sector;
           takes = record { sector = w .place .sector; empty = w .place .empty; room = w .place .room };
-          lowest = placed-lowest n flash (sound .fresh .summary) (p .idle) (length (drop 1 packet)) (p .sector) (placed-at n flash (drop 1 packet) (p .sector) (p .placed));
-          stands = ap (λ (x : Outcome). x .after .flash) o ∙ stored-laid flash (p .sector) (drop 1 packet) (w .place .room);
-          reads = λ n′ later run idle short clock′ link′ bc′ errors′ packet′ m′ reply′ c′ two name d.
-              let k = run-stays (drop 1 packet) run stays in
-              good-is-served .read n′ clock′ link′ bc′ errors′ packet′ (lent later m′ reply′) (p .sector) (drop 1 packet) c′ d two
-              (held-names n′ later (p .sector) (drop 1 packet) (k .sound .fresh .summary) (k .held) packet′ name idle) short;
+          lowest = placed-lowest n flash (sound .fresh .summary) (p .idle) (length file) (p .sector) (placed-at n flash file (p .sector) (p .placed));
+          stands = laid-so ∙ stored-laid flash (p .sector) file (w .place .room);
+          reads = λ n′ later run idle short clock′ link′ bc′ errors′ packet′ m′ x′ reply′ c′ two name d.
+              let k = run-stays file run stays in
+              good-is-served .read n′ clock′ link′ bc′ errors′ packet′ (lent later m′ x′ reply′) (p .sector) file c′ d two
+              (held-names n′ later (p .sector) file (k .sound .fresh .summary) (k .held) packet′ name idle) short;
         }

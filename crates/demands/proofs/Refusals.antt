@@ -13,9 +13,9 @@ use Rattle.flash.specs.Geometry.{isSector, sizeOf}
 use Rattle.flash.specs.declared.Erasing.{Erasing}
 use Rattle.group.specs.Slaves.{above}
 use Rattle.node.specs.State.{refusalNumber, turn}
-use Rattle.node.specs.Valid.{sizeOk, kindOk, portsOk, masksOk, erasingOk, askOk, gatheringOk, pendingOk, stateOk}
+use Rattle.node.specs.Valid.{sizeOk, kindOk, portsOk, masksOk, erasingOk, askOk, gatheringOk, pendingOk, writingOk, stateOk}
 use Rattle.node.specs.Refusals.{firstOf, isPending, isAsked, requestVerdict, replyVerdict, pollVerdict, eraseVerdict, startVerdict}
-use Rattle.node.specs.Refusals.{Cause as Test, cause as test, flashCause as flashTest, replyCause as replyTest, memoryCause as memoryTest, linkCause as linkTest, slaveCause as slaveTest, stateCause as stateTest, busyCause as busyTest, pollCause as pollTest, unaskedCause as unaskedTest}
+use Rattle.node.specs.Refusals.{Cause as Test, cause as test, flashCause as flashTest, replyCause as replyTest, memoryCause as memoryTest, areaCause as areaTest, linkCause as linkTest, slaveCause as slaveTest, stateCause as stateTest, busyCause as busyTest, pollCause as pollTest, unaskedCause as unaskedTest}
 use Rattle.node.specs.Effect.{Effect, Lent, lent}
 use Rattle.node.specs.Calls.{judged, lentReply, lentFlash, given, nobody, startBy, startOf, requestOf, replyOf, pollOf, eraseEffect, eraseOf}
 use Rattle.node.specs.Slaves.{replyEffect, pollEffect}
@@ -27,17 +27,18 @@ use Rattle.node.specs.declared.Node.{Node}
 use Rattle.node.specs.declared.Pending.{Pending}
 use Rattle.node.specs.declared.Refusal.{Refusal}
 use Rattle.node.specs.declared.Verdict.{Verdict}
+use Rattle.node.specs.declared.Writing.{Writing}
 use Rattle.node.proofs.Ranges.{and-both, mask-below, ranges-told}
 use Rattle.node.proofs.Verdicts.{request-fine, reply-fine, poll-fine, erase-fine}
 use Rattle.demands.specs.Machine.{logodwen, Call, turnOf, isRefused}
 use Rattle.demands.specs.Reached.{Reached}
-use Rattle.demands.specs.Refusals.{numberOf, Cause, FirstOf, FlashSize, ErasingIn, AskIn, GatheringIn, PendingIn, IsState, IsPending, IsAsked, startCauses, requestCauses, replyCauses, pollCauses, eraseCauses, Exactly, Unchanged, RefusedExactly, NeverRefusedBy5, ZerosRefused}
+use Rattle.demands.specs.Refusals.{numberOf, Cause, FirstOf, FlashSize, ErasingIn, AskIn, GatheringIn, PendingIn, WritingIn, IsState, IsPending, IsAsked, startCauses, requestCauses, replyCauses, pollCauses, eraseCauses, Exactly, Unchanged, RefusedExactly, NeverRefusedBy5, ZerosRefused}
 use Rattle.demands.proofs.Tests.{Tells, leb-tells, ltb-tells, eqb-tells, yes-tells, no-tells, and-tells, or-tells, not-tells, same-tells}
 use Rattle.demands.proofs.Taken.{verdictOn, requestEffect, request-taken, reply-taken, poll-taken, judged-unchanged}
 use Rattle.demands.proofs.Sound.{reached-sound}
 
 -- the tests of a state
-size-tells : (words : ℕ) → Tells (sizeOk words) (FlashSize words)
+pub size-tells : (words : ℕ) → Tells (sizeOk words) (FlashSize words)
 size-tells words = or-tells (eqb-tells words 32768) (eqb-tells words 262144)
 
 pub kind-tells : (kind : ℕ) → Tells (kindOk kind) ((kind ≡ 1) ⊎ (kind ≡ 2))
@@ -72,25 +73,31 @@ pending-tells ports Pending.Nothing = yes-tells
 pending-tells ports (Pending.Slave a) = ask-tells ports a
 pending-tells ports (Pending.Group a g) = and-tells (ask-tells ports a) (gathering-tells (a .slave) g)
 
+writing-tells : (ports : ℕ) (w : Writing) → Tells (writingOk ports w) (WritingIn ports w)
+writing-tells ports Writing.Nothing = yes-tells
+writing-tells ports (Writing.File j) = and-tells (ltb-tells (j .link) ports) (leb-tells (j .words) 32768)
+
 pub state-tells : (n : Node) → Tells (stateOk n) (IsState n)
 unfolding stateOk
 state-tells n =
     let g : Given = n .given in
     same-tells
     (λ x. record {
-      kind = x .0 .0 .0 .0 .0 .0 .0;
-      ports = x .0 .0 .0 .0 .0 .0 .1;
-      subdetector = x .0 .0 .0 .0 .0 .1;
-      size = x .0 .0 .0 .0 .1;
-      mode = x .0 .0 .0 .1;
-      masks = x .0 .0 .1;
-      erasing = x .0 .1;
-      pending = x .1;
+      kind = x .0 .0 .0 .0 .0 .0 .0 .0;
+      ports = x .0 .0 .0 .0 .0 .0 .0 .1;
+      subdetector = x .0 .0 .0 .0 .0 .0 .1;
+      size = x .0 .0 .0 .0 .0 .1;
+      mode = x .0 .0 .0 .0 .1;
+      masks = x .0 .0 .0 .1;
+      erasing = x .0 .0 .1;
+      pending = x .0 .1;
+      writing = x .1;
     })
-    (λ x. (((((((x .kind, x .ports), x .subdetector), x .size), x .mode), x .masks), x .erasing), x .pending))
-    (and-tells (and-tells (and-tells (and-tells
+    (λ x. ((((((((x .kind, x .ports), x .subdetector), x .size), x .mode), x .masks), x .erasing), x .pending), x .writing))
+    (and-tells (and-tells (and-tells (and-tells (and-tells
     (and-tells (and-tells (and-tells (kind-tells (g .kind)) (ports-tells (g .ports))) (leb-tells (g .subdetector) 7)) (size-tells (g .«flash_words»)))
     (leb-tells (n .mode) 3)) (masks-tells (n .masks))) (erasing-tells (g .«flash_words») (n .erasing))) (pending-tells (g .ports) (n .pending)))
+    (writing-tells (g .ports) (n .writing)))
 
 -- the tests of the other causes
 busy-tells : (p : Pending) → Tells (isPending p) (IsPending p)
@@ -198,7 +205,7 @@ request-exactly n clock link bc errors packet l =
     let dm = length (l .memories .dm) in
     let io = length (l .memories .io) in
     exactly
-    (flashTest n (length (l .flash)) ∷ replyTest (length (l .reply)) ∷ memoryTest pm dm io ∷ linkTest n link ∷ stateTest n ∷ busyTest n (length packet) ∷ [])
+    (flashTest n (length (l .flash)) ∷ replyTest (length (l .reply)) ∷ memoryTest pm dm io ∷ areaTest (length (l .further .area)) ∷ linkTest n link ∷ stateTest n ∷ busyTest n (length packet) ∷ [])
     (requestCauses n link packet l) n l (requestEffect n clock link bc errors packet l) (request-taken n clock link bc errors packet l) (
       (refl, flash-tells n (length (l .flash))),
       (
@@ -206,12 +213,15 @@ request-exactly n clock link bc errors packet l =
         (
           (refl, or-tells (or-tells (ltb-tells 32768 pm) (ltb-tells 32768 dm)) (ltb-tells 4096 io)),
           (
-            (refl, link-tells (n .given .ports) link),
+            (refl, ltb-tells (length (l .further .area)) 32768),
             (
-              (refl, not-tells (state-tells n)),
+              (refl, link-tells (n .given .ports) link),
               (
-                (refl, and-tells (busy-tells (n .pending)) (leb-tells 1 (length packet))),
-                tt,
+                (refl, not-tells (state-tells n)),
+                (
+                  (refl, and-tells (busy-tells (n .pending)) (leb-tells 1 (length packet))),
+                  tt,
+                ),
               ),
             ),
           ),
@@ -258,9 +268,9 @@ other k h e a = eqb-false k 5 h e
 not-5 : (n : Node) → IsState n → (c : Call) (flash : List ℕ) → numberOf (turnOf logodwen c n flash .answer) ≡ 5 → ⊥
 not-5 n s (Call.Start kind ports subdetector program version tests clock) flash h =
     first-none (startCauses kind ports subdetector flash) 5 (other 1 refl, (other 4 refl, eqb-false 0 5 refl)) (start-exactly kind ports subdetector program version tests clock flash .0 5 .0 h)
-not-5 n s (Call.Request clock link bc errors packet m reply) flash h =
-    first-none (requestCauses n link packet (lent flash m reply)) 5 (other 1 refl, (other 2 refl, (other 3 refl, (other 4 refl, (λ e k. k s, (other 6 refl, eqb-false 0 5 refl))))))
-    (request-exactly n clock link bc errors packet (lent flash m reply) .0 5 .0 h)
+not-5 n s (Call.Request clock link bc errors packet m x reply) flash h =
+    first-none (requestCauses n link packet (lent flash m x reply)) 5 (other 1 refl, (other 2 refl, (other 3 refl, (other 8 refl, (other 4 refl, (λ e k. k s, (other 6 refl, eqb-false 0 5 refl)))))))
+    (request-exactly n clock link bc errors packet (lent flash m x reply) .0 5 .0 h)
 not-5 n s (Call.Reply clock slave bc errors status address words reply) flash h =
     first-none (replyCauses n slave reply) 5 (other 2 refl, (other 4 refl, (λ e k. k s, (other 7 refl, eqb-false 0 5 refl)))) (reply-exactly n clock slave bc errors status address words reply .0 5 .0 h)
 not-5 n s (Call.Poll clock reply) flash h =
@@ -286,9 +296,9 @@ refused (Verdict.No r) n l e h = refl
 pub zeros-refused : ZerosRefused logodwen
 unfolding requestOf replyOf pollOf eraseOf
 zeros-refused (Call.Start kind ports subdetector program version tests clock) t flash = absurd (false≢true (sym t))
-zeros-refused (Call.Request clock link bc errors packet m reply) t flash =
-    refused (verdictOn nobody link packet (lent flash m reply)) nobody (lent flash m reply) (requestEffect nobody clock link bc errors packet (lent flash m reply))
-    (λ e. zeros-state (request-fine nobody link _ _ _ _ _ _ e .fits .state))
+zeros-refused (Call.Request clock link bc errors packet m x reply) t flash =
+    refused (verdictOn nobody link packet (lent flash m x reply)) nobody (lent flash m x reply) (requestEffect nobody clock link bc errors packet (lent flash m x reply))
+    (λ e. zeros-state (request-fine nobody link _ _ _ _ _ _ _ e .fits .state))
 zeros-refused (Call.Reply clock slave bc errors status address words reply) t flash =
     refused (replyVerdict nobody slave (length reply)) nobody (lentReply reply) (replyEffect nobody clock errors status address bc words reply)
     (λ e. zeros-state (reply-fine nobody slave (length reply) e .state))

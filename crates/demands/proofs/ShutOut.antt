@@ -30,19 +30,20 @@ use Rattle.flash.proofs.Geometry.{sector-fits, length-sector}
 use Rattle.flash.proofs.Statuses.{first-word}
 use Rattle.memory.specs.Segment.{Memories, memories}
 use Rattle.group.specs.declared.Reply.{Reply}
-use Rattle.node.specs.State.{refusalNumber}
+use Rattle.node.specs.State.{refusalNumber, joining, withWriting}
 use Rattle.node.specs.Valid.{masksOk, stateOk}
 use Rattle.node.specs.Refusals.{startVerdict, requestVerdict, eraseVerdict}
 use Rattle.node.specs.Route.{addressed, routeOf}
-use Rattle.node.specs.Files.{writeOf, loadOf, toErase, eraseStartOf}
+use Rattle.node.specs.Files.{fileWriteOf, loadOf, toErase, eraseStartOf}
 use Rattle.node.specs.Settings.{modeReadOf}
 use Rattle.node.specs.Own.{settingsOf, filesOf, ownOf}
 use Rattle.node.specs.Calls.{startOf, requestOf, eraseOf}
-use Rattle.node.specs.Effect.{Outcome}
+use Rattle.node.specs.Effect.{Outcome, further}
 use Rattle.node.specs.declared.Answer.{Answer}
 use Rattle.node.specs.declared.Node.{Node}
 use Rattle.node.specs.declared.Refusal.{Refusal}
 use Rattle.node.specs.declared.Turn.{Turn}
+use Rattle.node.specs.declared.Writing.{Writing}
 use Rattle.node.proofs.Directories.{some-words}
 use Rattle.demands.specs.Machine.{Machine, logodwen, isRefused, Call, turnOf, flashOf}
 use Rattle.demands.specs.Requests.{end, abort}
@@ -50,8 +51,9 @@ use Rattle.demands.specs.Reached.{stateAfter, Step, Reached, NoStaleReco
 use Rattle.demands.specs.Refusals.{numberOf, RefusedExactly}
 use Rattle.demands.specs.Anchors.{blank, file}
 use Rattle.demands.specs.Files.{fileName, Unused, Takes, IsFile, Writes, ReadsBack, NeverCorrupted, FlashFollows}
+use Rattle.demands.specs.Packets.{Sent, AnyDivision, LeftAlone}
 use Rattle.demands.specs.ClosedRun.{with, started, written, ClosedRun}
-use Rattle.demands.specs.ShutOut.{refusing, unstarted, aborting, constant, idle, lying, denying, loader, hasty, boasting, dropping, rogue, scanning, ShutOut}
+use Rattle.demands.specs.ShutOut.{refusing, unstarted, aborting, constant, idle, lying, denying, judging, hoarding, mixing, loader, hasty, boasting, dropping, rogue, scanning, ShutOut}
 use Rattle.demands.specs.Flash.{countOf, Course, HasSet, ErasureFollows, Erases}
 use Rattle.demands.proofs.Refusals.{refused-exactly}
 use Rattle.demands.proofs.Held.{named-blank}
@@ -117,7 +119,7 @@ first M e = Reached.First 2 4 0 0 0 0 0 blank (ap (λ (x : Turn). isRefused (x .
 
 first-write : (M : Machine) → started M ≡ started logodwen → isRefused (written M .turn .answer) ≡ false → Writes M → written M .turn .answer ≡ end
 first-write M e t w =
-    w (started M .node) blank (first M e) (ap (λ (x : Turn). x .node .erasing) e ∙ not-erasing) 0 0 3 false (0x452E ∷ file) (memories [] [] []) (replicate 12288 0) refl
+    w (started M .node) blank (first M e) (ap (λ (x : Turn). x .node .erasing) e ∙ not-erasing) 0 0 3 false (0x452E ∷ file) (memories [] [] []) (further (replicate 32768 0)) (replicate 12288 0) refl
     (record { taken = t; clean = refl; least = leb-true 1 6 refl; most = leb-true 6 8192 refl; whole = refl })
     file-valid (blank-unused (fileName file)) 3 blank-takes
 
@@ -136,7 +138,7 @@ words-16 (suc (suc (suc (suc (suc (suc i)))))) = ltb-true 0 65536 refl
 -- a blank flash does not have the file laid in a sector
 changes-nothing : ReadsBack idle → ⊥
 changes-nothing w =
-    let o = w (started idle .node) blank (first idle refl) 0 0 3 false (0x452E ∷ file) (memories [] [] []) (replicate 12288 0) words-16 refl (closed-run .writes) in
+    let o = w (started idle .node) blank (first idle refl) 0 0 3 false (0x452E ∷ file) (memories [] [] []) (further (replicate 32768 0)) (replicate 12288 0) words-16 refl (closed-run .writes) in
     let at : ℕ = sectorStart (unitOf blank) (o .sector) in
     let size : length blank ≡ 32768 = length-replicate {A = ℕ} 32768 0xFFFF in
     let fits = sector-fits (unitOf blank) (o .sector) in
@@ -154,9 +156,9 @@ word-16 (suc i) = ltb-true 0 65536 refl
 
 -- a File Write of no file is ABORT, and nothing is stored
 stores-nothing : ReadsBack lying → ⊥
-unfolding laid headerOk fileEnd masksOk stateOk startVerdict requestVerdict addressed routeOf writeOf filesOf ownOf startOf requestOf
+unfolding laid headerOk fileEnd masksOk stateOk startVerdict requestVerdict addressed routeOf fileWriteOf filesOf ownOf startOf requestOf
 stores-nothing w =
-    no-file (w (started lying .node) blank (first lying refl) 0 0 3 false (0x452E ∷ []) (memories [] [] []) (replicate 12288 0) word-16 refl refl .valid)
+    no-file (w (started lying .node) blank (first lying refl) 0 0 3 false (0x452E ∷ []) (memories [] [] []) (further (replicate 32768 0)) (replicate 12288 0) word-16 refl refl .valid)
   where
     no-file : End.Invalid ≡ End.At 0 → ⊥
     no-file e = let z : _≡_ {A = ℕ} 0 1 = cc in omega arith
@@ -173,21 +175,21 @@ true-directory n flash r = by r
     made (Call.Start kind ports subdetector program version tests clock) m f k =
         pick-case (Fresh f) (isRefused (startOf kind ports subdetector program version tests clock f .answer)) (λ _. k)
         (λ h. no-stale-record _ f (Reached.First kind ports subdetector program version tests clock f h))
-    made (Call.Request clock link bc errors packet x reply) m f k = k
+    made (Call.Request clock link bc errors packet memory x reply) m f k = k
     made (Call.Reply clock slave bc errors status address words reply) m f k = k
     made (Call.Poll clock reply) m f k = k
     made (Call.Erase budget) m f k = k
 
     stray : (c : Call) (m : Node) (f other : List ℕ) → isRefused (turnOf idle c m other .answer) ≡ true → Fresh f m → Fresh f (stateAfter idle c m other)
     stray (Call.Start kind ports subdetector program version tests clock) m f other h k = subst (Fresh f) (yes _ h refl) k
-    stray (Call.Request clock link bc errors packet x reply) m f other h k = k
+    stray (Call.Request clock link bc errors packet memory x reply) m f other h k = k
     stray (Call.Reply clock slave bc errors status address words reply) m f other h k = k
     stray (Call.Poll clock reply) m f other h k = k
     stray (Call.Erase budget) m f other h k = k
 
     kept : (c : Call) (m : Node) (f : List ℕ) (other : Node) → Fresh f m → Fresh (flashOf idle c other f) m
     kept (Call.Start kind ports subdetector program version tests clock) m f other k = k
-    kept (Call.Request clock link bc errors packet x reply) m f other k = k
+    kept (Call.Request clock link bc errors packet memory x reply) m f other k = k
     kept (Call.Reply clock slave bc errors status address words reply) m f other k = k
     kept (Call.Poll clock reply) m f other k = k
     kept (Call.Erase budget) m f other k = k
@@ -256,7 +258,7 @@ drops-erasure : Erases dropping → ⊥
 unfolding zeros zeroed packet modeRead begun laid headerOk fileEnd isSector bySector sectorOf isEmpty statusOf statusIn fourthWord entryOf entryFor entriesFrom directoryOf entered firstFrom masksOk stateOk startVerdict requestVerdict addressed routeOf sectorAt eraseStartOf filesOf ownOf startOf requestOf
 drops-erasure w =
     not-erased (w .sets zeroed 0 0 3 false packet (with zeros) 3 refl refl third _ _ _ _
-    (Course.Then Course.Begun some-size (Step.Made (Call.Request 0 0 3 false modeRead (memories [] [] []) (replicate 12288 0)) mode-16) refl) .going some-size)
+    (Course.Then Course.Begun some-size (Step.Made (Call.Request 0 0 3 false modeRead (memories [] [] []) (further (replicate 32768 0)) (replicate 12288 0)) mode-16) refl) .going some-size)
   where
     not-erased : {p : Progress} → Erasing.Nothing ≡ Erasing.Sector p → ⊥
     not-erased e = let z : _≡_ {A = ℕ} 0 1 = cc in omega arith
@@ -269,6 +271,28 @@ erases-unasked w = ⊎-elim not-same (λ b. false≢true (b .command)) (w .reque
     not-same : {p : Progress} → Erasing.Sector p ≡ Erasing.Nothing → ⊥
     not-same e = let z : _≡_ {A = ℕ} 0 1 = cc in omega arith
 
+-- a first packet whose words are no file's; a first packet of one word, which joins none; another link's packet between
+abbrev wordsIn : Writing → ℕ
+wordsIn Writing.Nothing = 0
+wordsIn (Writing.File j) = j .words
+
+judges-first : AnyDivision judging → ⊥
+unfolding headerOk masksOk stateOk startVerdict requestVerdict routeOf startOf requestOf
+judges-first w = eqb-false 2 0 refl (ap bcIn (w .first (started logodwen .node) 0 0 2 (0 ∷ []) (with blank) refl refl (leb-true 1 8191 refl) refl))
+
+joins-header : AnyDivision hoarding → ⊥
+unfolding masksOk stateOk startVerdict requestVerdict routeOf startOf requestOf
+joins-header w =
+    eqb-false 1 0 refl (ap (λ (n : Node). wordsIn (n .writing)) (w .stands 0 (started logodwen .node) blank (replicate 32768 0) refl _ _ _ _ (Sent.First 0 2 [] (memories [] [] []) (replicate 12288 0) refl (leb-true 0 8191 refl) refl) .0))
+standing : Node
+standing = withWriting (started logodwen .node) (Writing.File (joining 0 0))
+
+mixes-links : LeftAlone mixing → ⊥
+unfolding standing masksOk stateOk startVerdict requestVerdict routeOf startOf requestOf
+mixes-links w =
+    eqb-false 1 0 refl
+    (ap wordsIn (w (Call.Request 0 1 0 false (0 ∷ []) (memories [] [] []) (further (replicate 32768 0)) (replicate 12288 0)) standing blank (joining 0 0) refl refl .0))
+
 -- a Load while the erasure is in progress
 loads-half : NeverCorrupted loader → ⊥
 unfolding zeros zeroed packet begun laid headerOk fileEnd isSector bySector sectorOf isEmpty statusOf statusIn fourthWord entryOf entryFor entriesFrom directoryOf entered firstFrom masksOk stateOk startVerdict requestVerdict addressed routeOf sectorAt eraseStartOf loadOf filesOf ownOf startOf requestOf
@@ -280,7 +304,7 @@ loads-half w =
 
 -- the file stands in the flash of the closed run
 stands : getD (written logodwen .after .flash) 2048 0 ≡ 0x7421
-unfolding laid fcsBit fcsBits fcsWord fcsFrom headerOk memoryOf pageOf lengthOk pageOk spanOf bodyOk segmentOk segmentEnd walk fileEnd isSector bySector sectorOf isEmpty statusOf statusIn fourthWord entryOf entryFor entriesFrom directoryOf entered entrySays entryIs keptStatus firstFrom countFrom isNamed searchOf targetOf takes placeOf stored masksOk stateOk startVerdict requestVerdict addressed routeOf writeOf filesOf ownOf startOf requestOf
+unfolding laid fcsBit fcsBits fcsWord fcsFrom headerOk memoryOf pageOf lengthOk pageOk spanOf bodyOk segmentOk segmentEnd walk fileEnd isSector bySector sectorOf isEmpty statusOf statusIn fourthWord entryOf entryFor entriesFrom directoryOf entered entrySays entryIs keptStatus firstFrom countFrom isNamed searchOf targetOf takes placeOf stored masksOk stateOk startVerdict requestVerdict addressed routeOf fileWriteOf filesOf ownOf startOf requestOf
 stands = refl
 
 -- and a node that then says ABORT has changed the flash unasked
@@ -299,10 +323,10 @@ refuses-start r w = not-done r (w .start 2 4 0 0 0 0 0 blank .0 0 .1 (refused-ex
 -- the file that was written stands in the flash, and not in the directory
 reached-written : Reached scanning (written scanning .turn .node) (written scanning .after .flash)
 reached-written =
-    Reached.Then (first scanning refl) (Step.Made (Call.Request 0 0 3 false (0x452E ∷ file) (memories [] [] []) (replicate 12288 0)) words-16)
+    Reached.Then (first scanning refl) (Step.Made (Call.Request 0 0 3 false (0x452E ∷ file) (memories [] [] []) (further (replicate 32768 0)) (replicate 12288 0)) words-16)
 
 scans-once : NoStaleRecord scanning → ⊥
-unfolding laid fcsBit fcsBits fcsWord fcsFrom headerOk memoryOf pageOf lengthOk pageOk spanOf bodyOk segmentOk segmentEnd walk fileEnd isSector bySector sectorOf isEmpty statusOf statusIn fourthWord entryOf entryFor entriesFrom directoryOf entered entrySays entryIs keptStatus firstFrom countFrom isNamed searchOf targetOf takes placeOf stored masksOk stateOk startVerdict requestVerdict addressed routeOf writeOf filesOf ownOf startOf requestOf
+unfolding laid fcsBit fcsBits fcsWord fcsFrom headerOk memoryOf pageOf lengthOk pageOk spanOf bodyOk segmentOk segmentEnd walk fileEnd isSector bySector sectorOf isEmpty statusOf statusIn fourthWord entryOf entryFor entriesFrom directoryOf entered entrySays entryIs keptStatus firstFrom countFrom isNamed searchOf targetOf takes placeOf stored masksOk stateOk startVerdict requestVerdict addressed routeOf fileWriteOf filesOf ownOf startOf requestOf
 scans-once w = eqb-false 0xFFFF 0x7421 refl (ap (λ (d : List ℕ). getD d 0 0) (w (written scanning .turn .node) (written scanning .after .flash) reached-written))
 
 pub shut-out : ShutOut
@@ -317,6 +341,9 @@ shut-out =
       changes-nothing = changes-nothing;
       stores-nothing = stores-nothing;
       stores-silently = stores-silently;
+      judges-first = judges-first;
+      joins-header = joins-header;
+      mixes-links = mixes-links;
       loads-half = loads-half;
       erases-all = erases-all;
       sets-nothing = sets-nothing;

@@ -19,14 +19,14 @@ use Rattle.memory.specs.Segment.{Memories}
 use Rattle.node.specs.State.{turn}
 use Rattle.node.specs.Refusals.{replyVerdict, pollVerdict, eraseVerdict, startVerdict}
 use Rattle.node.specs.Valid.{sizeOk, kindOk, portsOk, masksOk, erasingOk, pendingOk}
-use Rattle.node.specs.Effect.{Effect, effect, Lent, lent, nodeAfter, Change, flashAfter, erasingNext, Setup}
+use Rattle.node.specs.Effect.{Effect, effect, Lent, lent, nodeAfter, Change, flashAfter, erasingNext, Setup, Join, Further}
 use Rattle.node.specs.Slaves.{replyEffect, pollEffect}
 use Rattle.node.specs.Calls.{judged, lentReply, lentFlash, given, started, startBy, startOf, requestOf, replyOf, pollOf, eraseEffect, eraseOf}
 use Rattle.node.specs.declared.Node.{Node}
 use Rattle.node.specs.declared.Verdict.{Verdict}
 use Rattle.node.proofs.Why.{Quiet, request-why, reply-quiet, poll-quiet}
 use Rattle.node.proofs.Directories.{Fresh, why-fresh, step-fresh}
-use Rattle.node.proofs.Ranges.{and-both, Ranges, size-some, why-erasing, step-erasing, sets-mode, sets-masks, request-pending, reply-pending, poll-pending}
+use Rattle.node.proofs.Ranges.{and-both, Ranges, size-some, why-erasing, step-erasing, sets-mode, sets-masks, request-pending, request-writing, reply-pending, poll-pending}
 use Rattle.node.proofs.Verdicts.{request-fine, reply-fine, poll-fine, start-fine}
 use Rattle.demands.specs.Machine.{Call, logodwen, turnOf, flashOf, isRefused}
 use Rattle.demands.specs.Reached.{Lends16, stateAfter, Step, Reached}
@@ -70,7 +70,7 @@ module _ (n : Node) (clock link bc : ℕ) (errors : Bool) (packet : List ℕ) (l
   request-valid : Below 65536 packet → link < n .given .ports → Valid n (l .flash) → Valid (nodeAfter n (l .flash) asked) after
   request-valid b k v =
       let words : ℕ = n .given .«flash_words» in
-      let why = request-why n l packet clock link bc errors in
+      let why = request-why n link bc packet l clock errors in
       let r = v .ranges in
       record {
         ranges = record {
@@ -79,8 +79,9 @@ module _ (n : Node) (clock link bc : ℕ) (errors : Bool) (packet : List ℕ) (l
           masks = sets-masks (asked .setup) packet (n .masks) b (why .1) (r .masks);
           erasing =
               subst (λ (x : ℕ). erasingOk words (erasingNext (asked .change) (n .erasing) (x / 16)) ≡ true) (v .size)
-              (why-erasing words (asked .change) n (l .flash) packet (size-some words (given-size n r)) (why .0) (r .erasing));
+              (why-erasing words (asked .change) n link bc packet l (size-some words (given-size n r)) (why .0) (r .erasing));
           pending = request-pending n clock link bc errors packet l b k (r .masks) (r .pending);
+          writing = request-writing n clock link bc errors packet l k (r .writing);
         };
         size = v .size ∙ sym (change-size (asked .change) (n .erasing) (l .flash));
       }
@@ -89,23 +90,24 @@ module _ (n : Node) (clock link bc : ℕ) (errors : Bool) (packet : List ℕ) (l
   request-sound b k s =
       record {
         valid = request-valid b k (s .valid);
-        fresh = why-fresh (asked .change) n (l .flash) packet (some-unit n (l .flash) (s .valid)) (request-why n l packet clock link bc errors .0) (s .fresh);
+        fresh = why-fresh (asked .change) n link bc packet l (some-unit n (l .flash) (s .valid)) (request-why n link bc packet l clock errors .0) (s .fresh);
       }
 
 -- a slave's answer, and a poll
 quiet-kept : (P : Node → Type 0) (n : Node) (none : List ℕ) (e : Effect) → Quiet e
-    → P (nodeAfter n none (effect (e .answer) Change.Kept (e .store) Setup.Kept (e .amswire) (e .fault) (e .pending) (e .reply))) → P (nodeAfter n none e)
+    → P (nodeAfter n none (effect (e .answer) Change.Kept (e .store) Setup.Kept Join.Kept (e .amswire) (e .fault) (e .pending) (e .reply))) → P (nodeAfter n none e)
 quiet-kept P n none e q kept =
-    subst (λ (c : Change). P (next c (e .setup))) (sym (q .change)) (subst (λ (u : Setup). P (next Change.Kept u)) (sym (q .setup)) kept)
+    subst (λ (c : Change). P (next c (e .setup) (e .join))) (sym (q .change))
+    (subst (λ (u : Setup). P (next Change.Kept u (e .join))) (sym (q .setup)) (subst (λ (j : Join). P (next Change.Kept Setup.Kept j)) (sym (q .join)) kept))
   where
-    next : Change → Setup → Node
-    next c u = nodeAfter n none (effect (e .answer) c (e .store) u (e .amswire) (e .fault) (e .pending) (e .reply))
+    next : Change → Setup → Join → Node
+    next c u j = nodeAfter n none (effect (e .answer) c (e .store) u j (e .amswire) (e .fault) (e .pending) (e .reply))
 
 quiet-valid : (n : Node) (flash none : List ℕ) (e : Effect) → Quiet e → pendingOk (n .given .ports) (e .pending) ≡ true → Valid n flash → Valid (nodeAfter n none e) flash
 quiet-valid n flash none e q p v =
     let r = v .ranges in
     quiet-kept (λ (m : Node). Valid m flash) n none e q
-    (record { ranges = record { given = r .given; mode = r .mode; masks = r .masks; erasing = r .erasing; pending = p }; size = v .size })
+    (record { ranges = record { given = r .given; mode = r .mode; masks = r .masks; erasing = r .erasing; pending = p; writing = r .writing }; size = v .size })
 
 quiet-sound : (n : Node) (flash none : List ℕ) (e : Effect) → Quiet e → pendingOk (n .given .ports) (e .pending) ≡ true → Sound n flash → Sound (nodeAfter n none e) flash
 quiet-sound n flash none e q p s =
@@ -127,6 +129,7 @@ step-valid n flash budget v =
             subst (λ (x : ℕ). erasingOk (n .given .«flash_words») (erasingAfter (x / 16) (n .erasing) budget) ≡ true) (v .size)
             (step-erasing (n .given .«flash_words») (n .erasing) budget (r .erasing));
         pending = r .pending;
+        writing = r .writing;
       };
       size = v .size ∙ sym (change-size (Change.Blanked budget) (n .erasing) flash);
     }
@@ -149,6 +152,7 @@ start-sound kind ports subdetector program version tests clock flash h =
           masks = refl;
           erasing = refl;
           pending = refl;
+          writing = refl;
         };
         size = refl;
       };
@@ -175,14 +179,14 @@ module _ (P : Node → List ℕ → Type 0)
       by Verdict.Fine e = starts kind ports subdetector program version tests clock flash e
       by (Verdict.No r) e = s
 
-  request-keeps : (clock link bc : ℕ) (errors : Bool) (packet : List ℕ) (m : Memories) (reply : List ℕ) (n : Node) (flash : List ℕ) → Below 65536 packet → Keeps (Call.Request clock link bc errors packet m reply) n flash
+  request-keeps : (clock link bc : ℕ) (errors : Bool) (packet : List ℕ) (m : Memories) (x : Further) (reply : List ℕ) (n : Node) (flash : List ℕ) → Below 65536 packet → Keeps (Call.Request clock link bc errors packet m x reply) n flash
   unfolding requestOf
-  request-keeps clock link bc errors packet m reply n flash b s =
-      by (verdictOn n link packet (lent flash m reply)) refl
+  request-keeps clock link bc errors packet m x reply n flash b s =
+      by (verdictOn n link packet (lent flash m x reply)) refl
     where
-      by : (v : Verdict) → verdictOn n link packet (lent flash m reply) ≡ v
-          → P (judged v n (lent flash m reply) (requestEffect n clock link bc errors packet (lent flash m reply)) .turn .node) (judged v n (lent flash m reply) (requestEffect n clock link bc errors packet (lent flash m reply)) .after .flash)
-      by Verdict.Fine e = requests n clock link bc errors packet (lent flash m reply) b (request-fine n link _ _ _ _ _ _ e .below) s
+      by : (v : Verdict) → verdictOn n link packet (lent flash m x reply) ≡ v
+          → P (judged v n (lent flash m x reply) (requestEffect n clock link bc errors packet (lent flash m x reply)) .turn .node) (judged v n (lent flash m x reply) (requestEffect n clock link bc errors packet (lent flash m x reply)) .after .flash)
+      by Verdict.Fine e = requests n clock link bc errors packet (lent flash m x reply) b (request-fine n link _ _ _ _ _ _ _ e .below) s
       by (Verdict.No r) e = s
 
   reply-keeps : (clock slave bc : ℕ) (errors : Bool) (status address : ℕ) (words reply : List ℕ) (n : Node) (flash : List ℕ) → Keeps (Call.Reply clock slave bc errors status address words reply) n flash
@@ -215,7 +219,7 @@ module _ (P : Node → List ℕ → Type 0)
 
   each-keeps : (c : Call) (n : Node) (flash : List ℕ) → Lends16 c → Keeps c n flash
   each-keeps (Call.Start kind ports subdetector program version tests clock) n flash b = start-keeps kind ports subdetector program version tests clock n flash
-  each-keeps (Call.Request clock link bc errors packet m reply) n flash b = request-keeps clock link bc errors packet m reply n flash b
+  each-keeps (Call.Request clock link bc errors packet m x reply) n flash b = request-keeps clock link bc errors packet m x reply n flash b
   each-keeps (Call.Reply clock slave bc errors status address words reply) n flash b = reply-keeps clock slave bc errors status address words reply n flash
   each-keeps (Call.Poll clock reply) n flash b = poll-keeps clock reply n flash
   each-keeps (Call.Erase budget) n flash b = erase-keeps budget n flash
@@ -232,7 +236,7 @@ call-keeps = each-keeps Sound start-sound request-sound quiet-sound step-sound (
 pub refused-same : (c : Call) (n : Node) (flash : List ℕ) → isRefused (turnOf logodwen c n flash .answer) ≡ true → stateAfter logodwen c n flash ≡ n
 unfolding requestOf replyOf pollOf eraseOf
 refused-same (Call.Start kind ports subdetector program version tests clock) n flash h = sym (yes _ h refl)
-refused-same (Call.Request clock link bc errors packet m reply) n flash h = judged-unchanged (verdictOn n link packet (lent flash m reply)) n (lent flash m reply) (requestEffect n clock link bc errors packet (lent flash m reply)) (request-taken n clock link bc errors packet (lent flash m reply)) h .0
+refused-same (Call.Request clock link bc errors packet m x reply) n flash h = judged-unchanged (verdictOn n link packet (lent flash m x reply)) n (lent flash m x reply) (requestEffect n clock link bc errors packet (lent flash m x reply)) (request-taken n clock link bc errors packet (lent flash m x reply)) h .0
 refused-same (Call.Reply clock slave bc errors status address words reply) n flash h = judged-unchanged (replyVerdict n slave (length reply)) n (lentReply reply) (replyEffect n clock errors status address bc words reply) (reply-taken n clock errors status address bc words reply) h .0
 refused-same (Call.Poll clock reply) n flash h = judged-unchanged (pollVerdict n (length reply)) n (lentReply reply) (pollEffect n clock reply) (poll-taken n clock reply) h .0
 refused-same (Call.Erase budget) n flash h = judged-unchanged (eraseVerdict n (length flash)) n (lentFlash flash) (eraseEffect n budget flash) refl h .0
@@ -251,9 +255,9 @@ first-sound kind ports subdetector program version tests clock flash h = by (sta
 pub refused-flash : (c : Call) (n : Node) (flash : List ℕ) → isRefused (turnOf logodwen c n flash .answer) ≡ true → flashOf logodwen c n flash ≡ flash
 unfolding requestOf eraseOf
 refused-flash (Call.Start kind ports subdetector program version tests clock) n flash h = refl
-refused-flash (Call.Request clock link bc errors packet m reply) n flash h =
+refused-flash (Call.Request clock link bc errors packet m x reply) n flash h =
     ap (λ (l : Lent). l .flash)
-    (judged-unchanged (verdictOn n link packet (lent flash m reply)) n (lent flash m reply) (requestEffect n clock link bc errors packet (lent flash m reply)) (request-taken n clock link bc errors packet (lent flash m reply)) h .1)
+    (judged-unchanged (verdictOn n link packet (lent flash m x reply)) n (lent flash m x reply) (requestEffect n clock link bc errors packet (lent flash m x reply)) (request-taken n clock link bc errors packet (lent flash m x reply)) h .1)
 refused-flash (Call.Reply clock slave bc errors status address words reply) n flash h = refl
 refused-flash (Call.Poll clock reply) n flash h = refl
 refused-flash (Call.Erase budget) n flash h =

@@ -30,7 +30,8 @@ use Rattle.demands.specs.Refusals.{Unchanged}
 -- a request's verdict and effect
 abbrev pub verdictOn : Node → ℕ → List ℕ → Lent → Verdict
 verdictOn n link packet l =
-    requestVerdict n link (length packet) (length (l .flash)) (length (l .memories .pm)) (length (l .memories .dm)) (length (l .memories .io)) (length (l .reply))
+    requestVerdict n link (length packet) (length (l .flash)) (length (l .memories .pm)) (length (l .memories .dm)) (length (l .memories .io))
+    (length (l .further .area)) (length (l .reply))
 
 abbrev pub requestEffect : Node → ℕ → ℕ → ℕ → Bool → List ℕ → Lent → Effect
 requestEffect n clock link bc errors packet l = routed (routeOf n link bc errors packet) n clock link packet l
@@ -49,8 +50,8 @@ judged-unchanged (Verdict.No r) n l e t h = (refl, refl)
 module _ (P : Answer → Type 0) (replies : (r : Reply) → P (Answer.Reply r)) (asks : (a : Asking) → P (Answer.Ask a)) where
   pub request-answer : (n : Node) (clock link bc : ℕ) (errors : Bool) (packet : List ℕ) (l : Lent) → P (requestEffect n clock link bc errors packet l .answer)
   request-answer n clock link bc errors packet l =
-      route-case (λ r. P (routed r n clock link packet l .answer)) n link bc errors packet (replies _) (replies _) (λ _. replies _)
-      (λ id c. replies _) (λ s h. asks _) (λ set from s named e. asks _)
+      route-case (λ r. P (routed r n clock link packet l .answer)) n link bc errors packet (replies _) (replies _) (λ _ _. replies _) (λ _ _. replies _)
+      (λ _ _. replies _) (λ from at j. replies _) (λ at w. replies _) (λ id w c. replies _) (λ s h. asks _) (λ set from s named e. asks _)
 
   module _ (waits : P Answer.Waiting) where
     hears-answer : (p : Pending) (n : Node) (clock : ℕ) (h : Heard) (words reply : List ℕ) → P (hears p n clock h words reply .answer)

@@ -1,14 +1,17 @@
 -- A file that fits is written: in a directory that is fresh the searches find what the flash has. Assumes nothing.
-use Prim.Native.Nat.{ℕ, _<_}
+use Prim.Native.Nat.{ℕ, _*_, _≤_, _<_}
 use mathlib.Core.Path.{_≡_, refl, sym, ap, _∙_}
+use mathlib.Core.Logic.{⊎-elim}
 use mathlib.Core.Bool.{Bool, true, false, _&&_, false≢true}
 use mathlib.Core.List.{List}
-use lib.ListN.{length, getD, drop}
+use native.Mathlib.Omega.{arith}
+use lib.ListN.{length, getD}
+use lib.Dec.{eqb}
 use borrow.Author.Tests.{eq-eqb, le-leb}
-use Rattle.base.proofs.Pick.{yes, no}
+use Rattle.base.proofs.Pick.{yes, no, pick-case}
 use Rattle.image.specs.File.{fileEnd}
 use Rattle.image.specs.declared.End.{End}
-use Rattle.flash.specs.Geometry.{unitOf, sizeOf, sectorOf}
+use Rattle.flash.specs.Geometry.{isSector, bySector, unitOf, sizeOf, sectorOf}
 use Rattle.flash.specs.Status.{isErasing as isErasingAt}
 use Rattle.flash.specs.Directory.{directoryOf, keptStatus}
 use Rattle.flash.specs.Search.{isNamed, namedAt, firstSector, searchOf, targetBy, targetOf, isEmptyStatus, takes, placeOf}
@@ -18,16 +21,16 @@ use Rattle.flash.specs.declared.Target.{Target}
 use Rattle.flash.proofs.Statuses.{status-quiet, status-empty}
 use Rattle.flash.proofs.Kept.{kept-true}
 use Rattle.flash.proofs.Searches.{found-tells, nothing-tells}
-use Rattle.node.specs.Effect.{Lent, lent, Did, Outcome}
-use Rattle.node.specs.Files.{isErasing, namedBy, isExact, isMissing, placedFor, writeAt, writeOf}
-use Rattle.node.specs.Own.{filesOf, ownOf}
+use Rattle.node.specs.Effect.{Lent, lent, Did}
+use Rattle.node.specs.Files.{isErasing, namedBy, isExact, isMissing, placedFor, writeAt, fileWriteOf}
 use Rattle.node.specs.declared.Answer.{Answer}
 use Rattle.node.specs.declared.Node.{Node}
 use Rattle.demands.specs.Machine.{logodwen}
-use Rattle.demands.specs.Requests.{end}
+use Rattle.demands.specs.Requests.{end, brought}
 use Rattle.demands.specs.Files.{IsFile, fileName, Unused, Takes, Writes}
-use Rattle.demands.proofs.Commands.{delivered-own}
-use Rattle.demands.proofs.Sound.{reached-sound}
+use Rattle.demands.proofs.Brings.{arrived-served}
+use Rattle.demands.proofs.Sound.{Valid, given-size, reached-sound}
+use Rattle.demands.proofs.Refusals.{size-tells}
 use Rattle.demands.proofs.Held.{entry-first}
 
 -- a sector was found
@@ -79,19 +82,30 @@ module _ (n : Node) (flash : List ℕ) (fresh : n .directory ≡ directoryOf fla
       by Found.Nothing e = absurd (false≢true (sym (nothing-tells (takes (n .directory) flash (n .erasing) (length file)) e s (t .sector)) ∙ takes-told (length file) s t))
       by (Found.At p) e = refl
 
+-- no sector takes more than 32,768 words
+sector-most : (u s : ℕ) → sizeOf u s ≤ u * 2
+unfolding bySector
+sector-most u s = pick-case (λ (k : ℕ). k ≤ u * 2) (isSector s) (λ _. pick-case (λ (k : ℕ). k ≤ u * 2) (eqb s 3) (λ _. omega arith) (λ _. omega arith)) (λ _. omega arith)
+
+takes-short : (n : Node) (flash : List ℕ) → Valid n flash → (words s : ℕ) → Takes flash words s → words ≤ 32768
+takes-short n flash v words s t =
+    let size = size-tells (n .given .«flash_words») .told (given-size n (v .ranges)) in
+    let unit : unitOf flash ≤ 16384 = ⊎-elim (λ e. omega (arith, sym (v .size) ∙ e)) (λ e. omega (arith, sym (v .size) ∙ e)) size in
+    omega (arith, unit, t .room, sector-most (unitOf flash) s)
+
 -- and a file that is placed is written
-place-ends : (n : Node) (clock link : ℕ) (packet : List ℕ) (l : Lent) → n .erasing ≡ Erasing.Nothing → isSome (placedFor n (l .flash) (drop 1 packet)) ≡ true
-    → Answer.Reply (ownOf 0x45 n clock link packet l .reply) ≡ end
-unfolding ownOf filesOf writeOf
-place-ends n clock link packet l idle some =
-    ap (λ (d : Did). Answer.Reply (d .reply)) (sym (no _ (ap isErasing idle) refl)) ∙ by (placedFor n (l .flash) (drop 1 packet)) some
+place-ends : (n : Node) (flash file : List ℕ) → n .erasing ≡ Erasing.Nothing → isSome (placedFor n flash file) ≡ true → Answer.Reply (fileWriteOf n flash file .reply) ≡ end
+unfolding fileWriteOf
+place-ends n flash file idle some =
+    ap (λ (d : Did). Answer.Reply (d .reply)) (sym (no _ (ap isErasing idle) refl)) ∙ by (placedFor n flash file) some
   where
-    by : (f : Found) → isSome f ≡ true → Answer.Reply (writeAt (drop 1 packet) f .reply) ≡ end
+    by : (f : Found) → isSome f ≡ true → Answer.Reply (writeAt file f .reply) ≡ end
     by Found.Nothing h = absurd (false≢true h)
     by (Found.At s) h = refl
 
 pub writes : Writes logodwen
-writes n flash r idle clock link bc errors packet m reply c d valid unused s t =
-    let l : Lent = lent flash m reply in
-    ap (λ (x : Outcome). x .turn .answer) (delivered-own n clock link bc errors packet l 0x45 c d .is)
-    ∙ place-ends n clock link packet l idle (place-found n flash (reached-sound r .fresh .summary) idle (drop 1 packet) valid unused s t)
+writes n flash r idle clock link bc errors packet m x reply c a valid unused s t =
+    let l : Lent = lent flash m x reply in
+    let file : List ℕ = brought n bc packet x in
+    arrived-served n clock link bc errors packet l a c (takes-short n flash (reached-sound r .valid) (length file) s t) .answer
+    ∙ place-ends n flash file idle (place-found n flash (reached-sound r .fresh .summary) idle file valid unused s t)

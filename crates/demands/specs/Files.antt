@@ -116,7 +116,7 @@ pub record Written (M : Machine) (flash file : List ℕ) (o : Outcome) : Type 0 
 abbrev pub ReadsBack : Machine → Type 0
 ReadsBack M =
     (n : Node) (flash : List ℕ) → Reached M n flash
-    → (clock link bc : ℕ) (errors : Bool) (packet : List ℕ) (m : Memories) (x : Further) (reply : List ℕ) → Below 65536 packet → Below 65536 (x .area)
+    → (clock link bc : ℕ) (errors : Bool) (packet : List ℕ) (m : Memories) (x : Further) (reply : List ℕ) → Below 65536 packet
     → isWrite n link bc packet ≡ true
     → let o : Outcome = M .request n clock link bc errors packet (lent flash m x reply) in
     o .turn .answer ≡ end → Written M flash (brought n bc packet x) o

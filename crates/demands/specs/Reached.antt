@@ -14,10 +14,10 @@ use Rattle.node.specs.declared.Node.{Node}
 use Rattle.demands.specs.Machine.{Machine, Call, isStart, turnOf, flashOf, isRefused}
 use Rattle.demands.specs.Requests.{Delivered, isCommand, handed}
 
--- A packet and the area are lent as 16-bit words.
+-- A packet is lent as 16-bit words.
 abbrev pub Lends16 : Call → Type 0
 Lends16 (Call.Start kind ports subdetector program version tests clock) = Unit {0}
-Lends16 (Call.Request clock link bc errors packet m x reply) = Below 65536 packet × Below 65536 (x .area)
+Lends16 (Call.Request clock link bc errors packet m x reply) = Below 65536 packet
 Lends16 (Call.Reply clock slave bc errors status address words reply) = Unit {0}
 Lends16 (Call.Poll clock reply) = Unit {0}
 Lends16 (Call.Erase budget) = Unit {0}
