@@ -68,8 +68,8 @@ abbrev pub abortNumber : ℕ
 abortNumber = fields 1 2 0 0
 
 -- A read reply of these words: the bytes of data, reply status and FCS from the start of the reply buffer on, its other bytes as they were,
--- and so the state, the flash and the memories.
+-- and so the state, the flash, the memories and the area.
 abbrev pub handed : List ℕ → Lent → List ℕ → Answered
 handed state runs ws =
     answered (wholeNumber (length ws + 2)) state
-    (lent (runs .flash) (runs .memories) (laid (runs .reply) 0 (bytesOf 2 (sealedWords (statusIn (nodeIn state)) ws))))
+    (lent (runs .flash) (runs .memories) (runs .further) (laid (runs .reply) 0 (bytesOf 2 (sealedWords (statusIn (nodeIn state)) ws))))

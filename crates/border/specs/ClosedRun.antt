@@ -5,6 +5,7 @@ use mathlib.Core.Path.{_≡_}
 use mathlib.Core.List.{List, [], _∷_, _++_}
 use lib.ListN.{take, replicate}
 use Rattle.memory.specs.Segment.{memories}
+use Rattle.node.specs.Effect.{further}
 use Rattle.logodwen.specs.Entry.{Answered}
 use Rattle.border.specs.Exactly.{Entries}
 use Rattle.border.specs.Host.{Entry, answerOf}
@@ -30,12 +31,12 @@ entry low high address = low ∷ high ∷ 0 ∷ address ∷ 0 ∷ 0 ∷ 0 ∷ 0 
 abbrev pub empty : ℕ → List ℕ
 empty address = entry 0xFF 0xFF address
 
--- The state bytes, by the entry of sector 3: kind 2, 4 ports, 32,768 words of flash, masks 0, and the directory.
+-- The state bytes, by the entry of sector 3: kind 2, 4 ports, 32,768 words of flash, masks 0, the directory, and no write standing.
 abbrev pub stateWith : List ℕ → List ℕ
 stateWith third =
     2 ∷ 4
     ∷ (zeros 19 ++ (0x80 ∷ zeros 86)
-    ++ third ++ empty 0x04 ++ empty 0x08 ++ empty 0x0C ++ empty 0x10 ++ empty 0x14 ++ empty 0x18 ++ empty 0x1C)
+    ++ third ++ empty 0x04 ++ empty 0x08 ++ empty 0x0C ++ empty 0x10 ++ empty 0x14 ++ empty 0x18 ++ empty 0x1C ++ zeros 8)
 
 -- After the start, and after the File Write.
 abbrev pub fresh : List ℕ
@@ -44,12 +45,12 @@ fresh = stateWith (empty 0x02)
 abbrev pub full : List ℕ
 full = stateWith (entry 0x21 0x74 0x02)
 
--- A start on zeroed state bytes, and requests without memories, with BC 11 and a zeroed reply buffer.
+-- A start on zeroed state bytes, and requests without memories, with BC 11, a zeroed area and a zeroed reply buffer.
 abbrev pub sends : List ℕ → Entry
-sends packet = Entry.Request 0 0 3 0 packet (memories [] [] []) (zeros 24576)
+sends packet = Entry.Request 0 0 3 0 packet (memories [] [] []) (further (zeros 65536)) (zeros 24576)
 
 abbrev pub started : Entries → Answered
-started E = answerOf E (Entry.Start 2 4 0 0 0 0 0) (zeros 172) blank
+started E = answerOf E (Entry.Start 2 4 0 0 0 0 0) (zeros 180) blank
 
 abbrev pub written : Entries → Answered
 written E = answerOf E (sends (fileWrite file)) fresh blank

@@ -6,7 +6,7 @@ use mathlib.Core.Path.{_≡_}
 use mathlib.Core.Logic.{_⊎_}
 use mathlib.Core.Bool.{Bool, true, false}
 use mathlib.Core.List.{List, [], _∷_}
-use lib.ListN.{length, getD, drop, replicate}
+use lib.ListN.{length, getD, replicate}
 use lib.Dec.{eqb}
 use Rattle.base.specs.Pick.{pick}
 use Rattle.base.specs.Words.{laid}
@@ -18,17 +18,18 @@ use Rattle.flash.specs.declared.Found.{Found}
 use Rattle.flash.specs.declared.Setting.{Setting}
 use Rattle.memory.specs.Segment.{Memories}
 use Rattle.node.specs.Files.{placedFor, toErase}
-use Rattle.demands.specs.Requests.{isCommand}
+use Rattle.node.specs.Effect.{Further}
+use Rattle.demands.specs.Requests.{isCommand, isWrite, brought}
 use Rattle.demands.specs.Files.{Names}
 use Rattle.codec.specs.Bytes.{wordsOf, bytesOf}
 use Rattle.codec.specs.StateBytes.{nodeIn}
 use Rattle.logodwen.specs.Number.{fields}
-use Rattle.logodwen.specs.Entry.{Answered}
+use Rattle.logodwen.specs.Entry.{Answered, furtherWords}
 use Rattle.border.specs.Exactly.{Entries}
 use Rattle.border.specs.Host.{Entry, InC, answerOf, numberAfter, stateAfter, isDone, Step, Hosted}
 use Rattle.border.specs.Kept.{erasingIn}
 use Rattle.border.specs.Answers.{endNumber}
-use Rattle.border.specs.Files.{sectorIn, sectorByte, sectorBytes, inSector}
+use Rattle.border.specs.Files.{Stands, sectorIn, sectorByte, sectorBytes, inSector}
 use Rattle.border.specs.Flash.{stepByte}
 
 -- So many words FFFF, in bytes.
@@ -41,8 +42,8 @@ erasesIn state packet = toErase (nodeIn state) (getD (wordsOf 2 packet) 1 0)
 
 -- What an Erase whose number is END has done: nothing was being erased, and the erasure of the sector that it names has begun. It only
 -- begins.
-pub record Begins (state flash packet : List ℕ) (a : Answered) : Type 0 where
-  pub command : isCommand 0x47 (wordsOf 2 packet) ≡ true
+pub record Begins (state flash : List ℕ) (bc : ℕ) (packet : List ℕ) (a : Answered) : Type 0 where
+  pub command : isCommand 0x47 bc (wordsOf 2 packet) ≡ true
   pub number : a .number ≡ endNumber
   pub idle : sectorIn state ≡ 0
   pub sector : ℕ
@@ -62,7 +63,7 @@ pub record GoesOn (budget : ℕ) (state flash : List ℕ) (a : Answered) : Type 
 -- and a poll leave it; an erase entry goes on with it.
 abbrev pub Follows : Entry → Answered → List ℕ → List ℕ → Type 0
 Follows (Entry.Start kind ports subdetector program version tests clock) a state flash = a .number ≡ 0 → sectorIn (a .state) ≡ 0
-Follows (Entry.Request clock link bc errors packet m reply) a state flash = (erasingIn (a .state) ≡ erasingIn state) ⊎ Begins state flash packet a
+Follows (Entry.Request clock link bc errors packet m x reply) a state flash = (erasingIn (a .state) ≡ erasingIn state) ⊎ Begins state flash bc packet a
 Follows (Entry.Reply clock slave bc errors status address packet reply) a state flash = erasingIn (a .state) ≡ erasingIn state
 Follows (Entry.Poll clock reply) a state flash = erasingIn (a .state) ≡ erasingIn state
 Follows (Entry.Erase budget) a state flash = isDone (a .number) ≡ true → GoesOn budget state flash a
@@ -74,14 +75,14 @@ ErasureFollows E = (state flash : List ℕ) → Hosted E state flash → (e : En
 -- number.
 abbrev pub isStart : Entry → Bool
 isStart (Entry.Start kind ports subdetector program version tests clock) = true
-isStart (Entry.Request clock link bc errors packet m reply) = false
+isStart (Entry.Request clock link bc errors packet m x reply) = false
 isStart (Entry.Reply clock slave bc errors status address packet reply) = false
 isStart (Entry.Poll clock reply) = false
 isStart (Entry.Erase budget) = false
 
 abbrev pub budgetOf : Entry → ℕ
 budgetOf (Entry.Start kind ports subdetector program version tests clock) = 0
-budgetOf (Entry.Request clock link bc errors packet m reply) = 0
+budgetOf (Entry.Request clock link bc errors packet m x reply) = 0
 budgetOf (Entry.Reply clock slave bc errors status address packet reply) = 0
 budgetOf (Entry.Poll clock reply) = 0
 budgetOf (Entry.Erase budget) = budget
@@ -121,20 +122,21 @@ pub record HasSet (s : ℕ) (flash later after : List ℕ) (given counted : ℕ)
   pub over : sizeOf 2048 s ≤ given → sectorIn later ≡ 0
   pub empty : sizeOf 2048 s ≤ given → inSector after s ≡ replicate (sectorBytes s) 0xFF
 
--- An Erase that names a sector, done, without receive errors and with BC 11, is answered END, unless an erasure is in progress; one that is
+-- An Erase that names a sector, done, without receive errors, from a link of which no write stands, is answered END, unless an erasure is in
+-- progress; one that is
 -- answered END has begun the erasure of that sector; and whatever entries follow, it sets what its progress is given.
 pub record Erases (E : Entries) : Type 0 where
-  pub starts : (state flash : List ℕ) → Hosted E state flash → (clock link bc : ℕ) (packet : List ℕ) (m : Memories) (reply : List ℕ) (s : ℕ)
-      → let erase : Entry = Entry.Request clock link bc 0 packet m reply in
-      isDone (numberAfter E erase state flash) ≡ true → bc % 4 ≡ 3 → isCommand 0x47 (wordsOf 2 packet) ≡ true → length packet / 2 ≡ 2
+  pub starts : (state flash : List ℕ) → Hosted E state flash → (clock link bc : ℕ) (packet : List ℕ) (m : Memories) (x : Further) (reply : List ℕ) (s : ℕ)
+      → let erase : Entry = Entry.Request clock link bc 0 packet m x reply in
+      isDone (numberAfter E erase state flash) ≡ true → (Stands state link → ⊥) → isCommand 0x47 bc (wordsOf 2 packet) ≡ true → length packet / 2 ≡ 2
       → sectorIn state ≡ 0 → erasesIn state packet ≡ Found.At s → numberAfter E erase state flash ≡ endNumber
-  pub begins : (state flash : List ℕ) → Hosted E state flash → (clock link bc errors : ℕ) (packet : List ℕ) (m : Memories) (reply : List ℕ)
-      → let erase : Entry = Entry.Request clock link bc errors packet m reply in
-      InC erase → isCommand 0x47 (wordsOf 2 packet) ≡ true → numberAfter E erase state flash ≡ endNumber
-      → Begins state flash packet (answerOf E erase state flash)
-  pub sets : (state flash : List ℕ) → Hosted E state flash → (clock link bc errors : ℕ) (packet : List ℕ) (m : Memories) (reply : List ℕ) (s : ℕ)
-      → let erase : Entry = Entry.Request clock link bc errors packet m reply in
-      InC erase → isCommand 0x47 (wordsOf 2 packet) ≡ true → numberAfter E erase state flash ≡ endNumber → erasesIn state packet ≡ Found.At s
+  pub begins : (state flash : List ℕ) → Hosted E state flash → (clock link bc errors : ℕ) (packet : List ℕ) (m : Memories) (x : Further) (reply : List ℕ)
+      → let erase : Entry = Entry.Request clock link bc errors packet m x reply in
+      InC erase → isCommand 0x47 bc (wordsOf 2 packet) ≡ true → numberAfter E erase state flash ≡ endNumber
+      → Begins state flash bc packet (answerOf E erase state flash)
+  pub sets : (state flash : List ℕ) → Hosted E state flash → (clock link bc errors : ℕ) (packet : List ℕ) (m : Memories) (x : Further) (reply : List ℕ) (s : ℕ)
+      → let erase : Entry = Entry.Request clock link bc errors packet m x reply in
+      InC erase → isCommand 0x47 bc (wordsOf 2 packet) ≡ true → numberAfter E erase state flash ≡ endNumber → erasesIn state packet ≡ Found.At s
       → (later after : List ℕ) (given counted : ℕ) → Course E (sizeOf 2048 s) (stateAfter E erase state flash) flash later after given counted
       → HasSet s flash later after given counted
 
@@ -144,14 +146,14 @@ pub record Lays (flash : List ℕ) (a : Answered) (s : ℕ) (words : List ℕ) :
   pub number : a .number ≡ endNumber
   pub bytes : a .runs .flash ≡ laid flash (sectorByte s) (bytesOf 2 words)
 
-pub record LaysFile (state flash packet : List ℕ) (a : Answered) : Type 0 where
-  pub command : isCommand 0x45 (wordsOf 2 packet) ≡ true
+pub record LaysFile (state flash : List ℕ) (link bc : ℕ) (packet : List ℕ) (x : Further) (a : Answered) : Type 0 where
+  pub command : isWrite (nodeIn state) link bc (wordsOf 2 packet) ≡ true
   pub sector : ℕ
-  pub placed : placedFor (nodeIn state) (wordsOf 2 flash) (drop 1 (wordsOf 2 packet)) ≡ Found.At sector
-  pub lays : Lays flash a sector (drop 1 (wordsOf 2 packet))
+  pub placed : placedFor (nodeIn state) (wordsOf 2 flash) (brought (nodeIn state) bc (wordsOf 2 packet) (furtherWords x)) ≡ Found.At sector
+  pub lays : Lays flash a sector (brought (nodeIn state) bc (wordsOf 2 packet) (furtherWords x))
 
-pub record LaysHeader (state flash packet : List ℕ) (a : Answered) : Type 0 where
-  pub command : isCommand 0x48 (wordsOf 2 packet) ≡ true
+pub record LaysHeader (state flash : List ℕ) (bc : ℕ) (packet : List ℕ) (a : Answered) : Type 0 where
+  pub command : isCommand 0x48 bc (wordsOf 2 packet) ≡ true
   pub sector : ℕ
   pub file : List ℕ
   pub names : Names (nodeIn state) (wordsOf 2 flash) (wordsOf 2 packet) sector file
@@ -162,6 +164,6 @@ pub record LaysHeader (state flash packet : List ℕ) (a : Answered) : Type 0 wh
 -- A request changes the bytes of the flash so, and in no other way.
 abbrev pub FlashFollows : Entries → Type 0
 FlashFollows E =
-    (state flash : List ℕ) → Hosted E state flash → (clock link bc errors : ℕ) (packet : List ℕ) (m : Memories) (reply : List ℕ)
-    → let a : Answered = answerOf E (Entry.Request clock link bc errors packet m reply) state flash in
-    (a .runs .flash ≡ flash) ⊎ (LaysFile state flash packet a ⊎ LaysHeader state flash packet a)
+    (state flash : List ℕ) → Hosted E state flash → (clock link bc errors : ℕ) (packet : List ℕ) (m : Memories) (x : Further) (reply : List ℕ)
+    → let a : Answered = answerOf E (Entry.Request clock link bc errors packet m x reply) state flash in
+    (a .runs .flash ≡ flash) ⊎ (LaysFile state flash link bc packet x a ⊎ LaysHeader state flash bc packet a)

@@ -7,36 +7,37 @@ use lib.Dec.{ltb, eqb}
 use lib.ListN.{length}
 use Rattle.base.specs.Pick.{pick}
 use Rattle.memory.specs.Segment.{Memories}
+use Rattle.node.specs.Effect.{Further}
 use Rattle.demands.specs.Events.{Event as Call}
 use Rattle.codec.specs.Bytes.{numberAt, wordsOf}
-use Rattle.logodwen.specs.Entry.{Answered, memoryWords, isSet}
+use Rattle.logodwen.specs.Entry.{Answered, memoryWords, furtherWords, isSet}
 use Rattle.border.specs.Exactly.{Entries}
 use Rattle.border.specs.Host.{Entry, InC, answerOf, flashLeft, isDone}
 
 -- The entries that a host may make while a group is pending, with all that they are given and lent but state, flash and reply buffer.
 pub data Event : Type 0 where
-  Requested : (clock link bc errors : ℕ) (packet : List ℕ) (m : Memories) → Event
+  Requested : (clock link bc errors : ℕ) (packet : List ℕ) (m : Memories) (x : Further) → Event
   Replied : (clock slave bc errors status address : ℕ) (packet : List ℕ) → Event
   Polled : (clock : ℕ) → Event
   Erased : (budget : ℕ) → Event
 
 -- The entry, lent a reply buffer; erase progress isn't lent one. And the reply buffer after it.
 abbrev pub entryOf : Event → List ℕ → Entry
-entryOf (Event.Requested clock link bc errors packet m) buffer = Entry.Request clock link bc errors packet m buffer
+entryOf (Event.Requested clock link bc errors packet m x) buffer = Entry.Request clock link bc errors packet m x buffer
 entryOf (Event.Replied clock slave bc errors status address packet) buffer = Entry.Reply clock slave bc errors status address packet buffer
 entryOf (Event.Polled clock) buffer = Entry.Poll clock buffer
 entryOf (Event.Erased budget) buffer = Entry.Erase budget
 
 abbrev pub bufferLeft : Event → Answered → List ℕ → List ℕ
-bufferLeft (Event.Requested clock link bc errors packet m) a buffer = a .runs .reply
+bufferLeft (Event.Requested clock link bc errors packet m x) a buffer = a .runs .reply
 bufferLeft (Event.Replied clock slave bc errors status address packet) a buffer = a .runs .reply
 bufferLeft (Event.Polled clock) a buffer = a .runs .reply
 bufferLeft (Event.Erased budget) a buffer = buffer
 
 -- The node's calls that they are, on words. A reply of more than 32,768 words is refused, so it is none.
 abbrev pub callOf : Event → List Call
-callOf (Event.Requested clock link bc errors packet m) =
-    Call.Requested clock link bc (isSet errors) (wordsOf 2 packet) (memoryWords m) ∷ []
+callOf (Event.Requested clock link bc errors packet m x) =
+    Call.Requested clock link bc (isSet errors) (wordsOf 2 packet) (memoryWords m) (furtherWords x) ∷ []
 callOf (Event.Replied clock slave bc errors status address packet) =
     pick (ltb 32768 (length packet / 2)) [] (Call.Replied clock slave bc (isSet errors) status address (wordsOf 2 packet) ∷ [])
 callOf (Event.Polled clock) = Call.Polled clock ∷ []

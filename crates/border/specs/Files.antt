@@ -1,10 +1,10 @@
--- Files over bytes: the packets that are about one, the bytes of a sector, and what it is for a sector to take a file. 01 'Flash'. Assumes
--- nothing.
-use Prim.Native.Nat.{ℕ, _*_, _≤_}
+-- Files over bytes: the packets that are about one or bring one, the bytes of a sector, and what it is for a sector to take a file. 01
+-- 'Flash'; 02, request 1. Assumes nothing.
+use Prim.Native.Nat.{ℕ, _*_, _%_, _≤_}
 use mathlib.Core.Path.{_≡_}
 use mathlib.Core.Bool.{true, false}
-use mathlib.Core.List.{List, _∷_}
-use lib.ListN.{replicate}
+use mathlib.Core.List.{List, _∷_, _++_}
+use lib.ListN.{take, replicate}
 use Rattle.base.specs.Words.{part}
 use Rattle.image.specs.Header.{nameOf}
 use Rattle.flash.specs.Geometry.{isSector, sizeOf, startOf}
@@ -20,6 +20,16 @@ fileRead header = 0x2E ∷ 0x05 ∷ header
 
 abbrev pub fileLoad : List ℕ → List ℕ
 fileLoad header = 0x2E ∷ 0x46 ∷ header
+
+-- A write of this link stands, by the state bytes at 172 and 173.
+abbrev pub Stands : List ℕ → ℕ → Type 0
+Stands state link = (numberAt 1 172 state ≡ 1) × (numberAt 1 173 state ≡ link)
+
+-- A request brings a file to be written: File Write in one packet, BC 11; or the last packet, BC 01, of the write that stands, the file being
+-- the bytes joined in the area, two for each word that the state bytes at 176 count, and then the packet's.
+pub data Brings (state : List ℕ) (link bc : ℕ) (packet area : List ℕ) : List ℕ → Type 0 where
+  Whole : (file : List ℕ) → bc % 4 ≡ 3 → packet ≡ fileWrite file → Brings state link bc packet area file
+  Last : bc % 4 ≡ 1 → Stands state link → Brings state link bc packet area (take (numberAt 4 176 state * 2) area ++ packet)
 
 -- A file's name: bits 11-4 of its first word.
 abbrev pub nameIn : List ℕ → ℕ

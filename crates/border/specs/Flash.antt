@@ -50,7 +50,7 @@ InStep state budget i = (stepByte state ≤ i) × (i < stepByte state + min budg
 -- Of an erase entry, those of its step; no other entry sets any.
 abbrev pub SetByErasing : Entry → List ℕ → ℕ → Type 0
 SetByErasing (Entry.Start kind ports subdetector program version tests clock) state i = ⊥
-SetByErasing (Entry.Request clock link bc errors packet m reply) state i = ⊥
+SetByErasing (Entry.Request clock link bc errors packet m x reply) state i = ⊥
 SetByErasing (Entry.Reply clock slave bc errors status address packet reply) state i = ⊥
 SetByErasing (Entry.Poll clock reply) state i = ⊥
 SetByErasing (Entry.Erase budget) state i = InStep state budget i

@@ -10,6 +10,7 @@ use Rattle.group.specs.Kind.{Answer as SlaveAnswer}
 use Rattle.group.specs.Slaves.{slavesOf}
 use Rattle.group.specs.Whole.{assembled}
 use Rattle.group.specs.declared.Reply.{Reply}
+use Rattle.node.specs.Effect.{Further}
 use Rattle.node.specs.Settings.{statusIn}
 use Rattle.node.specs.declared.Answer.{Answer}
 use Rattle.demands.specs.Events.{Undropped, heards}
@@ -19,16 +20,18 @@ use Rattle.codec.specs.StateBytes.{nodeIn}
 use Rattle.border.specs.Exactly.{Entries}
 use Rattle.border.specs.Host.{Entry, InC, numberAfter, isDone, Hosted}
 use Rattle.border.specs.Answers.{InBits, Says}
+use Rattle.border.specs.Files.{Stands}
 use Rattle.border.specs.Events.{Event, callsOf, AllInC, Host, stepped, isPending, hosted}
 
--- A request to a group that is done, without receive errors, with BC 11 and a mask ID of at most 15, on a CDDC (the state byte at 0), with
--- words left behind those stripped and at most 8,192 in all: the number says to ask the lowest slave of the set.
+-- A request to a group that is done, without receive errors, with BC 11, from a link of which no write stands, with a mask ID of at most 15,
+-- on a CDDC (the state byte at 0), with words left behind those stripped and at most 8,192 in all: the number says to ask the lowest slave
+-- of the set.
 abbrev pub GroupIsAsked : Entries → Type 0
 GroupIsAsked E =
-    (clock link bc : ℕ) (packet : List ℕ) (m : Memories) (buffer state flash : List ℕ) (s : ℕ) (ss : List ℕ)
+    (clock link bc : ℕ) (packet : List ℕ) (m : Memories) (x : Further) (buffer state flash : List ℕ) (s : ℕ) (ss : List ℕ)
     → let words : List ℕ = wordsOf 2 packet in
-    let number : ℕ = numberAfter E (Entry.Request clock link bc 0 packet m buffer) state flash in
-    isDone number ≡ true → bc % 4 ≡ 3 → isGroup words ≡ true → knowsMask words ≡ true → numberAt 1 0 state ≡ 2
+    let number : ℕ = numberAfter E (Entry.Request clock link bc 0 packet m x buffer) state flash in
+    isDone number ≡ true → bc % 4 ≡ 3 → (Stands state link → ⊥) → isGroup words ≡ true → knowsMask words ≡ true → numberAt 1 0 state ≡ 2
     → stripped words < length words → length words ≤ 8192 → slavesOf (setAsked (nodeIn state) words) ≡ s ∷ ss
     → InBits number 2 s (stripped words) 0
 
@@ -43,12 +46,13 @@ pub record GroupRun (E : Entries) : Type 0 where
   pub errors : ℕ
   pub packet : List ℕ
   pub memories : Memories
+  pub further : Further
   pub buffer : List ℕ
-  pub typed : InC (Entry.Request clock link bc errors packet memories buffer)
+  pub typed : InC (Entry.Request clock link bc errors packet memories further buffer)
   pub group : isGroup (wordsOf 2 packet) ≡ true
   pub slave : ℕ
   pub from : ℕ
-  pub asks : InBits (numberAfter E (Entry.Request clock link bc errors packet memories buffer) state flash) 2 slave from 0
+  pub asks : InBits (numberAfter E (Entry.Request clock link bc errors packet memories further buffer) state flash) 2 slave from 0
   pub events : List Event
   pub all-typed : AllInC events
   pub kept : Undropped link (callsOf events)
@@ -57,7 +61,7 @@ module _ {E : Entries} (r : GroupRun E) where
   -- Where the request leaves the host, and where the entries after it do.
   abbrev pub begun : Host
   begun =
-      stepped E (Event.Requested (r .clock) (r .link) (r .bc) (r .errors) (r .packet) (r .memories))
+      stepped E (Event.Requested (r .clock) (r .link) (r .bc) (r .errors) (r .packet) (r .memories) (r .further))
       (record { number = 0; state = r .state; flash = r .flash; buffer = r .buffer; asked = [] })
 
   abbrev pub atLast : Host

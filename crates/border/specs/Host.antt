@@ -1,4 +1,4 @@
--- A host in C, as it keeps a node: 172 state bytes and the flash's bytes, lent to entry after entry. What an entry is given, what the
+-- A host in C, as it keeps a node: 180 state bytes and the flash's bytes, lent to entry after entry. What an entry is given, what the
 -- C types say of it, the bytes that it leaves, and all bytes that a host can come to have. As the demands, these are of any five
 -- entries, so that wrong ones can be seen to be shut out. 01 'Covered' and 'Call refusals'. Assumes nothing.
 use Prim.Native.Nat.{ℕ, _%_, _<_}
@@ -8,16 +8,16 @@ use mathlib.Core.List.{List}
 use lib.Dec.{eqb}
 use Rattle.base.specs.Words.{Below}
 use Rattle.memory.specs.Segment.{Memories}
-use Rattle.node.specs.Effect.{lent}
+use Rattle.node.specs.Effect.{Further, lent}
 use Rattle.demands.specs.Machine.{Call}
 use Rattle.codec.specs.Bytes.{wordsOf}
-use Rattle.logodwen.specs.Entry.{Answered, memoryWords, replyWords, isSet}
+use Rattle.logodwen.specs.Entry.{Answered, memoryWords, furtherWords, replyWords, isSet}
 use Rattle.border.specs.Exactly.{Entries}
 
--- An entry, with all that it is given and lent but the state bytes and the flash bytes. Packets, memories and reply buffers are bytes.
+-- An entry, with all that it is given and lent but the state bytes and the flash bytes. Packets, memories, areas and reply buffers are bytes.
 pub data Entry : Type 0 where
   Start : (kind ports subdetector program version tests clock : ℕ) → Entry
-  Request : (clock link bc errors : ℕ) (packet : List ℕ) (m : Memories) (reply : List ℕ) → Entry
+  Request : (clock link bc errors : ℕ) (packet : List ℕ) (m : Memories) (x : Further) (reply : List ℕ) → Entry
   Reply : (clock slave bc errors status address : ℕ) (packet reply : List ℕ) → Entry
   Poll : (clock : ℕ) (reply : List ℕ) → Entry
   Erase : (budget : ℕ) → Entry
@@ -39,8 +39,8 @@ U64 x = x < 18446744073709551616
 abbrev pub InC : Entry → Type 0
 InC (Entry.Start kind ports subdetector program version tests clock) =
     U32 kind × U32 ports × U32 subdetector × U16 program × U16 version × U16 tests × U32 clock
-InC (Entry.Request clock link bc errors packet m reply) =
-    U32 clock × U32 link × U32 bc × U32 errors × U8s packet × U8s (m .pm) × U8s (m .dm) × U8s (m .io) × U8s reply
+InC (Entry.Request clock link bc errors packet m x reply) =
+    U32 clock × U32 link × U32 bc × U32 errors × U8s packet × U8s (m .pm) × U8s (m .dm) × U8s (m .io) × U8s (x .area) × U8s reply
 InC (Entry.Reply clock slave bc errors status address packet reply) =
     U32 clock × U32 slave × U32 bc × U32 errors × U16 status × U16 address × U8s packet × U8s reply
 InC (Entry.Poll clock reply) = U32 clock × U8s reply
@@ -50,8 +50,8 @@ InC (Entry.Erase budget) = U64 budget
 abbrev pub answerOf : Entries → Entry → List ℕ → List ℕ → Answered
 answerOf E (Entry.Start kind ports subdetector program version tests clock) state flash =
     E .start kind ports subdetector program version tests clock flash state
-answerOf E (Entry.Request clock link bc errors packet m reply) state flash =
-    E .request clock link bc errors packet state (lent flash m reply)
+answerOf E (Entry.Request clock link bc errors packet m x reply) state flash =
+    E .request clock link bc errors packet state (lent flash m x reply)
 answerOf E (Entry.Reply clock slave bc errors status address packet reply) state flash =
     E .reply clock slave bc errors status address packet state reply
 answerOf E (Entry.Poll clock reply) state flash = E .poll clock state reply
@@ -67,7 +67,7 @@ stateAfter E e state flash = answerOf E e state flash .state
 -- The flash bytes after it: start reads them, reply and poll are not lent them.
 abbrev pub flashLeft : Entry → Answered → List ℕ → List ℕ
 flashLeft (Entry.Start kind ports subdetector program version tests clock) a flash = flash
-flashLeft (Entry.Request clock link bc errors packet m reply) a flash = a .runs .flash
+flashLeft (Entry.Request clock link bc errors packet m x reply) a flash = a .runs .flash
 flashLeft (Entry.Reply clock slave bc errors status address packet reply) a flash = flash
 flashLeft (Entry.Poll clock reply) a flash = flash
 flashLeft (Entry.Erase budget) a flash = a .runs .flash
@@ -78,8 +78,8 @@ flashAfter E e state flash = flashLeft e (answerOf E e state flash) flash
 -- The node's call that an entry is: on the words of the bytes that it is lent.
 abbrev pub onWords : Entry → Call
 onWords (Entry.Start kind ports subdetector program version tests clock) = Call.Start kind ports subdetector program version tests clock
-onWords (Entry.Request clock link bc errors packet m reply) =
-    Call.Request clock link bc (isSet errors) (wordsOf 2 packet) (memoryWords m) (replyWords reply)
+onWords (Entry.Request clock link bc errors packet m x reply) =
+    Call.Request clock link bc (isSet errors) (wordsOf 2 packet) (memoryWords m) (furtherWords x) (replyWords reply)
 onWords (Entry.Reply clock slave bc errors status address packet reply) =
     Call.Reply clock slave bc (isSet errors) status address (wordsOf 2 packet) (replyWords reply)
 onWords (Entry.Poll clock reply) = Call.Poll clock (replyWords reply)
@@ -90,8 +90,8 @@ abbrev pub isDone : ℕ → Bool
 isDone number = eqb (number % 256) 0
 
 -- One entry of a host that keeps state bytes and flash bytes, and what it keeps after it. The entry is lent both, and done or refused; or it
--- is refused, lent those state bytes with whatever flash, or that flash with whatever state bytes. Clock, packet, memories and reply buffer
--- are fresh at every entry.
+-- is refused, lent those state bytes with whatever flash, or that flash with whatever state bytes. Clock, packet, memories, area and reply
+-- buffer are fresh at every entry.
 pub data Step (E : Entries) (state flash : List ℕ) : List ℕ → List ℕ → Type 0 where
   Made : (e : Entry) → InC e → Step E state flash (stateAfter E e state flash) (flashAfter E e state flash)
   OtherFlash : (e : Entry) (other : List ℕ) → isDone (numberAfter E e state other) ≡ false → Step E state flash (stateAfter E e state other) flash

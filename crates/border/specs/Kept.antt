@@ -5,16 +5,17 @@ use Prim.Native.Nat.{ℕ, _%_}
 use mathlib.Core.Path.{_≡_}
 use mathlib.Core.Bool.{true}
 use mathlib.Core.List.{List, [], _∷_}
-use lib.ListN.{drop}
+use Rattle.base.specs.Words.{part}
 use Rattle.flash.specs.Directory.{directoryOf}
 use Rattle.flash.specs.declared.Erasing.{Erasing}
 use Rattle.memory.specs.Segment.{Memories}
-use Rattle.node.specs.Effect.{lent}
+use Rattle.node.specs.Effect.{Further, lent}
 use Rattle.codec.specs.Bytes.{wordsOf, bytesOf}
 use Rattle.codec.specs.StateBytes.{erasingOf, progressIn, areState}
 use Rattle.border.specs.Exactly.{Entries}
 use Rattle.border.specs.Host.{Entry, InC, answerOf, numberAfter, isDone, Hosted}
 use Rattle.border.specs.Answers.{handed}
+use Rattle.border.specs.Files.{Stands}
 
 -- What is erasing: the sector that the byte at 14 says, and the words set that the four bytes at 24 say.
 abbrev pub erasingIn : List ℕ → Erasing
@@ -28,15 +29,16 @@ directoryBytes state flash = bytesOf 2 (directoryOf (wordsOf 2 flash) (erasingIn
 abbrev pub AlwaysState : Entries → Type 0
 AlwaysState E = (state flash : List ℕ) → Hosted E state flash → areState state ≡ true
 
--- No stale record: the state bytes from 108 on are those of that directory.
+-- No stale record: the 64 state bytes from 108 on are those of that directory.
 abbrev pub NoStaleRecord : Entries → Type 0
-NoStaleRecord E = (state flash : List ℕ) → Hosted E state flash → drop 108 state ≡ directoryBytes state flash
+NoStaleRecord E = (state flash : List ℕ) → Hosted E state flash → part state 108 64 ≡ directoryBytes state flash
 
--- A Flash Summary, the packet 2E 07, that is done, without receive errors and with BC 11, answers that directory.
+-- A Flash Summary, the packet 2E 07, that is done, without receive errors and with BC 11, from a link of which no write stands, answers that
+-- directory.
 abbrev pub SummaryIsTrue : Entries → Type 0
 SummaryIsTrue E =
     (state flash : List ℕ) → Hosted E state flash
-    → (clock link bc : ℕ) (m : Memories) (reply : List ℕ)
-    → let summary : Entry = Entry.Request clock link bc 0 (0x2E ∷ 0x07 ∷ []) m reply in
-    InC summary → bc % 4 ≡ 3 → isDone (numberAfter E summary state flash) ≡ true
-    → answerOf E summary state flash ≡ handed state (lent flash m reply) (directoryOf (wordsOf 2 flash) (erasingIn state))
+    → (clock link bc : ℕ) (m : Memories) (x : Further) (reply : List ℕ)
+    → let summary : Entry = Entry.Request clock link bc 0 (0x2E ∷ 0x07 ∷ []) m x reply in
+    InC summary → bc % 4 ≡ 3 → (Stands state link → ⊥) → isDone (numberAfter E summary state flash) ≡ true
+    → answerOf E summary state flash ≡ handed state (lent flash m x reply) (directoryOf (wordsOf 2 flash) (erasingIn state))

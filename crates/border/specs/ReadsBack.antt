@@ -1,5 +1,5 @@
 -- Demand 2 over bytes, of files: a File Write that is answered END put its bytes into the flash, and they read back. 01 'Flash' and
--- 'What calls owe'. Assumes nothing.
+-- 'What calls owe'; in several packets too (02, request 1). Assumes nothing.
 use Prim.Native.Nat.{ℕ, _%_, _<_}
 use mathlib.Core.Path.{_≡_}
 use mathlib.Core.Bool.{true}
@@ -7,14 +7,14 @@ use mathlib.Core.List.{List}
 use lib.ListN.{length}
 use Rattle.base.specs.Words.{laid}
 use Rattle.memory.specs.Segment.{Memories}
-use Rattle.node.specs.Effect.{lent}
+use Rattle.node.specs.Effect.{Further, lent}
 use Rattle.demands.specs.Files.{IsFile, ErasesSector, setsAttribute}
 use Rattle.codec.specs.Bytes.{wordsOf}
 use Rattle.codec.specs.StateBytes.{nodeIn}
 use Rattle.border.specs.Exactly.{Entries}
 use Rattle.border.specs.Host.{Entry, InC, answerOf, numberAfter, stateAfter, flashAfter, onWords, isDone, Step, Hosted}
 use Rattle.border.specs.Answers.{endNumber, handed}
-use Rattle.border.specs.Files.{fileWrite, fileRead, nameIn, sectorIn, sectorByte, Unused, Takes}
+use Rattle.border.specs.Files.{fileRead, Stands, Brings, nameIn, sectorIn, sectorByte, Unused, Takes}
 
 -- An entry spares a file of the name in the sector, unless it is an Erase that names the sector, answered END, or an Attribute Set of the
 -- name, answered END with a change.
@@ -34,13 +34,14 @@ pub data Runs (E : Entries) (s name : ℕ) (state flash : List ℕ) : List ℕ �
   Then : {later next now after : List ℕ} → Runs E s name state flash later now → (step : Step E later now next after) → SparesIn s name step
       → Runs E s name state flash next after
 
--- Every File Read of the name that is done, without receive errors and with BC 11, answers the very bytes.
+-- Every File Read of the name that is done, without receive errors and with BC 11, from a link of which no write stands, answers the very
+-- bytes.
 abbrev pub Reads : Entries → List ℕ → List ℕ → List ℕ → Type 0
 Reads E file state flash =
-    (clock link bc : ℕ) (header : List ℕ) (m : Memories) (reply : List ℕ)
-    → let read : Entry = Entry.Request clock link bc 0 (fileRead header) m reply in
-    InC read → bc % 4 ≡ 3 → length header ≡ 2 → nameIn header ≡ nameIn file → isDone (numberAfter E read state flash) ≡ true
-    → answerOf E read state flash ≡ handed state (lent flash m reply) (wordsOf 2 file)
+    (clock link bc : ℕ) (header : List ℕ) (m : Memories) (x : Further) (reply : List ℕ)
+    → let read : Entry = Entry.Request clock link bc 0 (fileRead header) m x reply in
+    InC read → bc % 4 ≡ 3 → (Stands state link → ⊥) → length header ≡ 2 → nameIn header ≡ nameIn file → isDone (numberAfter E read state flash) ≡ true
+    → answerOf E read state flash ≡ handed state (lent flash m x reply) (wordsOf 2 file)
 
 -- A file that was written, from some flash bytes to others: valid, exact and of an unused name, its bytes stand from the start of the lowest
 -- sector that takes it, and no other byte of the flash has changed. And after any entries that spare it, with no erasure in progress, it
@@ -54,11 +55,11 @@ pub record Written (E : Entries) (file before state flash : List ℕ) : Type 0 w
   pub stands : flash ≡ laid before (sectorByte sector) file
   pub reads : (later after : List ℕ) → Runs E sector (nameIn file) state flash later after → sectorIn later ≡ 0 → Reads E file later after
 
--- Whatever a host has, a File Write of whole words that is answered END has written its file.
+-- Whatever a host has, a File Write of whole words that is answered END, of several packets the last one, has written its file.
 abbrev pub ReadsBack : Entries → Type 0
 ReadsBack E =
     (state flash : List ℕ) → Hosted E state flash
-    → (clock link bc errors : ℕ) (file : List ℕ) (m : Memories) (reply : List ℕ)
-    → let write : Entry = Entry.Request clock link bc errors (fileWrite file) m reply in
-    InC write → length file % 2 ≡ 0 → numberAfter E write state flash ≡ endNumber
+    → (clock link bc errors : ℕ) (packet : List ℕ) (m : Memories) (x : Further) (reply : List ℕ)
+    → let write : Entry = Entry.Request clock link bc errors packet m x reply in
+    InC write → (file : List ℕ) → Brings state link bc packet (x .area) file → length packet % 2 ≡ 0 → numberAfter E write state flash ≡ endNumber
     → Written E file flash (stateAfter E write state flash) (flashAfter E write state flash)

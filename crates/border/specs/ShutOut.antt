@@ -80,7 +80,7 @@ lying =
     record {
       start = startEntry;
       request = λ clock link bc errors packet state runs.
-          pick (isCommand 0x45 (wordsOf 2 packet)) (lies (requestEntry clock link bc errors packet state runs)) (requestEntry clock link bc errors packet state runs);
+          pick (isCommand 0x45 bc (wordsOf 2 packet)) (lies (requestEntry clock link bc errors packet state runs)) (requestEntry clock link bc errors packet state runs);
       reply = replyEntry;
       poll = pollEntry;
       erase = eraseEntry;
