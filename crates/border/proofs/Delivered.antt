@@ -52,10 +52,10 @@ reply-laid reply ws b long short =
 
 module _ (clock link bc errors : ℕ) (packet : List ℕ) (m : Memories) (reply state flash : List ℕ) where
   abbrev asked : Entry
-  asked = Entry.Request clock link bc errors packet m reply
+  asked = Entry.Request clock link bc errors packet m x reply
 
   abbrev l : Lent
-  l = lent (wordsOf 2 flash) (memoryWords m) (replyWords reply)
+  l = lent (wordsOf 2 flash) (memoryWords m) (furtherWords x) (replyWords reply)
 
   -- what the node's request comes to
   abbrev does : Outcome
@@ -82,12 +82,12 @@ module _ (clock link bc errors : ℕ) (packet : List ℕ) (m : Memories) (reply 
 
     -- what was read is handed out, in bytes: every other byte stays
     pub handed-bytes : InC asked → U8s flash → (ws : List ℕ) → length ws ≤ 12286 → does ≡ handedWords (nodeIn state) l ws
-        → answerOf entries asked state flash ≡ handed state (lent flash m reply) ws
+        → answerOf entries asked state flash ≡ handed state (lent flash m x reply) ws
     handed-bytes c b ws short e =
         let fine = request-fine link _ state _ _ _ _ _ (made .fine) in
         let ws′ : List ℕ = sealedWords (statusIn (nodeIn state)) ws in
         let n = length-append ws (trailer ws (statusIn (nodeIn state))) in
         made .does
-        ∙ ap (λ (o : Outcome). told (inBytes o (lent flash m reply))) e
+        ∙ ap (λ (o : Outcome). told (inBytes o (lent flash m x reply))) e
         ∙ (λ i. answered (wholeNumber (length ws + 2)) (encoded-decoded state (fine .bytes) i)
         (lent (bytes-kept 2 flash b i) (memories-kept m (c .5) (c .6) (c .7) i) (reply-laid reply ws′ (c .8) (fine .buffer) (omega arith) i)))

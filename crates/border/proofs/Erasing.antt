@@ -88,12 +88,12 @@ module _ (e : Entry) (state flash : List ℕ) (c : InC e) (st : Stands state fla
   flash-same q = m .words (st .below) ∙ ap (λ (x : List ℕ). storeWords 2 x flash) q ∙ bytes-kept 2 flash (st .below)
 
 -- a request
-module _ (state flash : List ℕ) (st : Stands state flash) (clock link bc errors : ℕ) (packet : List ℕ) (m : Memories) (reply : List ℕ) where
+module _ (state flash : List ℕ) (st : Stands state flash) (clock link bc errors : ℕ) (packet : List ℕ) (m : Memories) (x : Further) (reply : List ℕ) where
   abbrev asks : Entry
-  asks = Entry.Request clock link bc errors packet m reply
+  asks = Entry.Request clock link bc errors packet m x reply
 
   abbrev does : Outcome
-  does = requestOf (nodeIn state) clock link bc (isSet errors) (wordsOf 2 packet) (lent (wordsOf 2 flash) (memoryWords m) (replyWords reply))
+  does = requestOf (nodeIn state) clock link bc (isSet errors) (wordsOf 2 packet) (lent (wordsOf 2 flash) (memoryWords m) (furtherWords x) (replyWords reply))
 
   begins-bytes : InC asks → Made asks state flash → WordsBegin (nodeIn state) (wordsOf 2 flash) (wordsOf 2 packet) does → Begins state flash packet (answerOf entries asks state flash)
   begins-bytes c made b =
@@ -115,10 +115,10 @@ module _ (state flash : List ℕ) (st : Stands state flash) (clock link bc error
       by (Step.Leaves l) = inl (ap erasingIn (l .node))
       by (Step.Makes made) =
           ⊎-elim (λ q. inl (erasing-after asks state flash c st made ∙ q ∙ erasing-is state)) (λ b. inr (begins-bytes c made b))
-          (words-follow .request (nodeIn state) clock link bc (isSet errors) (wordsOf 2 packet) (lent (wordsOf 2 flash) (memoryWords m) (replyWords reply)))
+          (words-follow .request (nodeIn state) clock link bc (isSet errors) (wordsOf 2 packet) (lent (wordsOf 2 flash) (memoryWords m) (furtherWords x) (replyWords reply)))
 
   -- what it lays
-  lays-bytes : Made asks state flash → (s : ℕ) (words : List ℕ) → WordsLay (lent (wordsOf 2 flash) (memoryWords m) (replyWords reply)) does s words → Lays flash (answerOf entries asks state flash) s words
+  lays-bytes : Made asks state flash → (s : ℕ) (words : List ℕ) → WordsLay (lent (wordsOf 2 flash) (memoryWords m) (furtherWords x) (replyWords reply)) does s words → Lays flash (answerOf entries asks state flash) s words
   lays-bytes made s words l =
       let bench = request-fine link _ state _ _ _ _ _ (made .fine) .bench in
       record {
@@ -138,10 +138,10 @@ module _ (state flash : List ℕ) (st : Stands state flash) (clock link bc error
           (⊎-elim
           (λ f. inr (inl (record { command = f .command; sector = f .sector; placed = f .placed; lays = lays-bytes made (f .sector) (drop 1 (wordsOf 2 packet)) (f .lays) })))
           (λ h. inr (inr (record { command = h .command; sector = h .sector; file = h .file; names = h .names; header = h .header; set = h .set; lays = lays-bytes made (h .sector) (h .header ∷ []) (h .lays) }))))
-          (words-laid (nodeIn state) clock link bc (isSet errors) (wordsOf 2 packet) (lent (wordsOf 2 flash) (memoryWords m) (replyWords reply)))
+          (words-laid (nodeIn state) clock link bc (isSet errors) (wordsOf 2 packet) (lent (wordsOf 2 flash) (memoryWords m) (furtherWords x) (replyWords reply)))
 
 pub flash-follows : FlashFollows entries
-flash-follows state flash hosted clock link bc errors packet m reply = request-lays state flash (hosted-stands hosted) clock link bc errors packet m reply
+flash-follows state flash hosted clock link bc errors packet m x reply = request-lays state flash (hosted-stands hosted) clock link bc errors packet m x reply
 
 -- the bytes that a step sets, by what the state bytes say is being erased
 set-bytes : (state flash : List ℕ) → Below 256 flash → length flash / 2 ≡ 32768 → (budget : ℕ) (t : Bool) → eqb (sectorIn state) 0 ≡ t
@@ -199,7 +199,7 @@ erasure-follows state flash hosted (Entry.Start kind ports subdetector program v
         idle-byte (stateAfter entries start state flash)
         (ap (λ (n : Node). n .erasing) (made-moves start state flash c (hosted-stands hosted) m .node ∙ sym (no _ taken refl))
         ∙ words-follow .start kind ports subdetector program version tests clock (wordsOf 2 flash))
-erasure-follows state flash hosted (Entry.Request clock link bc errors packet m reply) c = request-follows state flash (hosted-stands hosted) clock link bc errors packet m reply c
+erasure-follows state flash hosted (Entry.Request clock link bc errors packet m x reply) c = request-follows state flash (hosted-stands hosted) clock link bc errors packet m x reply c
 erasure-follows state flash hosted (Entry.Reply clock slave bc errors status address packet reply) c = by (entry-step replies state flash)
   where
     replies : Entry
@@ -321,14 +321,14 @@ record Carried (size : ℕ) (state flash later after : List ℕ) (given counted 
 -- the budget and the start of an entry are those of its call
 budget-is : (e : Entry) → budgetOf e ≡ budgetWords (onWords e)
 budget-is (Entry.Start kind ports subdetector program version tests clock) = refl
-budget-is (Entry.Request clock link bc errors packet m reply) = refl
+budget-is (Entry.Request clock link bc errors packet m x reply) = refl
 budget-is (Entry.Reply clock slave bc errors status address packet reply) = refl
 budget-is (Entry.Poll clock reply) = refl
 budget-is (Entry.Erase budget) = refl
 
 start-is : (e : Entry) → isStart e ≡ isStartWords (onWords e)
 start-is (Entry.Start kind ports subdetector program version tests clock) = refl
-start-is (Entry.Request clock link bc errors packet m reply) = refl
+start-is (Entry.Request clock link bc errors packet m x reply) = refl
 start-is (Entry.Reply clock slave bc errors status address packet reply) = refl
 start-is (Entry.Poll clock reply) = refl
 start-is (Entry.Erase budget) = refl
@@ -378,7 +378,7 @@ module _ (size : ℕ) (state flash : List ℕ) where
     where
       none : (x : Entry) → isDone (numberAfter entries x later now) ≡ false → budgetOf x ≡ 0
       none (Entry.Start kind ports subdetector program version tests clock) q = refl
-      none (Entry.Request clock link bc errors packet m reply) q = refl
+      none (Entry.Request clock link bc errors packet m x reply) q = refl
       none (Entry.Reply clock slave bc errors status address packet reply) q = refl
       none (Entry.Poll clock reply) q = refl
       none (Entry.Erase budget) q = absurd (false≢true (sym q ∙ erase-done later now (k .stands) budget))
@@ -428,24 +428,24 @@ erases =
           let d = delivered clock link bc 0 packet m reply state flash done refl whole (omega arith) (omega arith) in
           number-is clock link bc 0 packet m reply state flash done
           ∙ ap answerNumber
-          (words-erase .starts (nodeIn state) clock link bc false (wordsOf 2 packet) (lent (wordsOf 2 flash) (memoryWords m) (replyWords reply)) s c d (length-words-of 2 packet ∙ two)
+          (words-erase .starts (nodeIn state) clock link bc false (wordsOf 2 packet) (lent (wordsOf 2 flash) (memoryWords m) (furtherWords x) (replyWords reply)) s c d (length-words-of 2 packet ∙ two)
           (no-erasing state quiet) named);
-      begins = λ state flash hosted clock link bc errors packet m reply c command h.
-          let erase : Entry = Entry.Request clock link bc errors packet m reply in
-          begins-bytes state flash (hosted-stands hosted) clock link bc errors packet m reply c (done-made erase state flash (ap isDone h))
-          (words-erase .begins (nodeIn state) clock link bc (isSet errors) (wordsOf 2 packet) (lent (wordsOf 2 flash) (memoryWords m) (replyWords reply)) command (ended-answer erase state flash h));
-      sets = λ state flash hosted clock link bc errors packet m reply s c command h named later after given counted course.
-          let erase : Entry = Entry.Request clock link bc errors packet m reply in
+      begins = λ state flash hosted clock link bc errors packet m x reply c command h.
+          let erase : Entry = Entry.Request clock link bc errors packet m x reply in
+          begins-bytes state flash (hosted-stands hosted) clock link bc errors packet m x reply c (done-made erase state flash (ap isDone h))
+          (words-erase .begins (nodeIn state) clock link bc (isSet errors) (wordsOf 2 packet) (lent (wordsOf 2 flash) (memoryWords m) (furtherWords x) (replyWords reply)) command (ended-answer erase state flash h));
+      sets = λ state flash hosted clock link bc errors packet m x reply s c command h named later after given counted course.
+          let erase : Entry = Entry.Request clock link bc errors packet m x reply in
           let st = hosted-stands hosted in
           let made = done-made erase state flash (ap isDone h) in
           let moved = made-moves erase state flash c st made in
-          let b = begins-bytes state flash st clock link bc errors packet m reply c made
-          (words-erase .begins (nodeIn state) clock link bc (isSet errors) (wordsOf 2 packet) (lent (wordsOf 2 flash) (memoryWords m) (replyWords reply)) command (ended-answer erase state flash h)) in
+          let b = begins-bytes state flash st clock link bc errors packet m x reply c made
+          (words-erase .begins (nodeIn state) clock link bc (isSet errors) (wordsOf 2 packet) (lent (wordsOf 2 flash) (memoryWords m) (furtherWords x) (replyWords reply)) command (ended-answer erase state flash h)) in
           let begun : Stands (stateAfter entries erase state flash) flash = subst (Stands (stateAfter entries erase state flash)) (b .kept) (moved .stands) in
           let k = course-carried (sizeOf 2048 s) (stateAfter entries erase state flash) flash begun course in
           let u = unit flash (st .below) (st .bench) in
           has-set (stateAfter entries erase state flash) flash later after s given counted (st .bench) (st .below) k
-          (words-erase .sets (nodeIn state) clock link bc (isSet errors) (wordsOf 2 packet) (lent (wordsOf 2 flash) (memoryWords m) (replyWords reply)) s command (ended-answer erase state flash h) named
+          (words-erase .sets (nodeIn state) clock link bc (isSet errors) (wordsOf 2 packet) (lent (wordsOf 2 flash) (memoryWords m) (furtherWords x) (replyWords reply)) s command (ended-answer erase state flash h) named
           (nodeIn later) (wordsOf 2 after) given counted
           (subst (λ (n : Node). WordsCourse logodwen (sizeOf (unitOf (wordsOf 2 flash)) s) n (wordsOf 2 flash) (nodeIn later) (wordsOf 2 after) given counted) (moved .node)
           (subst (λ (x : ℕ). WordsCourse logodwen (sizeOf x s) (nodeIn (stateAfter entries erase state flash)) (wordsOf 2 flash) (nodeIn later) (wordsOf 2 after) given counted) (sym u) (k .course))));

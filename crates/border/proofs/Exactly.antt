@@ -56,7 +56,7 @@ bench-tells flash = same-tells long words (eqb-tells (length flash / 2) 32768)
     words (inl e) = omega arith
     words (inr e) = omega arith
 
--- what is looked at only where the state bytes are 172
+-- what is looked at only where the state bytes are 180
 where-tells : {t u : Bool} {A B : Type 0} → Tells t A → Tells u B → Tells (not (pick t u true)) (A × (B → ⊥))
 where-tells {t} {u} {A} {B} p q = record { told = left t p; tells = right t p }
   where
@@ -70,9 +70,9 @@ where-tells {t} {u} {A} {B} p q = record { told = left t p; tells = right t p }
 
 flash-tells : (state flash : List ℕ)
     → Tells (benchTest state (length flash / 2) .holds)
-    ((BenchSize flash → ⊥) ⊎ ((length state ≡ 172) × (length flash / 2 ≡ sizeIn state → ⊥)))
+    ((BenchSize flash → ⊥) ⊎ ((length state ≡ 180) × (length flash / 2 ≡ sizeIn state → ⊥)))
 flash-tells state flash =
-    or-tells (not-tells (bench-tells flash)) (where-tells (eqb-tells (length state) 172) (eqb-tells (length flash / 2) (sizeIn state)))
+    or-tells (not-tells (bench-tells flash)) (where-tells (eqb-tells (length state) 180) (eqb-tells (length flash / 2) (sizeIn state)))
 
 short-tells : (reply : List ℕ) → Tells (ltb (length reply / 2) 12288) (length reply < 2 * 12288)
 short-tells reply = same-tells (λ h. omega arith) (λ h. omega arith) (ltb-tells (length reply / 2) 12288)
@@ -195,7 +195,7 @@ request-exactly clock link bc errors packet state runs =
                 (above-two 4096 (runs .memories .io)),
           ),
           (
-            (refl, where-tells (eqb-tells (length state) 172) (ltb-tells link (portsIn state))),
+            (refl, where-tells (eqb-tells (length state) 180) (ltb-tells link (portsIn state))),
             (
               (refl, not-tells (state-bytes-tell state)),
               (
@@ -285,7 +285,7 @@ start-exactly kind ports subdetector program version tests clock flash state =
     causes =
         test Refusal.FlashSize (not (eqb (length flash / 2) 32768))
         ∷ test Refusal.Number (not (portsOk ports) || not (kindOk kind) || ltb 7 subdetector)
-        ∷ test Refusal.State (not (eqb (length state) 172))
+        ∷ test Refusal.State (not (eqb (length state) 180))
         ∷ []
 
     done : firstOf causes ≡ Verdict.Fine → o .turn .answer ≡ Answer.Started
@@ -300,7 +300,7 @@ start-exactly kind ports subdetector program version tests clock flash state =
           (refl, not-tells (bench-tells flash)),
           (
             (refl, or-tells (or-tells (not-tells (ports-tells ports)) (not-tells (kind-tells kind))) (ltb-tells 7 subdetector)),
-            ((refl, not-tells (eqb-tells (length state) 172)), tt),
+            ((refl, not-tells (eqb-tells (length state) 180)), tt),
           ),
         )
 

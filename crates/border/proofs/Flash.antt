@@ -116,13 +116,13 @@ why-below (Change.Blanked budget) n flash packet w b h = absurd w
 pub flash-below : (c : Call) (n : Node) (flash : List ℕ) → Lends16 c → Below 65536 flash → Below 65536 (flashOf logodwen c n flash)
 unfolding requestOf eraseOf
 flash-below (Call.Start kind ports subdetector program version tests clock) n flash b h = h
-flash-below (Call.Request clock link bc errors packet m reply) n flash b h = by (verdictOn n link packet (lent flash m reply))
+flash-below (Call.Request clock link bc errors packet m x reply) n flash b h = by (verdictOn n link packet (lent flash m x reply))
   where
     e : Effect
-    e = requestEffect n clock link bc errors packet (lent flash m reply)
+    e = requestEffect n clock link bc errors packet (lent flash m x reply)
 
-    by : (v : Verdict) → Below 65536 (judged v n (lent flash m reply) e .after .flash)
-    by Verdict.Fine = why-below (e .change) n flash packet (request-why n (lent flash m reply) packet clock link bc errors .0) b h
+    by : (v : Verdict) → Below 65536 (judged v n (lent flash m x reply) e .after .flash)
+    by Verdict.Fine = why-below (e .change) n flash packet (request-why n (lent flash m x reply) packet clock link bc errors .0) b h
     by (Verdict.No r) = h
 flash-below (Call.Reply clock slave bc errors status address words reply) n flash b h = h
 flash-below (Call.Poll clock reply) n flash b h = h
@@ -136,12 +136,12 @@ flash-below (Call.Erase budget) n flash b h = by (eraseVerdict n (length flash))
 pub flash-size : (c : Call) (n : Node) (flash : List ℕ) → length (flashOf logodwen c n flash) ≡ length flash
 unfolding requestOf eraseOf
 flash-size (Call.Start kind ports subdetector program version tests clock) n flash = refl
-flash-size (Call.Request clock link bc errors packet m reply) n flash = by (verdictOn n link packet (lent flash m reply))
+flash-size (Call.Request clock link bc errors packet m x reply) n flash = by (verdictOn n link packet (lent flash m x reply))
   where
     e : Effect
-    e = requestEffect n clock link bc errors packet (lent flash m reply)
+    e = requestEffect n clock link bc errors packet (lent flash m x reply)
 
-    by : (v : Verdict) → length (judged v n (lent flash m reply) e .after .flash) ≡ length flash
+    by : (v : Verdict) → length (judged v n (lent flash m x reply) e .after .flash) ≡ length flash
     by Verdict.Fine = change-size (e .change) (n .erasing) flash
     by (Verdict.No r) = refl
 flash-size (Call.Reply clock slave bc errors status address words reply) n flash = refl

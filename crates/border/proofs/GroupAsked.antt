@@ -30,13 +30,13 @@ kind-is state = refl
 
 module _ (clock link bc : ℕ) (packet : List ℕ) (m : Memories) (buffer state flash : List ℕ) (s : ℕ) (ss : List ℕ) where
   abbrev entry : Entry
-  entry = Entry.Request clock link bc 0 packet m buffer
+  entry = Entry.Request clock link bc 0 packet m x buffer
 
   abbrev words : List ℕ
   words = wordsOf 2 packet
 
   abbrev l : Lent
-  l = lent (wordsOf 2 flash) (memoryWords m) (replyWords buffer)
+  l = lent (wordsOf 2 flash) (memoryWords m) (furtherWords x) (replyWords buffer)
 
   pub node-asks : isDone (numberAfter entries entry state flash) ≡ true → bc % 4 ≡ 3 → isGroup words ≡ true → knowsMask words ≡ true
       → numberAt 1 0 state ≡ 2 → stripped words < length words → length words ≤ 8192 → slavesOf (setAsked (nodeIn state) words) ≡ s ∷ ss
@@ -48,6 +48,6 @@ module _ (clock link bc : ℕ) (packet : List ℕ) (m : Memories) (buffer state 
 
 pub group-is-asked : GroupIsAsked entries
 group-is-asked clock link bc packet m buffer state flash s ss done whole group mask cddc long short these =
-    let entry : Entry = Entry.Request clock link bc 0 packet m buffer in
+    let entry : Entry = Entry.Request clock link bc 0 packet m x buffer in
     let asks = node-asks clock link bc packet m buffer state flash s ss done whole group mask cddc long short these in
     subst (λ (a : Answer). Says (numberAfter entries entry state flash) a) asks (nothing-cut entry state flash done .0)

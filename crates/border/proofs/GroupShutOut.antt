@@ -82,7 +82,7 @@ ask-in = (omega arith, omega arith, omega arith, omega arith, tested packet refl
 has : Hosted forgetful fresh blank
 has =
     subst (λ (x : List ℕ). Hosted forgetful x blank) (closed-run .begun)
-    (Hosted.First 2 4 0 0 0 0 0 (zeros 172) blank starts-in blank-bytes (closed-run .begins))
+    (Hosted.First 2 4 0 0 0 0 0 (zeros 180) blank starts-in blank-bytes (closed-run .begins))
 
 -- the slaves of a set, with each rest computed once
 

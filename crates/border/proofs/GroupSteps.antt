@@ -145,7 +145,7 @@ pub record Called (first : List ℕ) (w : Call) (e : Event) (h : Host) : Type 0 
 -- the call that it is, whatever its length, and what that comes to
 
 abbrev pub wordOf : Event → Call
-wordOf (Event.Requested clock link bc errors packet m) = Call.Requested clock link bc (isSet errors) (wordsOf 2 packet) (memoryWords m)
+wordOf (Event.Requested clock link bc errors packet m x) = Call.Requested clock link bc (isSet errors) (wordsOf 2 packet) (memoryWords m)
 wordOf (Event.Replied clock slave bc errors status address packet) =
     Call.Replied clock slave bc (isSet errors) status address (wordsOf 2 packet)
 wordOf (Event.Polled clock) = Call.Polled clock
@@ -155,7 +155,7 @@ abbrev pub does : Event → Host → Outcome
 does e h = outcomeOf (entryOf e (h .buffer)) (h .state) (h .flash)
 
 abbrev pub bufferOf : Event → Host → List ℕ
-bufferOf (Event.Requested clock link bc errors packet m) h = does (Event.Requested clock link bc errors packet m) h .after .reply
+bufferOf (Event.Requested clock link bc errors packet m x) h = does (Event.Requested clock link bc errors packet m x) h .after .reply
 bufferOf (Event.Replied clock slave bc errors status address packet) h =
     does (Event.Replied clock slave bc errors status address packet) h .after .reply
 bufferOf (Event.Polled clock) h = does (Event.Polled clock) h .after .reply
@@ -165,33 +165,33 @@ stepped-is : (e : Event) (h : Host) (a : Answer)
     → nodeStepped logodwen (wordOf e) (inWords a h)
     ≡ nodeHost (h .asked) (does e h .turn)
     (flashOf logodwen (onWords (entryOf e (h .buffer))) (nodeIn (h .state)) (wordsOf 2 (h .flash))) (bufferOf e h)
-stepped-is (Event.Requested clock link bc errors packet m) h a = refl
+stepped-is (Event.Requested clock link bc errors packet m x) h a = refl
 stepped-is (Event.Replied clock slave bc errors status address packet) h a = refl
 stepped-is (Event.Polled clock) h a = refl
 stepped-is (Event.Erased budget) h a = refl
 
 node-is : (e : Event) (h : Host)
     → nodeAfter logodwen (onWords (entryOf e (h .buffer))) (nodeIn (h .state)) (wordsOf 2 (h .flash)) ≡ does e h .turn .node
-node-is (Event.Requested clock link bc errors packet m) h = refl
+node-is (Event.Requested clock link bc errors packet m x) h = refl
 node-is (Event.Replied clock slave bc errors status address packet) h = refl
 node-is (Event.Polled clock) h = refl
 node-is (Event.Erased budget) h = refl
 
 answer-is : (e : Event) (h : Host) → answerIn (entryOf e (h .buffer)) (h .state) (h .flash) ≡ does e h .turn .answer
-answer-is (Event.Requested clock link bc errors packet m) h = refl
+answer-is (Event.Requested clock link bc errors packet m x) h = refl
 answer-is (Event.Replied clock slave bc errors status address packet) h = refl
 answer-is (Event.Polled clock) h = refl
 answer-is (Event.Erased budget) h = refl
 
 buffer-is : {first : List ℕ} (e : Event) (h : Host) → Holds first h → Made (entryOf e (h .buffer)) (h .state) (h .flash)
     → stepped entries e h .buffer ≡ storeWords 2 (bufferOf e h) (h .buffer)
-buffer-is (Event.Requested clock link bc errors packet m) h k made = ap (λ (a : Answered). a .runs .reply) (made .does)
+buffer-is (Event.Requested clock link bc errors packet m x) h k made = ap (λ (a : Answered). a .runs .reply) (made .does)
 buffer-is (Event.Replied clock slave bc errors status address packet) h k made = ap (λ (a : Answered). a .runs .reply) (made .does)
 buffer-is (Event.Polled clock) h k made = ap (λ (a : Answered). a .runs .reply) (made .does)
 buffer-is (Event.Erased budget) h k made = sym (kept-reply (h .buffer) (k .long) (k .bytes))
 
 in-c : (e : Event) (buffer : List ℕ) → InC (entryOf e []) → Below 256 buffer → InC (entryOf e buffer)
-in-c (Event.Requested clock link bc errors packet m) buffer c b = (c .0, c .1, c .2, c .3, c .4, c .5, c .6, c .7, b)
+in-c (Event.Requested clock link bc errors packet m x) buffer c b = (c .0, c .1, c .2, c .3, c .4, c .5, c .6, c .7, b)
 in-c (Event.Replied clock slave bc errors status address packet) buffer c b = (c .0, c .1, c .2, c .3, c .4, c .5, c .6, b)
 in-c (Event.Polled clock) buffer c b = (c .0, b)
 in-c (Event.Erased budget) buffer c b = c
@@ -253,14 +253,14 @@ none-asked e h u =
     ap (λ (t : Bool). h .asked ++ pick (t && eqb (number / 256 % 256) 2) (number / 65536 % 256 ∷ []) []) u ∙ append-nil (h .asked)
 
 pub undone-same : (e : Event) (h : Host) → isDone (stepped entries e h .number) ≡ false → Same e h
-undone-same (Event.Requested clock link bc errors packet m) h u =
+undone-same (Event.Requested clock link bc errors packet m x) h u =
     let s : Stays _ (h .state) (lent (h .flash) m (h .buffer)) =
     refused-exactly .request clock link bc errors packet (h .state) (lent (h .flash) m (h .buffer)) .1 (eqb-false _ 0 u) in
     record {
       state = s .bytes;
       flash = ap (λ (l : Lent). l .flash) (s .lent);
       buffer = ap (λ (l : Lent). l .reply) (s .lent);
-      asked = none-asked (Event.Requested clock link bc errors packet m) h u;
+      asked = none-asked (Event.Requested clock link bc errors packet m x) h u;
     }
 undone-same (Event.Replied clock slave bc errors status address packet) h u =
     let s = refused-exactly .reply clock slave bc errors status address packet (h .state) (h .buffer) .1 (eqb-false _ 0 u) in
@@ -414,10 +414,10 @@ module _ {first : List ℕ} (h : Host) (k : Holds first h) (p : isPending (h .st
 
   -- .. a request and erase progress are, if they are done
   pub request-called : (clock link bc errors : ℕ) (packet : List ℕ) (m : Memories)
-      → let e : Event = Event.Requested clock link bc errors packet m in
+      → let e : Event = Event.Requested clock link bc errors packet m x in
       InC (entryOf e []) → isDone (stepped entries e h .number) ≡ true → Called first (wordOf e) e h
   request-called clock link bc errors packet m c d =
-      let e : Event = Event.Requested clock link bc errors packet m in
+      let e : Event = Event.Requested clock link bc errors packet m x in
       let l : Lent = lent (wordsOf 2 (h .flash)) (memoryWords m) buffer in
       done-called first e h k c d
       (left (h .buffer) (k .bytes) (busy-leaves n clock link bc (isSet errors) (wordsOf 2 packet) l pending))

@@ -157,10 +157,10 @@ module _ (link : ℕ) (first : List ℕ) (e : Event) (es : List Event) (h : Host
 -- one entry, by its kind
 carry : (link : ℕ) (first : List ℕ) (e : Event) (es : List Event) (h : Host) (a : Answer) → isPending (h .state) ≡ true
     → Undropped link (callOf e) → Holds first h → InC (entryOf e []) → Rest link first e es h → Carried link first (e ∷ es) h a
-carry link first (Event.Requested clock l bc errors packet m) es h a p u k c rest = by (isDone (stepped entries e h .number)) refl
+carry link first (Event.Requested clock l bc errors packet m x) es h a p u k c rest = by (isDone (stepped entries e h .number)) refl
   where
     e : Event
-    e = Event.Requested clock l bc errors packet m
+    e = Event.Requested clock l bc errors packet m x
 
     by : (t : Bool) → isDone (stepped entries e h .number) ≡ t → Carried link first (e ∷ es) h a
     by true d = carry-call link first e es h a p u refl (request-called h k p clock l bc errors packet m c d) rest

@@ -61,7 +61,7 @@ summary-is-true state flash h clock link bc m reply c whole done =
     let words : List ℕ = wordsOf 2 flash in
     let d = delivered clock link bc 0 packet m reply state flash done refl whole (omega arith) (omega arith) in
     let r =
-    word-summary (nodeIn state) words (s .reached) clock link bc false (wordsOf 2 packet) (memoryWords m) (replyWords reply) d refl refl
-    ∙ ap (λ (e : Erasing). handed (nodeIn state) (lent words (memoryWords m) (replyWords reply)) (directoryOf words e)) (erasing-is state) in
+    word-summary (nodeIn state) words (s .reached) clock link bc false (wordsOf 2 packet) (memoryWords m) (furtherWords x) (replyWords reply) d refl refl
+    ∙ ap (λ (e : Erasing). handed (nodeIn state) (lent words (memoryWords m) (furtherWords x) (replyWords reply)) (directoryOf words e)) (erasing-is state) in
     let size = length-directory words (erasingIn state) in
     handed-bytes clock link bc 0 packet m reply state flash done c (s .below) (directoryOf words (erasingIn state)) (omega arith) r

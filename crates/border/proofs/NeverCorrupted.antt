@@ -153,9 +153,9 @@ asked-is {packet} {header} (inr e) =
     record { word = 0x462E; words = ap (wordsOf 2) e ∙ load-words header; command = refl; size = omega arith }
 
 -- a request that is done, on a flash of bench size
-module _ (clock link bc errors : ℕ) (packet state flash : List ℕ) (m : Memories) (reply : List ℕ) where
+module _ (clock link bc errors : ℕ) (packet state flash : List ℕ) (m : Memories) (x : Further) (reply : List ℕ) where
   abbrev asks : Entry
-  asks = Entry.Request clock link bc errors packet m reply
+  asks = Entry.Request clock link bc errors packet m x reply
 
   fine : Made asks state flash → RequestFine state (length flash / 2) (length (m .pm) / 4) (length (m .dm) / 2) (length (m .io) / 2) (length reply / 2)
   fine made = request-fine link _ state _ _ _ _ _ (made .fine)
@@ -166,40 +166,40 @@ module _ (clock link bc errors : ℕ) (packet state flash : List ℕ) (m : Memor
   reply-stays b long =
       ap (λ (x : List ℕ). storeWords 2 x reply) (laid-none (replyWords reply) 0) ∙ reply-laid reply [] b long (omega arith) ∙ sym (laid-none reply 0)
 
-aborts : (clock link bc : ℕ) (packet header state flash : List ℕ) (m : Memories) (reply : List ℕ) (s : ℕ)
-    → let asked : Entry = Entry.Request clock link bc 0 packet m reply in
+aborts : (clock link bc : ℕ) (packet header state flash : List ℕ) (m : Memories) (x : Further) (reply : List ℕ) (s : ℕ)
+    → let asked : Entry = Entry.Request clock link bc 0 packet m x reply in
     InC asked → U8s flash → (packet ≡ fileRead header) ⊎ (packet ≡ fileLoad header) → length header / 2 ≡ 1 → bc % 4 ≡ 3
     → isDone (numberAfter entries asked state flash) ≡ true → sectorIn state ≡ 0 → namedIn state header ≡ Target.At s
     → ((file : List ℕ) → Names state flash header s file → ⊥)
-    → answerOf entries asked state flash ≡ answered abortNumber (withFault state) (lent flash m reply)
+    → answerOf entries asked state flash ≡ answered abortNumber (withFault state) (lent flash m x reply)
 aborts clock link bc packet header state flash m reply s c b p one whole done quiet named bad =
     let a = asked-is p in
-    let made : Made (Entry.Request clock link bc 0 packet m reply) state flash =
-    done-made (Entry.Request clock link bc 0 packet m reply) state flash done in
+    let made : Made (Entry.Request clock link bc 0 packet m x reply) state flash =
+    done-made (Entry.Request clock link bc 0 packet m x reply) state flash done in
     let f = fine clock link bc 0 packet state flash m reply made in
     let size : length packet / 2 ≡ 2 = omega (arith, a .size) in
     let command = ap (λ (x : List ℕ). isCommand 0x05 x || isCommand 0x46 x) (a .words) ∙ a .command in
     let d = delivered clock link bc 0 packet m reply state flash done refl whole (omega arith) (omega arith) in
     let does =
-    words-never .aborts (nodeIn state) clock link bc false (wordsOf 2 packet) (runWords (lent flash m reply)) s command d
+    words-never .aborts (nodeIn state) clock link bc false (wordsOf 2 packet) (runWords (lent flash m x reply)) s command d
     (length-words-of 2 packet ∙ size) (no-erasing state quiet) (named-by state packet header (a .word) (a .words) ∙ named)
     (λ file names. bad (bytesOf 2 file) (names-bytes state flash (f .bytes) b (f .bench) s packet header (a .word) (a .words) file names)) in
     made .does
-    ∙ ap (λ (o : Outcome). told (inBytes o (lent flash m reply))) does
+    ∙ ap (λ (o : Outcome). told (inBytes o (lent flash m x reply))) does
     ∙ (λ i. answered abortNumber (fault-bytes state (f .bytes) i)
     (lent (bytes-kept 2 flash b i) (memories-kept m (c .5) (c .6) (c .7) i) (reply-stays clock link bc 0 packet state flash m reply (c .8) (f .buffer) i)))
 
 -- what Read hands out, in bytes
-hands-out : (clock link bc errors : ℕ) (header state flash : List ℕ) (m : Memories) (reply : List ℕ) (code words : ℕ)
-    → let read : Entry = Entry.Request clock link bc errors (fileRead header) m reply in
+hands-out : (clock link bc errors : ℕ) (header state flash : List ℕ) (m : Memories) (x : Further) (reply : List ℕ) (code words : ℕ)
+    → let read : Entry = Entry.Request clock link bc errors (fileRead header) m x reply in
     InC read → U8s flash → InBits (numberAfter entries read state flash) 1 code 0 words → 0 < words
-    → Did handed state header (lent flash m reply) (answerOf entries read state flash)
+    → Did handed state header (lent flash m x reply) (answerOf entries read state flash)
 hands-out clock link bc errors header state flash m reply code words c b n some =
     let done : isDone number ≡ true = eq-eqb (number % 256) 0 (n .done) in
     by done (answerIn read state flash) refl (nothing-cut read state flash done)
   where
     read : Entry
-    read = Entry.Request clock link bc errors (fileRead header) m reply
+    read = Entry.Request clock link bc errors (fileRead header) m x reply
 
     number : ℕ
     number = numberAfter entries read state flash
@@ -208,8 +208,8 @@ hands-out clock link bc errors header state flash m reply code words c b n some 
     packet = wordsOf 2 (fileRead header)
 
     hands : isDone number ≡ true → (r : Reply) → r .words ≤ 12288 → answerIn read state flash ≡ Answer.Reply r
-        → WordsDid handedWords (nodeIn state) packet (runWords (lent flash m reply)) (requestOf (nodeIn state) clock link bc (isSet errors) packet (runWords (lent flash m reply)))
-        → Did handed state header (lent flash m reply) (answerOf entries read state flash)
+        → WordsDid handedWords (nodeIn state) packet (runWords (lent flash m x reply)) (requestOf (nodeIn state) clock link bc (isSet errors) packet (runWords (lent flash m x reply)))
+        → Did handed state header (lent flash m x reply) (answerOf entries read state flash)
     hands done r most e did =
         let f = fine clock link bc errors (fileRead header) state flash m reply (done-made read state flash done) in
         let short : length (did .file) + 2 ≤ 12288 =
@@ -220,45 +220,45 @@ hands-out clock link bc errors header state flash m reply code words c b n some 
           names = names-bytes state flash (f .bytes) b (f .bench) (did .sector) (fileRead header) header 0x052E (read-words header) (did .file) (did .names);
           is =
               handed-bytes clock link bc errors (fileRead header) m reply state flash done c b (did .file) (omega arith) (did .is)
-              ∙ ap (handed state (lent flash m reply)) (sym (file-is state flash (f .bytes) b (f .bench) (did .sector) (fileRead header) header 0x052E (read-words header) (did .file) (did .names)));
+              ∙ ap (handed state (lent flash m x reply)) (sym (file-is state flash (f .bytes) b (f .bench) (did .sector) (fileRead header) header 0x052E (read-words header) (did .file) (did .names)));
         }
 
-    by : isDone number ≡ true → (a : Answer) → answerIn read state flash ≡ a → Says number a × Bounds a → Did handed state header (lent flash m reply) (answerOf entries read state flash)
+    by : isDone number ≡ true → (a : Answer) → answerIn read state flash ≡ a → Says number a × Bounds a → Did handed state header (lent flash m x reply) (answerOf entries read state flash)
     by done (Answer.Refused r) e q = absurd (q .0)
     by done Answer.Started e q = absurd (omega (arith, n .kind, q .0 .kind))
     by done (Answer.Reply r) e q =
         let same : r .words ≡ words = sym (q .0 .words) ∙ n .words in
         hands done r (q .1 .1) e
-        (words-never .hands-out (nodeIn state) clock link bc (isSet errors) packet (runWords (lent flash m reply)) r (ap (isCommand 0x05) (read-words header)) e (omega arith))
+        (words-never .hands-out (nodeIn state) clock link bc (isSet errors) packet (runWords (lent flash m x reply)) r (ap (isCommand 0x05) (read-words header)) e (omega arith))
     by done (Answer.Ask a) e q = absurd (omega (arith, n .kind, q .0 .kind))
     by done Answer.Waiting e q = absurd (omega (arith, n .kind, q .0 .kind))
     by done (Answer.Erased k) e q = absurd (omega (arith, n .kind, q .0 .kind))
 
 -- an entry that is refused leaves the memories
-left-memories : (clock link bc errors : ℕ) (packet state flash : List ℕ) (m : Memories) (reply : List ℕ)
-    → isDone (numberAfter entries (Entry.Request clock link bc errors packet m reply) state flash) ≡ false
-    → answerOf entries (Entry.Request clock link bc errors packet m reply) state flash .runs .memories ≡ m
+left-memories : (clock link bc errors : ℕ) (packet state flash : List ℕ) (m : Memories) (x : Further) (reply : List ℕ)
+    → isDone (numberAfter entries (Entry.Request clock link bc errors packet m x reply) state flash) ≡ false
+    → answerOf entries (Entry.Request clock link bc errors packet m x reply) state flash .runs .memories ≡ m
 left-memories clock link bc errors packet state flash m reply h =
-    ap (λ (l : Lent). l .memories) (refused-exactly .request clock link bc errors packet state (lent flash m reply) .1 (eqb-false (numberAfter entries (Entry.Request clock link bc errors packet m reply) state flash % 256) 0 h) .lent)
+    ap (λ (l : Lent). l .memories) (refused-exactly .request clock link bc errors packet state (lent flash m x reply) .1 (eqb-false (numberAfter entries (Entry.Request clock link bc errors packet m x reply) state flash % 256) 0 h) .lent)
 
 -- what Load loads
-loads : (clock link bc errors : ℕ) (header state flash : List ℕ) (m : Memories) (reply : List ℕ)
-    → let load : Entry = Entry.Request clock link bc errors (fileLoad header) m reply in
+loads : (clock link bc errors : ℕ) (header state flash : List ℕ) (m : Memories) (x : Further) (reply : List ℕ)
+    → let load : Entry = Entry.Request clock link bc errors (fileLoad header) m x reply in
     InC load → U8s flash → (numberAfter entries load state flash ≡ endNumber) ⊎ (answerOf entries load state flash .runs .memories ≡ m → ⊥)
-    → Did loaded state header (lent flash m reply) (answerOf entries load state flash)
+    → Did loaded state header (lent flash m x reply) (answerOf entries load state flash)
 loads clock link bc errors header state flash m reply c b h = by (isDone (numberAfter entries load state flash)) refl
   where
     load : Entry
-    load = Entry.Request clock link bc errors (fileLoad header) m reply
+    load = Entry.Request clock link bc errors (fileLoad header) m x reply
 
     packet : List ℕ
     packet = wordsOf 2 (fileLoad header)
 
     does : Outcome
-    does = requestOf (nodeIn state) clock link bc (isSet errors) packet (runWords (lent flash m reply))
+    does = requestOf (nodeIn state) clock link bc (isSet errors) packet (runWords (lent flash m x reply))
 
-    did-bytes : isDone (numberAfter entries load state flash) ≡ true → WordsDid loadedWords (nodeIn state) packet (runWords (lent flash m reply)) does
-        → Did loaded state header (lent flash m reply) (answerOf entries load state flash)
+    did-bytes : isDone (numberAfter entries load state flash) ≡ true → WordsDid loadedWords (nodeIn state) packet (runWords (lent flash m x reply)) does
+        → Did loaded state header (lent flash m x reply) (answerOf entries load state flash)
     did-bytes done did =
         let made = done-made load state flash done in
         let f = fine clock link bc errors (fileLoad header) state flash m reply made in
@@ -268,10 +268,10 @@ loads clock link bc errors header state flash m reply c b h = by (isDone (number
           names = names-bytes state flash (f .bytes) b (f .bench) (did .sector) (fileLoad header) header 0x462E (load-words header) (did .file) (did .names);
           is =
               made .does
-              ∙ ap (λ (o : Outcome). told (inBytes o (lent flash m reply))) (did .is)
+              ∙ ap (λ (o : Outcome). told (inBytes o (lent flash m x reply))) (did .is)
               ∙ (λ i. answered endNumber (encoded-decoded state (f .bytes) i)
               (lent (bytes-kept 2 flash b i) (memoriesLeft (allStored (fileSegments (did .file)) (memoryWords m)) m) (reply-stays clock link bc errors (fileLoad header) state flash m reply (c .8) (f .buffer) i)))
-              ∙ ap (loaded state (lent flash m reply)) (sym (file-is state flash (f .bytes) b (f .bench) (did .sector) (fileLoad header) header 0x462E (load-words header) (did .file) (did .names)));
+              ∙ ap (loaded state (lent flash m x reply)) (sym (file-is state flash (f .bytes) b (f .bench) (did .sector) (fileLoad header) header 0x462E (load-words header) (did .file) (did .names)));
         }
 
     changed : isDone (numberAfter entries load state flash) ≡ true → (does .turn .answer ≡ end) ⊎ (does .after .memories ≡ memoryWords m → ⊥)
@@ -280,27 +280,27 @@ loads clock link bc errors header state flash m reply c b h = by (isDone (number
         (λ q. inr (λ e. q (ap (λ (a : Answered). a .runs .memories) (done-made load state flash done .does) ∙ ap (λ (x : Memories). memoriesLeft x m) e ∙ memories-kept m (c .5) (c .6) (c .7))))
         h
 
-    by : (t : Bool) → isDone (numberAfter entries load state flash) ≡ t → Did loaded state header (lent flash m reply) (answerOf entries load state flash)
+    by : (t : Bool) → isDone (numberAfter entries load state flash) ≡ t → Did loaded state header (lent flash m x reply) (answerOf entries load state flash)
     by true done =
-        did-bytes done (words-never .loads (nodeIn state) clock link bc (isSet errors) packet (runWords (lent flash m reply)) (ap (isCommand 0x46) (load-words header)) (changed done))
+        did-bytes done (words-never .loads (nodeIn state) clock link bc (isSet errors) packet (runWords (lent flash m x reply)) (ap (isCommand 0x46) (load-words header)) (changed done))
     by false done =
         absurd (⊎-elim (λ e. false≢true (sym done ∙ ap isDone e)) (λ q. q (left-memories clock link bc errors (fileLoad header) state flash m reply done)) h)
 
 -- the requests that change no memory
-leaves : (clock link bc errors : ℕ) (packet state flash : List ℕ) (m : Memories) (reply : List ℕ)
-    → let asked : Entry = Entry.Request clock link bc errors packet m reply in
+leaves : (clock link bc errors : ℕ) (packet state flash : List ℕ) (m : Memories) (x : Further) (reply : List ℕ)
+    → let asked : Entry = Entry.Request clock link bc errors packet m x reply in
     let words : List ℕ = wordsOf 2 packet in
-    InC asked → (isCommand 0x46 words || isCommand 0x0F words || isCommand 0x50 words || isCommand 0x51 words) ≡ false
+    InC asked → (isCommand 0x46 bc words || isCommand 0x0F bc words || isCommand 0x50 bc words || isCommand 0x51 bc words) ≡ false
     → answerOf entries asked state flash .runs .memories ≡ m
 leaves clock link bc errors packet state flash m reply c h = by (isDone (numberAfter entries asked state flash)) refl
   where
     asked : Entry
-    asked = Entry.Request clock link bc errors packet m reply
+    asked = Entry.Request clock link bc errors packet m x reply
 
     by : (t : Bool) → isDone (numberAfter entries asked state flash) ≡ t → answerOf entries asked state flash .runs .memories ≡ m
     by true done =
         ap (λ (a : Answered). a .runs .memories) (done-made asked state flash done .does)
-        ∙ ap (λ (x : Memories). memoriesLeft x m) (words-never .leaves (nodeIn state) clock link bc (isSet errors) (wordsOf 2 packet) (runWords (lent flash m reply)) h)
+        ∙ ap (λ (x : Memories). memoriesLeft x m) (words-never .leaves (nodeIn state) clock link bc (isSet errors) (wordsOf 2 packet) (runWords (lent flash m x reply)) h)
         ∙ memories-kept m (c .5) (c .6) (c .7)
     by false done = left-memories clock link bc errors packet state flash m reply done
 

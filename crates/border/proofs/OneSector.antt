@@ -149,8 +149,8 @@ erase-bench budget state flash m = erase-fine state (length flash / 2) (m .fine)
 
 pub one-sector : OneSector entries
 one-sector (Entry.Start kind ports subdetector program version tests clock) state flash b = refl
-one-sector (Entry.Request clock link bc errors packet m reply) state flash b =
-    made-within (Entry.Request clock link bc errors packet m reply) state flash b
+one-sector (Entry.Request clock link bc errors packet m x reply) state flash b =
+    made-within (Entry.Request clock link bc errors packet m x reply) state flash b
     (λ d. request-fine link (length packet / 2) state (length flash / 2) (length (m .pm) / 4) (length (m .dm) / 2) (length (m .io) / 2)
     (length reply / 2) (d .fine) .bench)
 one-sector (Entry.Reply clock slave bc errors status address packet reply) state flash b = refl
@@ -177,7 +177,7 @@ step-bytes budget state flash i m h =
 set-bytes : (e : Entry) (state flash : List ℕ) (i : ℕ) → Made e state flash
     → SetWords (onWords e) (nodeIn state) (wordsOf 2 flash) (i / 2) → SetByErasing e state i
 set-bytes (Entry.Start kind ports subdetector program version tests clock) state flash i m h = h
-set-bytes (Entry.Request clock link bc errors packet m reply) state flash i d h = h
+set-bytes (Entry.Request clock link bc errors packet m x reply) state flash i d h = h
 set-bytes (Entry.Reply clock slave bc errors status address packet reply) state flash i m h = h
 set-bytes (Entry.Poll clock reply) state flash i m h = h
 set-bytes (Entry.Erase budget) state flash i m h = step-bytes budget state flash i m h

@@ -50,12 +50,12 @@ read-words header = words-two 0x2E 0x05 header
 pub name-words : (file : List ℕ) → length file % 2 ≡ 0 → fileName (wordsOf 2 file) ≡ nameIn file
 name-words file even = ap nameOf (first-word file even)
 
-module _ (state flash : List ℕ) (st : Stands state flash) (clock link bc errors : ℕ) (file : List ℕ) (m : Memories) (reply : List ℕ)
-    (c : InC (Entry.Request clock link bc errors (fileWrite file) m reply)) (even : length file % 2 ≡ 0)
-    (h : numberAfter entries (Entry.Request clock link bc errors (fileWrite file) m reply) state flash ≡ endNumber) where
+module _ (state flash : List ℕ) (st : Stands state flash) (clock link bc errors : ℕ) (file : List ℕ) (m : Memories) (x : Further) (reply : List ℕ)
+    (c : InC (Entry.Request clock link bc errors (fileWrite file) m x reply)) (even : length file % 2 ≡ 0)
+    (h : numberAfter entries (Entry.Request clock link bc errors (fileWrite file) m x reply) state flash ≡ endNumber) where
   -- the entry, the state and the flash after it, and the node's call that it is
   abbrev write : Entry
-  write = Entry.Request clock link bc errors (fileWrite file) m reply
+  write = Entry.Request clock link bc errors (fileWrite file) m x reply
 
   abbrev state₁ : List ℕ
   state₁ = stateAfter entries write state flash
@@ -70,7 +70,7 @@ module _ (state flash : List ℕ) (st : Stands state flash) (clock link bc error
   packet = wordsOf 2 (fileWrite file)
 
   abbrev o : Outcome
-  o = requestOf (nodeIn state) clock link bc (isSet errors) packet (lent words (memoryWords m) (replyWords reply))
+  o = requestOf (nodeIn state) clock link bc (isSet errors) packet (lent words (memoryWords m) (furtherWords x) (replyWords reply))
 
   made : Made write state flash
   made = done-made write state flash (ap isDone h)
@@ -97,7 +97,7 @@ module _ (state flash : List ℕ) (st : Stands state flash) (clock link bc error
   -- it was written, by the words of a flash of bench size
   written : WordsWritten logodwen words sent o
   written =
-      words-back (nodeIn state) words (st .reached) clock link bc (isSet errors) packet (memoryWords m) (replyWords reply)
+      words-back (nodeIn state) words (st .reached) clock link bc (isSet errors) packet (memoryWords m) (furtherWords x) (replyWords reply)
       (words-of-below (fileWrite file) (c .4)) (ap (isCommand 0x45) (write-words file)) (ended-answer write state flash h)
 
   abbrev s : ℕ

@@ -65,14 +65,14 @@ reached-stands n words state flash r s b e w f k =
 -- what the C types say of the node's call
 pub lends : (e : Entry) → InC e → Lends16 (onWords e)
 lends (Entry.Start kind ports subdetector program version tests clock) c = tt
-lends (Entry.Request clock link bc errors packet m reply) c = words-of-below packet (c .4)
+lends (Entry.Request clock link bc errors packet m x reply) c = words-of-below packet (c .4)
 lends (Entry.Reply clock slave bc errors status address packet reply) c = tt
 lends (Entry.Poll clock reply) c = tt
 lends (Entry.Erase budget) c = tt
 
 clocked : (e : Entry) → InC e → Clocked (onWords e)
 clocked (Entry.Start kind ports subdetector program version tests clock) c = (c .3, c .4, c .5, c .6)
-clocked (Entry.Request clock link bc errors packet m reply) c = c .0
+clocked (Entry.Request clock link bc errors packet m x reply) c = c .0
 clocked (Entry.Reply clock slave bc errors status address packet reply) c = c .0
 clocked (Entry.Poll clock reply) c = c .0
 clocked (Entry.Erase budget) c = tt

@@ -32,7 +32,7 @@ use Rattle.border.proofs.Exactly.{refused-exactly}
 abbrev pub checkOf : Entry → List ℕ → List ℕ → Verdict
 checkOf (Entry.Start kind ports subdetector program version tests clock) state flash =
     startCheck kind ports subdetector state (length flash / 2)
-checkOf (Entry.Request clock link bc errors packet m reply) state flash =
+checkOf (Entry.Request clock link bc errors packet m x reply) state flash =
     requestCheck link (length packet / 2) state (length flash / 2) (length (m .pm) / 4) (length (m .dm) / 2) (length (m .io) / 2)
     (length reply / 2)
 checkOf (Entry.Reply clock slave bc errors status address packet reply) state flash =
@@ -42,7 +42,7 @@ checkOf (Entry.Erase budget) state flash = eraseCheck state (length flash / 2)
 
 abbrev pub runsOf : Entry → List ℕ → Lent
 runsOf (Entry.Start kind ports subdetector program version tests clock) flash = lentReply []
-runsOf (Entry.Request clock link bc errors packet m reply) flash = lent flash m reply
+runsOf (Entry.Request clock link bc errors packet m x reply) flash = lent flash m x reply
 runsOf (Entry.Reply clock slave bc errors status address packet reply) flash = lentReply reply
 runsOf (Entry.Poll clock reply) flash = lentReply reply
 runsOf (Entry.Erase budget) flash = lentFlash flash
@@ -50,8 +50,8 @@ runsOf (Entry.Erase budget) flash = lentFlash flash
 abbrev pub outcomeOf : Entry → List ℕ → List ℕ → Outcome
 outcomeOf (Entry.Start kind ports subdetector program version tests clock) state flash =
     outcome (startOf kind ports subdetector program version tests clock (wordsOf 2 flash)) (lentReply [])
-outcomeOf (Entry.Request clock link bc errors packet m reply) state flash =
-    requestOf (nodeIn state) clock link bc (isSet errors) (wordsOf 2 packet) (runWords (lent flash m reply))
+outcomeOf (Entry.Request clock link bc errors packet m x reply) state flash =
+    requestOf (nodeIn state) clock link bc (isSet errors) (wordsOf 2 packet) (runWords (lent flash m x reply))
 outcomeOf (Entry.Reply clock slave bc errors status address packet reply) state flash =
     replyOf (nodeIn state) clock slave bc (isSet errors) status address (wordsOf 2 packet) (replyWords reply)
 outcomeOf (Entry.Poll clock reply) state flash = pollOf (nodeIn state) clock (replyWords reply)
@@ -61,7 +61,7 @@ entry-is : (e : Entry) (state flash : List ℕ)
     → answerOf entries e state flash ≡ entered (checkOf e state flash) state (runsOf e flash) (outcomeOf e state flash)
 unfolding startEntry requestEntry replyEntry pollEntry eraseEntry
 entry-is (Entry.Start kind ports subdetector program version tests clock) state flash = refl
-entry-is (Entry.Request clock link bc errors packet m reply) state flash = refl
+entry-is (Entry.Request clock link bc errors packet m x reply) state flash = refl
 entry-is (Entry.Reply clock slave bc errors status address packet reply) state flash = refl
 entry-is (Entry.Poll clock reply) state flash = refl
 entry-is (Entry.Erase budget) state flash = refl
@@ -69,7 +69,7 @@ entry-is (Entry.Erase budget) state flash = refl
 -- its parts are those of the node's call: the answer ..
 answer-is : (e : Entry) (state flash : List ℕ) → outcomeOf e state flash .turn .answer ≡ answerIn e state flash
 answer-is (Entry.Start kind ports subdetector program version tests clock) state flash = refl
-answer-is (Entry.Request clock link bc errors packet m reply) state flash = refl
+answer-is (Entry.Request clock link bc errors packet m x reply) state flash = refl
 answer-is (Entry.Reply clock slave bc errors status address packet reply) state flash = refl
 answer-is (Entry.Poll clock reply) state flash = refl
 answer-is (Entry.Erase budget) state flash = refl
@@ -93,7 +93,7 @@ node-is : (e : Entry) (state flash : List ℕ) → checkOf e state flash ≡ Ver
     → outcomeOf e state flash .turn .node ≡ nodeAfter logodwen (onWords e) (nodeIn state) (wordsOf 2 flash)
 node-is (Entry.Start kind ports subdetector program version tests clock) state flash h =
     no _ (start-taken kind ports subdetector program version tests clock state flash h) refl
-node-is (Entry.Request clock link bc errors packet m reply) state flash h = refl
+node-is (Entry.Request clock link bc errors packet m x reply) state flash h = refl
 node-is (Entry.Reply clock slave bc errors status address packet reply) state flash h = refl
 node-is (Entry.Poll clock reply) state flash h = refl
 node-is (Entry.Erase budget) state flash h = refl
@@ -103,14 +103,14 @@ flash-is : (e : Entry) (state flash : List ℕ) → Below 256 flash
     → flashLeft e (told (inBytes (outcomeOf e state flash) (runsOf e flash))) flash
     ≡ storeWords 2 (flashOf logodwen (onWords e) (nodeIn state) (wordsOf 2 flash)) flash
 flash-is (Entry.Start kind ports subdetector program version tests clock) state flash b = sym (bytes-kept 2 flash b)
-flash-is (Entry.Request clock link bc errors packet m reply) state flash b = refl
+flash-is (Entry.Request clock link bc errors packet m x reply) state flash b = refl
 flash-is (Entry.Reply clock slave bc errors status address packet reply) state flash b = sym (bytes-kept 2 flash b)
 flash-is (Entry.Poll clock reply) state flash b = sym (bytes-kept 2 flash b)
 flash-is (Entry.Erase budget) state flash b = refl
 
 flash-left : (e : Entry) (number : ℕ) (state flash : List ℕ) → flashLeft e (answered number state (runsOf e flash)) flash ≡ flash
 flash-left (Entry.Start kind ports subdetector program version tests clock) number state flash = refl
-flash-left (Entry.Request clock link bc errors packet m reply) number state flash = refl
+flash-left (Entry.Request clock link bc errors packet m x reply) number state flash = refl
 flash-left (Entry.Reply clock slave bc errors status address packet reply) number state flash = refl
 flash-left (Entry.Poll clock reply) number state flash = refl
 flash-left (Entry.Erase budget) number state flash = refl
@@ -193,8 +193,8 @@ pub undone-left : (e : Entry) (state flash : List ℕ) → isDone (numberAfter e
     → stateAfter entries e state flash ≡ state
 undone-left (Entry.Start kind ports subdetector program version tests clock) state flash h =
     refused-exactly .start kind ports subdetector program version tests clock flash state .1 (undone _ h) .bytes
-undone-left (Entry.Request clock link bc errors packet m reply) state flash h =
-    refused-exactly .request clock link bc errors packet state (lent flash m reply) .1 (undone _ h) .bytes
+undone-left (Entry.Request clock link bc errors packet m x reply) state flash h =
+    refused-exactly .request clock link bc errors packet state (lent flash m x reply) .1 (undone _ h) .bytes
 undone-left (Entry.Reply clock slave bc errors status address packet reply) state flash h =
     refused-exactly .reply clock slave bc errors status address packet state reply .1 (undone _ h) .bytes
 undone-left (Entry.Poll clock reply) state flash h = refused-exactly .poll clock state reply .1 (undone _ h) .bytes
@@ -203,8 +203,8 @@ undone-left (Entry.Erase budget) state flash h = refused-exactly .erase budget s
 -- and the flash bytes
 pub undone-flash : (e : Entry) (state flash : List ℕ) → isDone (numberAfter entries e state flash) ≡ false → flashAfter entries e state flash ≡ flash
 undone-flash (Entry.Start kind ports subdetector program version tests clock) state flash h = refl
-undone-flash (Entry.Request clock link bc errors packet m reply) state flash h =
-    ap (λ (l : Lent). l .flash) (refused-exactly .request clock link bc errors packet state (lent flash m reply) .1 (undone _ h) .lent)
+undone-flash (Entry.Request clock link bc errors packet m x reply) state flash h =
+    ap (λ (l : Lent). l .flash) (refused-exactly .request clock link bc errors packet state (lent flash m x reply) .1 (undone _ h) .lent)
 undone-flash (Entry.Reply clock slave bc errors status address packet reply) state flash h = refl
 undone-flash (Entry.Poll clock reply) state flash h = refl
 undone-flash (Entry.Erase budget) state flash h = ap (λ (l : Lent). l .flash) (refused-exactly .erase budget state flash .1 (undone _ h) .lent)

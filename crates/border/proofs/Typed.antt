@@ -47,7 +47,7 @@ pub record Small (n : Node) : Type 0 where
 abbrev pub Clocked : Call → Type 0
 Clocked (Call.Start kind ports subdetector program version tests clock) =
     (program < 65536) × (version < 65536) × (tests < 65536) × (clock < 4294967296)
-Clocked (Call.Request clock link bc errors packet m reply) = clock < 4294967296
+Clocked (Call.Request clock link bc errors packet m x reply) = clock < 4294967296
 Clocked (Call.Reply clock slave bc errors status address words reply) = clock < 4294967296
 Clocked (Call.Poll clock reply) = clock < 4294967296
 Clocked (Call.Erase budget) = Unit {0}
@@ -148,8 +148,8 @@ unfolding requestOf replyOf pollOf eraseOf
 call-small (Call.Start kind ports subdetector program version tests clock) n flash c s =
     pick-case Small (isRefused (startOf kind ports subdetector program version tests clock flash .answer)) (λ _. s)
     (λ _. start-small kind ports subdetector program version tests clock flash c)
-call-small (Call.Request clock link bc errors packet m reply) n flash c s =
-    let l : Lent = lent flash m reply in
+call-small (Call.Request clock link bc errors packet m x reply) n flash c s =
+    let l : Lent = lent flash m x reply in
     judged-small (verdictOn n link packet l) n l (requestEffect n clock link bc errors packet l) s
     (request-asked n clock link bc errors packet l c (s .asked))
 call-small (Call.Reply clock slave bc errors status address words reply) n flash c s =

@@ -35,7 +35,7 @@ writes state flash hosted quiet clock link bc file m reply c whole done even val
     let count : length file ≡ length sent * 2 = omega (arith, ap length sent-is, length-words-of 2 file) in
     let bench =
     request-fine link (length (fileWrite file) / 2) state (length flash / 2) (length (m .pm) / 4) (length (m .dm) / 2)
-    (length (m .io) / 2) (length reply / 2) (done-made (Entry.Request clock link bc 0 (fileWrite file) m reply) state flash done .fine) .bench in
+    (length (m .io) / 2) (length reply / 2) (done-made (Entry.Request clock link bc 0 (fileWrite file) m x reply) state flash done .fine) .bench in
     let most : length (fileWrite file) / 2 ≤ 8192 = omega (arith, count, t .room, size-most 2048 s) in
     let d = delivered clock link bc 0 (fileWrite file) m reply state flash done refl whole (omega arith) most in
     let name : fileName sent ≡ nameIn file = ap fileName sent-is ∙ name-words file even in
