@@ -45,6 +45,7 @@ pub fn ask(
     pm: &mut [u32],
     dm: &mut [u16],
     io: &mut [u16],
+    area: &mut [u16],
     reply: &mut [u16],
 ) -> After {
     let n = base::least(asked.words, words.len());
@@ -59,6 +60,7 @@ pub fn ask(
         pm,
         dm,
         io,
+        area,
         reply,
     );
     let answer = turn.answer;

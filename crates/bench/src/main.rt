@@ -69,6 +69,14 @@ fn io_room() -> [u16; 4096]
     [0; 4096]
 }
 
+// The area in which the packets of a file join, zeroed at power-up.
+fn area_room() -> [u16; 32768]
+    ensures { λ r. ⌜ r ≡ replicate 32768 0 ⌝ }
+    ensures { λ r. ⌜ length r ≡ 32768 ⌝ }
+{
+    [0; 32768]
+}
+
 // The assembly area, zeroed at power-up, which is lent as the reply buffer.
 fn reply_room() -> [u16; 12288]
     ensures { λ r. ⌜ r ≡ replicate 12288 0 ⌝ }
@@ -160,11 +168,24 @@ fn act(
     pm: &mut [u32],
     dm: &mut [u16],
     io: &mut [u16],
+    area: &mut [u16],
     reply: &mut [u16],
 ) -> After {
     match said {
         Said::Nothing => quiet(node, kept),
-        Said::Request(asked) => ask(asked, node, kept, words, held, flash, pm, dm, io, reply),
+        Said::Request(asked) => ask(
+            asked,
+            node,
+            kept,
+            words,
+            held,
+            flash,
+            pm,
+            dm,
+            io,
+            area,
+            reply,
+        ),
         Said::Reply(heard) => hear(heard, node, kept, words, held, reply),
         Said::Poll => poll(node, kept, held, reply),
         Said::Erase(budget) => erase(budget, node, kept, flash),
@@ -195,6 +216,7 @@ fn turn(
     pm: &mut [u32],
     dm: &mut [u16],
     io: &mut [u16],
+    area: &mut [u16],
     reply: &mut [u16],
 ) -> After {
     let kept = counted(before, cut);
@@ -209,7 +231,19 @@ fn turn(
         };
     }
     let said = lines::parse(line, words);
-    act(said, node, kept, words, held, flash, pm, dm, io, reply)
+    act(
+        said,
+        node,
+        kept,
+        words,
+        held,
+        flash,
+        pm,
+        dm,
+        io,
+        area,
+        reply,
+    )
 }
 
 // The end of the input, after so many lines: whether it was read to its end.
@@ -228,6 +262,7 @@ fn main() {
     let mut pm = pm_room();
     let mut dm = dm_room();
     let mut io = io_room();
+    let mut area = area_room();
     let mut reply = reply_room();
     let mut after = After {
         node: start(&flash),
@@ -264,6 +299,7 @@ fn main() {
             &mut pm,
             &mut dm,
             &mut io,
+            &mut area,
             &mut reply,
         );
         if !after.told {

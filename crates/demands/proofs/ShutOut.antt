@@ -284,6 +284,7 @@ joins-header : AnyDivision hoarding → ⊥
 unfolding masksOk stateOk startVerdict requestVerdict routeOf startOf requestOf
 joins-header w =
     eqb-false 1 0 refl (ap (λ (n : Node). wordsIn (n .writing)) (w .stands 0 (started logodwen .node) blank (replicate 32768 0) refl _ _ _ _ (Sent.First 0 2 [] (memories [] [] []) (replicate 12288 0) refl (leb-true 0 8191 refl) refl) .0))
+
 standing : Node
 standing = withWriting (started logodwen .node) (Writing.File (joining 0 0))
 

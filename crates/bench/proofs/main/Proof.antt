@@ -8,12 +8,12 @@ use Rattle.bench.proofs.main.Statement.{statement}
 use Rattle.bench.proofs.main.Tie as tie
 
 abbrev Inv-loop : tie.InvT-loop
-Inv-loop bytes₀ words₀ held₀ flash₀ pm₀ dm₀ io₀ reply₀ after₀ line₀ turns₀ bytes words held flash pm dm io reply after line turns =
+Inv-loop bytes₀ words₀ held₀ flash₀ pm₀ dm₀ io₀ area₀ reply₀ after₀ line₀ turns₀ bytes words held flash pm dm io area reply after line turns =
     (((length bytes ≡ 200000) × (length words ≡ 40000)) × ((length held ≡ 8192) × (length flash ≡ 32768)))
-    × (((length pm ≡ 32768) × (length dm ≡ 32768)) × ((length io ≡ 4096) × (length reply ≡ 12288)))
+    × (((length pm ≡ 32768) × (length dm ≡ 32768)) × (((length io ≡ 4096) × (length area ≡ 32768)) × (length reply ≡ 12288)))
 
 abbrev μ-loop : tie.MeasureT-loop
-μ-loop bytes₀ words₀ held₀ flash₀ pm₀ dm₀ io₀ reply₀ after₀ line₀ turns₀ bytes words held flash pm dm io reply after line turns = turns
+μ-loop bytes₀ words₀ held₀ flash₀ pm₀ dm₀ io₀ area₀ reply₀ after₀ line₀ turns₀ bytes words held flash pm dm io area reply after line turns = turns
 
 line-room-requires : tie.Need-line-room-requires Inv-loop μ-loop
 line-room-requires c κs = search needs
@@ -35,6 +35,9 @@ dm-room-requires c κs = search needs
 
 io-room-requires : tie.Need-io-room-requires Inv-loop μ-loop
 io-room-requires c κs = search needs
+
+area-room-requires : tie.Need-area-room-requires Inv-loop μ-loop
+area-room-requires c κs = search needs
 
 reply-room-requires : tie.Need-reply-room-requires Inv-loop μ-loop
 reply-room-requires c κs = search needs
@@ -96,6 +99,9 @@ slice-aggregate-turn-6 c = search needs
 slice-aggregate-turn-7 : tie.Need-slice-aggregate-turn-7 Inv-loop μ-loop
 slice-aggregate-turn-7 c = search needs
 
+slice-aggregate-turn-8 : tie.Need-slice-aggregate-turn-8 Inv-loop μ-loop
+slice-aggregate-turn-8 c = search needs
+
 turn-requires : tie.Need-turn-requires Inv-loop μ-loop
 turn-requires c κs = search needs
 
@@ -111,7 +117,7 @@ loop-less c = omega (arith, c .before .before .before .before .before .before .b
 loop-again : tie.Need-loop-again Inv-loop μ-loop
 loop-again c = (
   ((c .before .before .before .before .before .before .before .before .before .before .before .before .before .before .before .before .before .before .before .before .before .before .before .before .next-line .kept .0 ∙ c .before .before .before .before .before .before .before .before .before .before .before .before .before .before .before .before .before .before .before .before .before .before .before .before .before .before .before .loop .inv .0 .0 .0, search needs), (search needs, search needs)),
-  ((search needs, search needs), (search needs, search needs)),
+  ((search needs, search needs), ((search needs, search needs), search needs)),
 )
 
 returns-3 : tie.Need-returns-3 Inv-loop μ-loop
@@ -130,6 +136,7 @@ main-spec =
     pm-room-requires
     dm-room-requires
     io-room-requires
+    area-room-requires
     reply-room-requires
     slice-aggregate-start
     start-requires
@@ -150,6 +157,7 @@ main-spec =
     slice-aggregate-turn-5
     slice-aggregate-turn-6
     slice-aggregate-turn-7
+    slice-aggregate-turn-8
     turn-requires
     say-unwritten-requires
     returns-2

@@ -44,6 +44,9 @@ same-length-5 c = search needs
 same-length-6 : tie.Need-same-length-6
 same-length-6 c = search needs
 
+same-length-7 : tie.Need-same-length-7
+same-length-7 c = search needs
+
 returns : tie.Need-returns
 returns c = search needs
 
@@ -64,4 +67,5 @@ ask-spec =
     same-length-4
     same-length-5
     same-length-6
+    same-length-7
     returns)
