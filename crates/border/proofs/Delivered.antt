@@ -1,4 +1,4 @@
--- A request that is done, without receive errors and with BC 11, is delivered to the node; and what the node then hands out stands in the
+-- A request that is done, without receive errors and with BC 11, from a link of which no write stands, is delivered to the node; and what the node then hands out stands in the
 -- bytes of the reply run. Assumes nothing.
 use Prim.Native.Nat.{ℕ, _+_, _/_, _%_, _≤_}
 use native.Mathlib.Omega.{arith}
@@ -12,27 +12,32 @@ use Rattle.base.proofs.Part.{below-take}
 use Rattle.base.proofs.Laid.{length-laid, laid-append-left}
 use Rattle.group.specs.Ending.{trailer}
 use Rattle.memory.specs.Segment.{Memories, memories}
-use Rattle.node.specs.Effect.{Lent, lent, Outcome, sealedWords}
+use Rattle.node.specs.Effect.{Further, further, Lent, lent, Outcome, sealedWords}
 use Rattle.node.specs.Settings.{statusIn}
 use Rattle.node.specs.Calls.{requestOf}
 use Rattle.demands.specs.Machine.{logodwen}
-use Rattle.demands.specs.Requests.{Delivered, handed as handedWords}
+use Rattle.demands.specs.Requests.{Arrives, Delivered, handed as handedWords}
 use Rattle.codec.specs.Bytes.{wordsOf, bytesOf, storeWords}
 use Rattle.codec.specs.StateBytes.{nodeIn}
 use Rattle.logodwen.specs.Number.{answerNumber}
-use Rattle.logodwen.specs.Entry.{answered, memoryWords, memoriesLeft, replyWords, inBytes, told, isSet}
+use Rattle.logodwen.specs.Entry.{answered, memoryWords, memoriesLeft, furtherWords, furtherLeft, replyWords, inBytes, told, isSet}
 use Rattle.codec.proofs.Runs.{length-bytes, length-words-of}
 use Rattle.logodwen.proofs.Entering.{request-fine}
 use Rattle.codec.proofs.ThereAndBack.{encoded-decoded, bytes-kept}
 use Rattle.border.specs.Exactly.{entries}
 use Rattle.border.specs.Host.{Entry, InC, U8s, answerOf, numberAfter, isDone}
 use Rattle.border.specs.Answers.{wholeNumber, handed}
+use Rattle.border.specs.Files.{Stands}
 use Rattle.border.proofs.Runs.{store-laid}
+use Rattle.border.proofs.Brings.{free-told}
 use Rattle.border.proofs.Steps.{Made, done-made, done-taken}
 
 -- the bytes of memories, and of a reply buffer with words laid at its front
 pub memories-kept : (m : Memories) → U8s (m .pm) → U8s (m .dm) → U8s (m .io) → memoriesLeft (memoryWords m) m ≡ m
 memories-kept m p d o i = memories (bytes-kept 4 (m .pm) p i) (bytes-kept 2 (m .dm) d i) (bytes-kept 2 (m .io) o i)
+
+pub further-kept : (x : Further) → U8s (x .area) → furtherLeft (furtherWords x) x ≡ x
+further-kept x a i = further (bytes-kept 2 (x .area) a i)
 
 pub reply-laid : (reply ws : List ℕ) → U8s reply → 12288 ≤ length reply / 2 → length ws ≤ 12288 → storeWords 2 (laid (replyWords reply) 0 ws) reply ≡ laid reply 0 (bytesOf 2 ws)
 reply-laid reply ws b long short =
@@ -50,7 +55,7 @@ reply-laid reply ws b long short =
     ∙ sym (laid-append-left front rest 0 (bytesOf 2 ws) (omega arith))
     ∙ ap (λ (x : List ℕ). laid x 0 (bytesOf 2 ws)) split
 
-module _ (clock link bc errors : ℕ) (packet : List ℕ) (m : Memories) (reply state flash : List ℕ) where
+module _ (clock link bc errors : ℕ) (packet : List ℕ) (m : Memories) (x : Further) (reply state flash : List ℕ) where
   abbrev asked : Entry
   asked = Entry.Request clock link bc errors packet m x reply
 
@@ -68,26 +73,30 @@ module _ (clock link bc errors : ℕ) (packet : List ℕ) (m : Memories) (reply 
     pub number-is : numberAfter entries asked state flash ≡ answerNumber (does .turn .answer)
     number-is = made .number
 
-    pub delivered : isSet errors ≡ false → bc % 4 ≡ 3 → 1 ≤ length packet / 2 → length packet / 2 ≤ 8192
-        → Delivered logodwen (nodeIn state) clock link bc (isSet errors) (wordsOf 2 packet) l
-    delivered clean whole least most =
+    pub arrives : isSet errors ≡ false → (bc % 4 ≡ 3 → Stands state link → ⊥) → 1 ≤ length packet / 2 → length packet / 2 ≤ 8192
+        → Arrives logodwen (nodeIn state) clock link bc (isSet errors) (wordsOf 2 packet) l
+    arrives clean free least most =
         let k = length-words-of 2 packet in
         record {
           taken = done-taken (does .turn .answer) (ap isDone (sym number-is) ∙ done);
           clean = clean;
           least = omega arith;
           most = omega arith;
-          whole = whole;
+          free = λ b. free-told state link (free b);
         }
+
+    pub delivered : isSet errors ≡ false → bc % 4 ≡ 3 → (Stands state link → ⊥) → 1 ≤ length packet / 2 → length packet / 2 ≤ 8192
+        → Delivered logodwen (nodeIn state) clock link bc (isSet errors) (wordsOf 2 packet) l
+    delivered clean whole free least most = record { arrives = arrives clean (λ _. free) least most; whole = whole }
 
     -- what was read is handed out, in bytes: every other byte stays
     pub handed-bytes : InC asked → U8s flash → (ws : List ℕ) → length ws ≤ 12286 → does ≡ handedWords (nodeIn state) l ws
         → answerOf entries asked state flash ≡ handed state (lent flash m x reply) ws
     handed-bytes c b ws short e =
-        let fine = request-fine link _ state _ _ _ _ _ (made .fine) in
+        let fine = request-fine link _ state _ _ _ _ _ _ (made .fine) in
         let ws′ : List ℕ = sealedWords (statusIn (nodeIn state)) ws in
         let n = length-append ws (trailer ws (statusIn (nodeIn state))) in
         made .does
         ∙ ap (λ (o : Outcome). told (inBytes o (lent flash m x reply))) e
         ∙ (λ i. answered (wholeNumber (length ws + 2)) (encoded-decoded state (fine .bytes) i)
-        (lent (bytes-kept 2 flash b i) (memories-kept m (c .5) (c .6) (c .7) i) (reply-laid reply ws′ (c .8) (fine .buffer) (omega arith) i)))
+        (lent (bytes-kept 2 flash b i) (memories-kept m (c .5) (c .6) (c .7) i) (further-kept x (c .8) i) (reply-laid reply ws′ (c .9) (fine .buffer) (omega arith) i)))

@@ -11,7 +11,7 @@ use lib.Dec.{ltb, eqb}
 use borrow.Author.Tests.{ltb-false, eqb-true, not-false}
 use Rattle.node.specs.Effect.{Lent}
 use Rattle.node.specs.Valid.{sizeOk, kindOk, portsOk}
-use Rattle.node.specs.Refusals.{cause, flashCause, replyCause, memoryCause, linkCause, slaveCause, stateCause, busyCause, pollCause, unaskedCause, requestVerdict, replyVerdict, pollVerdict, eraseVerdict, startVerdict}
+use Rattle.node.specs.Refusals.{cause, flashCause, replyCause, memoryCause, areaCause, linkCause, slaveCause, stateCause, busyCause, pollCause, unaskedCause, requestVerdict, replyVerdict, pollVerdict, eraseVerdict, startVerdict}
 use Rattle.node.specs.declared.Refusal.{Refusal}
 use Rattle.node.specs.declared.Verdict.{Verdict}
 use Rattle.node.proofs.Verdicts.{fine-tells}
@@ -36,7 +36,7 @@ buffer-no reply h = ap (λ (n : ℕ). ltb n 12288) (reply-long reply h)
 
 pub request-fine : (link : ℕ) (packet state : List ℕ) (runs : Lent)
     → requestCheck link (length packet / 2) state (length (runs .flash) / 2) (length (runs .memories .pm) / 4)
-    (length (runs .memories .dm) / 2) (length (runs .memories .io) / 2) (length (runs .reply) / 2)
+    (length (runs .memories .dm) / 2) (length (runs .memories .io) / 2) (length (runs .further .area) / 2) (length (runs .reply) / 2)
     ≡ Verdict.Fine
     → verdictOn (nodeIn state) link (wordsOf 2 packet) (runWords runs) ≡ Verdict.Fine
 unfolding requestCheck requestVerdict
@@ -46,21 +46,23 @@ request-fine link packet state runs h =
     let pm = length (runs .memories .pm) / 4 in
     let dm = length (runs .memories .dm) / 2 in
     let io = length (runs .memories .io) / 2 in
+    let area = length (runs .further .area) / 2 in
     let none =
     fine-tells
-    (benchCause state flash ∷ replyCause (length (runs .reply) / 2) ∷ memoriesCause pm dm io ∷ portCause state link ∷ bytesCause state
+    (benchCause state flash ∷ replyCause (length (runs .reply) / 2) ∷ memoriesCause pm dm io ∷ areaCause area ∷ portCause state link ∷ bytesCause state
     ∷ busyCause n (length packet / 2) ∷ [])
     h in
-    let s = none .1 .1 .1 .1 .0 in
+    let s = none .1 .1 .1 .1 .1 .0 in
     (λ i. requestVerdict n link (length-words-of 2 packet i) (length-words-of 2 (runs .flash) i) (length-words-of 4 (runs .memories .pm) i)
-    (length-words-of 2 (runs .memories .dm) i) (length-words-of 2 (runs .memories .io) i) (length (replyWords (runs .reply))))
+    (length-words-of 2 (runs .memories .dm) i) (length-words-of 2 (runs .memories .io) i) (length-words-of 2 (runs .further .area) i)
+    (length (replyWords (runs .reply))))
     ∙ none-refuses
-    (flashCause n flash ∷ replyCause (length (replyWords (runs .reply))) ∷ memoryCause pm dm io ∷ linkCause n link ∷ stateCause n
+    (flashCause n flash ∷ replyCause (length (replyWords (runs .reply))) ∷ memoryCause pm dm io ∷ areaCause area ∷ linkCause n link ∷ stateCause n
     ∷ busyCause n (length packet / 2) ∷ []) (
       flash-no state flash s (none .0),
       (
         buffer-no (runs .reply) (none .1 .0),
-        (memory-no pm dm io (none .1 .1 .0), (link-no state link s (none .1 .1 .1 .0), (state-no state s, (none .1 .1 .1 .1 .1 .0, tt)))),
+        (memory-no pm dm io (none .1 .1 .0), (none .1 .1 .1 .0, (link-no state link s (none .1 .1 .1 .1 .0), (state-no state s, (none .1 .1 .1 .1 .1 .1 .0, tt))))),
       ),
     )
 

@@ -5,8 +5,9 @@ use native.Mathlib.Omega.{arith}
 use mathlib.Core.Path.{_≡_, refl, sym, ap, _∙_}
 use mathlib.Core.Bool.{false}
 use mathlib.Core.List.{List, [], _∷_, _++_, append-assoc}
-use lib.ListN.{length, drop, length-append}
-use lib.Seq.{drop-at}
+use lib.ListN.{length, length-append}
+use Rattle.base.specs.Words.{part}
+use Rattle.base.proofs.Part.{part-append}
 use Rattle.flash.specs.Directory.{directoryOf}
 use Rattle.flash.specs.declared.Erasing.{Erasing}
 use Rattle.flash.proofs.Entries.{length-directory}
@@ -16,9 +17,9 @@ use Rattle.demands.specs.Requests.{handed}
 use Rattle.demands.proofs.NoStaleRecord.{no-stale-record as word-record, summary-is-true as word-summary}
 use Rattle.codec.specs.Bytes.{valueOf, wordsIn, wordsOf, bytesOf}
 use Rattle.codec.specs.Places.{packed}
-use Rattle.codec.specs.StateBytes.{sizes, numbersOf, encodeOf, nodeIn}
+use Rattle.codec.specs.StateBytes.{sizes, numbersOf, writeBytes, encodeOf, nodeIn}
 use Rattle.codec.specs.Kept.{Typed}
-use Rattle.logodwen.specs.Entry.{memoryWords, replyWords}
+use Rattle.logodwen.specs.Entry.{memoryWords, furtherWords, replyWords}
 use Rattle.codec.proofs.Runs.{length-bytes}
 use Rattle.codec.proofs.Encoding.{length-numbers}
 use Rattle.codec.proofs.ThereAndBack.{encoded-decoded}
@@ -33,15 +34,15 @@ unfolding nodeIn
 erasing-is state = refl
 
 -- the directory stands behind the numbers and the masks
-pub directory-bytes : (n : Node) → Typed n → drop 108 (encodeOf n) ≡ bytesOf 2 (n .directory)
+pub directory-bytes : (n : Node) → Typed n → part (encodeOf n) 108 64 ≡ bytesOf 2 (n .directory)
 unfolding encodeOf
 directory-bytes n t =
     let numbers = packed sizes (numbersOf n) in
     let masks = bytesOf 4 (n .masks) in
     let long : length (numbers ++ masks) ≡ 108 =
     length-append numbers masks ∙ omega (arith, length-numbers n, length-bytes 4 (n .masks), t .masks) in
-    ap (drop 108) (sym (append-assoc numbers masks (bytesOf 2 (n .directory))))
-    ∙ drop-at (numbers ++ masks) (bytesOf 2 (n .directory)) 108 long
+    ap (λ (x : List ℕ). part x 108 64) (sym (append-assoc numbers masks (bytesOf 2 (n .directory) ++ writeBytes (n .writing))))
+    ∙ part-append (numbers ++ masks) (bytesOf 2 (n .directory)) (writeBytes (n .writing)) 108 64 long (omega (arith, length-bytes 2 (n .directory), t .directory))
 
 pub always-state : AlwaysState entries
 always-state state flash h = hosted-stands h .bytes
@@ -49,19 +50,19 @@ always-state state flash h = hosted-stands h .bytes
 pub no-stale-record : NoStaleRecord entries
 no-stale-record state flash h =
     let s = hosted-stands h in
-    ap (drop 108) (sym (encoded-decoded state (s .bytes)))
+    ap (λ (x : List ℕ). part x 108 64) (sym (encoded-decoded state (s .bytes)))
     ∙ directory-bytes (nodeIn state) (stands-typed state flash s)
     ∙ ap (bytesOf 2) (word-record (nodeIn state) (wordsOf 2 flash) (s .reached) ∙ ap (directoryOf (wordsOf 2 flash)) (erasing-is state))
 
 pub summary-is-true : SummaryIsTrue entries
 unfolding wordsOf wordsIn valueOf
-summary-is-true state flash h clock link bc m reply c whole done =
+summary-is-true state flash h clock link bc m x reply c whole free done =
     let s = hosted-stands h in
     let packet : List ℕ = 0x2E ∷ 0x07 ∷ [] in
     let words : List ℕ = wordsOf 2 flash in
-    let d = delivered clock link bc 0 packet m reply state flash done refl whole (omega arith) (omega arith) in
+    let d = delivered clock link bc 0 packet m x reply state flash done refl whole free (omega arith) (omega arith) in
     let r =
     word-summary (nodeIn state) words (s .reached) clock link bc false (wordsOf 2 packet) (memoryWords m) (furtherWords x) (replyWords reply) d refl refl
     ∙ ap (λ (e : Erasing). handed (nodeIn state) (lent words (memoryWords m) (furtherWords x) (replyWords reply)) (directoryOf words e)) (erasing-is state) in
     let size = length-directory words (erasingIn state) in
-    handed-bytes clock link bc 0 packet m reply state flash done c (s .below) (directoryOf words (erasingIn state)) (omega arith) r
+    handed-bytes clock link bc 0 packet m x reply state flash done c (s .below) (directoryOf words (erasingIn state)) (omega arith) r

@@ -16,7 +16,7 @@ use Rattle.demands.proofs.Refusals.{state-tells}
 use Rattle.demands.proofs.Tests.{Tells}
 use Rattle.codec.specs.Bytes.{digitsOf, numberAt, bytesOf}
 use Rattle.codec.specs.Places.{packed}
-use Rattle.codec.specs.StateBytes.{waitOf, pendingOf, sizes, numbersOf, encodeOf, waitIn, nodeIn, areState}
+use Rattle.codec.specs.StateBytes.{waitOf, pendingOf, sizes, numbersOf, standingOf, writeSizes, writeNumbers, writeBytes, encodeOf, waitIn, nodeIn, areState}
 use Rattle.codec.specs.Kept.{Typed}
 use Rattle.codec.proofs.Runs.{length-words}
 use Rattle.codec.proofs.ThereAndBack.{decoded-encoded, encoded-decoded}
@@ -35,8 +35,9 @@ below-packed (k ∷ ks) (x ∷ xs) i = below-append (digitsOf k x) (packed ks xs
 pub below-encoded : (n : Node) → Below 256 (encodeOf n)
 unfolding encodeOf
 below-encoded n =
-    below-append (packed sizes (numbersOf n)) (bytesOf 4 (n .masks) ++ bytesOf 2 (n .directory)) (below-packed sizes (numbersOf n))
-    (below-append (bytesOf 4 (n .masks)) (bytesOf 2 (n .directory)) (below-bytes 4 (n .masks)) (below-bytes 2 (n .directory)))
+    below-append (packed sizes (numbersOf n)) (bytesOf 4 (n .masks) ++ (bytesOf 2 (n .directory) ++ writeBytes (n .writing))) (below-packed sizes (numbersOf n))
+    (below-append (bytesOf 4 (n .masks)) (bytesOf 2 (n .directory) ++ writeBytes (n .writing)) (below-bytes 4 (n .masks))
+    (below-append (bytesOf 2 (n .directory)) (writeBytes (n .writing)) (below-bytes 2 (n .directory)) (below-packed writeSizes (writeNumbers (standingOf (n .writing))))))
 
 -- what is read has the size of its bytes
 

@@ -2,60 +2,62 @@
 use Prim.Native.Nat.{ℕ, _+_, _*_, _/_, _%_, _≤_}
 use native.Mathlib.Omega.{arith}
 use mathlib.Core.Path.{_≡_, refl, sym, ap, _∙_, subst}
-use mathlib.Core.Bool.{false}
+use mathlib.Core.Bool.{true, false, _&&_}
 use mathlib.Core.List.{List, _∷_}
-use lib.ListN.{length, getD, drop}
+use lib.ListN.{length, getD}
+use lib.Dec.{eqb}
 use Rattle.base.specs.Words.{laid}
-use Rattle.base.proofs.Part.{below-drop}
 use Rattle.image.specs.Header.{nameOf}
 use Rattle.flash.specs.Geometry.{unitOf, startOf}
 use Rattle.flash.proofs.Geometry.{sector-fits}
 use Rattle.memory.specs.Segment.{Memories}
-use Rattle.node.specs.Effect.{lent, Outcome}
+use Rattle.node.specs.Effect.{Further, lent, Outcome}
+use Rattle.node.specs.Route.{firstByte, secondByte}
 use Rattle.node.specs.Calls.{requestOf}
 use Rattle.node.specs.declared.Node.{Node}
 use Rattle.demands.specs.Machine.{logodwen}
-use Rattle.demands.specs.Requests.{isCommand}
+use Rattle.demands.specs.Requests.{isCommand, brought}
 use Rattle.demands.specs.Files.{IsFile, fileName, Unused as WordsUnused, Written as WordsWritten, Runs as Calls}
 use Rattle.demands.proofs.ReadsBack.{reads-back as words-back}
 use Rattle.codec.specs.Bytes.{valueOf, wordsOf, bytesOf, storeWords}
 use Rattle.codec.specs.StateBytes.{nodeIn}
-use Rattle.logodwen.specs.Entry.{memoryWords, replyWords, isSet}
+use Rattle.logodwen.specs.Entry.{memoryWords, furtherWords, replyWords, isSet}
 use Rattle.codec.proofs.Runs.{length-words-of}
 use Rattle.logodwen.proofs.Entering.{request-fine}
 use Rattle.codec.proofs.Small.{size-most}
 use Rattle.border.specs.Exactly.{entries}
 use Rattle.border.specs.Host.{Entry, InC, numberAfter, stateAfter, flashAfter, isDone}
 use Rattle.border.specs.Answers.{endNumber, handed}
-use Rattle.border.specs.Files.{fileWrite, fileRead, nameIn, sectorIn, sectorByte}
+use Rattle.border.specs.Files.{fileRead, nameIn, sectorIn, sectorByte}
 use Rattle.border.specs.ReadsBack.{Runs, Reads, Written, ReadsBack}
 use Rattle.border.proofs.Runs.{words-of-below, words-two, first-word, words-bytes-of, store-laid}
 use Rattle.border.proofs.Sectors.{unused-bytes, takes-words, takes-bytes}
 use Rattle.border.proofs.Steps.{Made, done-made}
 use Rattle.border.proofs.Stands.{Stands, Moved, made-moves, hosted-stands}
+use Rattle.border.proofs.Brings.{Brought, brings-told}
 use Rattle.border.proofs.Delivered.{delivered, handed-bytes}
 use Rattle.border.proofs.Follows.{no-erasing, Follows, run-follows}
 use Rattle.border.proofs.Answers.{ended-answer}
 
--- the words of the two packets
-pub write-words : (file : List ℕ) → wordsOf 2 (fileWrite file) ≡ 0x452E ∷ wordsOf 2 file
-unfolding valueOf
-write-words file = words-two 0x2E 0x45 file
-
+-- the words of a File Read
 pub read-words : (header : List ℕ) → wordsOf 2 (fileRead header) ≡ 0x052E ∷ wordsOf 2 header
 unfolding valueOf
 read-words header = words-two 0x2E 0x05 header
+
+-- the words of a packet name its command, whole
+pub read-command : (bc : ℕ) (header : List ℕ) → bc % 4 ≡ 3 → isCommand 0x05 bc (wordsOf 2 (fileRead header)) ≡ true
+read-command bc header b i = eqb (b i) 3 && (eqb (firstByte (getD (read-words header i) 0 0)) 0x2E && eqb (secondByte (getD (read-words header i) 0 0)) 0x05)
 
 -- a file's name, by its words
 pub name-words : (file : List ℕ) → length file % 2 ≡ 0 → fileName (wordsOf 2 file) ≡ nameIn file
 name-words file even = ap nameOf (first-word file even)
 
-module _ (state flash : List ℕ) (st : Stands state flash) (clock link bc errors : ℕ) (file : List ℕ) (m : Memories) (x : Further) (reply : List ℕ)
-    (c : InC (Entry.Request clock link bc errors (fileWrite file) m x reply)) (even : length file % 2 ≡ 0)
-    (h : numberAfter entries (Entry.Request clock link bc errors (fileWrite file) m x reply) state flash ≡ endNumber) where
+module _ (state flash : List ℕ) (st : Stands state flash) (clock link bc errors : ℕ) (packet : List ℕ) (m : Memories) (x : Further) (reply : List ℕ)
+    (c : InC (Entry.Request clock link bc errors packet m x reply)) (file : List ℕ) (b : Brought state link bc packet x file)
+    (h : numberAfter entries (Entry.Request clock link bc errors packet m x reply) state flash ≡ endNumber) where
   -- the entry, the state and the flash after it, and the node's call that it is
   abbrev write : Entry
-  write = Entry.Request clock link bc errors (fileWrite file) m x reply
+  write = Entry.Request clock link bc errors packet m x reply
 
   abbrev state₁ : List ℕ
   state₁ = stateAfter entries write state flash
@@ -66,11 +68,8 @@ module _ (state flash : List ℕ) (st : Stands state flash) (clock link bc error
   abbrev words : List ℕ
   words = wordsOf 2 flash
 
-  abbrev packet : List ℕ
-  packet = wordsOf 2 (fileWrite file)
-
   abbrev o : Outcome
-  o = requestOf (nodeIn state) clock link bc (isSet errors) packet (lent words (memoryWords m) (furtherWords x) (replyWords reply))
+  o = requestOf (nodeIn state) clock link bc (isSet errors) (wordsOf 2 packet) (lent words (memoryWords m) (furtherWords x) (replyWords reply))
 
   made : Made write state flash
   made = done-made write state flash (ap isDone h)
@@ -80,33 +79,33 @@ module _ (state flash : List ℕ) (st : Stands state flash) (clock link bc error
 
   -- the file's words
   abbrev sent : List ℕ
-  sent = drop 1 packet
+  sent = brought (nodeIn state) bc (wordsOf 2 packet) (furtherWords x)
 
   sent-is : sent ≡ wordsOf 2 file
-  sent-is = ap (drop 1) (write-words file)
+  sent-is = b .is
 
   count : length file ≡ length sent * 2
-  count = omega (arith, ap length sent-is, length-words-of 2 file)
+  count = omega (arith, ap length sent-is, length-words-of 2 file, b .even)
 
   sent-bytes : bytesOf 2 sent ≡ file
-  sent-bytes = ap (bytesOf 2) sent-is ∙ words-bytes-of file (below-drop 2 (fileWrite file) (c .4)) even
+  sent-bytes = ap (bytesOf 2) sent-is ∙ words-bytes-of file (b .below) (b .even)
 
   named : nameIn file ≡ fileName sent
-  named = sym (ap fileName sent-is ∙ name-words file even)
+  named = sym (ap fileName sent-is ∙ name-words file (b .even))
 
   -- it was written, by the words of a flash of bench size
   written : WordsWritten logodwen words sent o
   written =
-      words-back (nodeIn state) words (st .reached) clock link bc (isSet errors) packet (memoryWords m) (furtherWords x) (replyWords reply)
-      (words-of-below (fileWrite file) (c .4)) (ap (isCommand 0x45) (write-words file)) (ended-answer write state flash h)
+      words-back (nodeIn state) words (st .reached) clock link bc (isSet errors) (wordsOf 2 packet) (memoryWords m) (furtherWords x) (replyWords reply)
+      (words-of-below packet (c .4)) (b .write) (ended-answer write state flash h)
 
   abbrev s : ℕ
   s = written .sector
 
   bench : length flash / 2 ≡ 32768
   bench =
-      request-fine link (length (fileWrite file) / 2) state (length flash / 2) (length (m .pm) / 4) (length (m .dm) / 2)
-      (length (m .io) / 2) (length reply / 2) (made .fine) .bench
+      request-fine link (length packet / 2) state (length flash / 2) (length (m .pm) / 4) (length (m .dm) / 2)
+      (length (m .io) / 2) (length (x .area) / 2) (length reply / 2) (made .fine) .bench
 
   unit : unitOf words ≡ 2048
   unit = ap (λ (k : ℕ). k / 16) (length-words-of 2 flash ∙ bench)
@@ -137,16 +136,16 @@ module _ (state flash : List ℕ) (st : Stands state flash) (clock link bc error
         (subst (λ (ws : List ℕ). from (nameIn file) (nodeIn state₁) ws) (moved .words) (follows .calls)))
 
     file-reads : Reads entries file later after
-    file-reads clock′ link′ bc′ header m′ reply′ c′ whole two name done =
+    file-reads clock′ link′ bc′ header m′ x′ reply′ c′ whole free two name done =
         let asked : List ℕ = wordsOf 2 (fileRead header) in
         let words-two : length asked ≡ 2 = length-words-of 2 (fileRead header) ∙ omega arith in
         let word = ap (λ (x : List ℕ). getD x 1 0) (read-words header) ∙ first-word header (omega arith) in
-        let d = delivered clock′ link′ bc′ 0 (fileRead header) m′ reply′ later after done refl whole (omega arith) (omega arith) in
+        let d = delivered clock′ link′ bc′ 0 (fileRead header) m′ x′ reply′ later after done refl whole free (omega arith) (omega arith) in
         let answers =
-        written .reads (nodeIn later) (wordsOf 2 after) calls (no-erasing later quiet) short clock′ link′ bc′ false asked (memoryWords m′)
-        (replyWords reply′) (ap (isCommand 0x05) (read-words header)) words-two (ap nameOf word ∙ name ∙ named) d in
-        handed-bytes clock′ link′ bc′ 0 (fileRead header) m′ reply′ later after done c′ (follows .stands .below) sent short answers
-        ∙ ap (handed later (lent after m′ reply′)) sent-is
+        written .reads (nodeIn later) (wordsOf 2 after) calls (no-erasing later quiet) short clock′ link′ bc′ false asked (memoryWords m′) (furtherWords x′)
+        (replyWords reply′) (read-command bc′ header whole) words-two (ap nameOf word ∙ name ∙ named) d in
+        handed-bytes clock′ link′ bc′ 0 (fileRead header) m′ x′ reply′ later after done c′ (follows .stands .below) sent short answers
+        ∙ ap (handed later (lent after m′ x′ reply′)) sent-is
 
   file-written : Written entries file flash state₁ flash₁
   file-written =
@@ -161,5 +160,8 @@ module _ (state flash : List ℕ) (st : Stands state flash) (clock link bc error
       }
 
 pub reads-back : ReadsBack entries
-reads-back state flash hosted clock link bc errors file m reply c even h =
-    file-written state flash (hosted-stands hosted) clock link bc errors file m reply c even h
+reads-back state flash hosted clock link bc errors packet m x reply c file b even h =
+    let st = hosted-stands hosted in
+    let made = done-made (Entry.Request clock link bc errors packet m x reply) state flash (ap isDone h) in
+    let room = request-fine link _ state _ _ _ _ _ _ (made .fine) .area in
+    file-written state flash st clock link bc errors packet m x reply c file (brings-told state link bc packet x (c .4) (c .8) even (st .bytes) room file b) h
