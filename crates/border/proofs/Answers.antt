@@ -44,7 +44,7 @@ use Rattle.demands.proofs.Taken.{verdictOn, requestEffect}
 use Rattle.codec.specs.Bytes.{wordsOf}
 use Rattle.codec.specs.StateBytes.{nodeIn, areState}
 use Rattle.logodwen.specs.Number.{fields, answerNumber}
-use Rattle.logodwen.specs.Entry.{memoryWords, replyWords, isSet}
+use Rattle.logodwen.specs.Entry.{memoryWords, replyWords, isSet, furtherWords}
 use Rattle.codec.proofs.Runs.{length-words, length-words-of}
 use Rattle.logodwen.proofs.Entering.{reply-fine, poll-fine, erase-fine}
 use Rattle.codec.proofs.Small.{size-most}
@@ -199,10 +199,10 @@ entry-bounds : (e : Entry) (state flash : List ℕ) → Made e state flash → i
 unfolding requestOf replyOf pollOf eraseOf
 entry-bounds (Entry.Start kind ports subdetector program version tests clock) state flash m t =
     subst Bounds (sym (start-begins kind ports subdetector program version tests clock state flash (m .fine))) tt
-entry-bounds (Entry.Request clock link bc errors packet mem reply) state flash m t =
+entry-bounds (Entry.Request clock link bc errors packet mem x reply) state flash m t =
     let n = nodeIn state in
     let words = wordsOf 2 packet in
-    let l : Lent = lent (wordsOf 2 flash) (memoryWords mem) (replyWords reply) in
+    let l : Lent = lent (wordsOf 2 flash) (memoryWords mem) (furtherWords x) (replyWords reply) in
     judged-bounds (verdictOn n link words l) n l (requestEffect n clock link bc (isSet errors) words l)
     (request-bounds n clock link bc (isSet errors) words l (directory-long state)) t
 entry-bounds (Entry.Reply clock slave bc errors status address packet reply) state flash m t =

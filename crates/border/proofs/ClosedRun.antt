@@ -21,7 +21,7 @@ use Rattle.report.specs.Status.{ownStatus}
 use Rattle.node.specs.Valid.{masksOk, stateOk}
 use Rattle.node.specs.Refusals.{startVerdict, requestVerdict}
 use Rattle.node.specs.Route.{addressed, routeOf}
-use Rattle.node.specs.Files.{readOf, writeOf}
+use Rattle.node.specs.Files.{readOf, fileWriteOf}
 use Rattle.node.specs.Own.{filesOf, ownOf}
 use Rattle.node.specs.Calls.{startOf, requestOf}
 use Rattle.codec.specs.Bytes.{valueOf, digitsOf, wordsIn, wordsOf, bytesOf}
@@ -52,5 +52,5 @@ pub starts-in : InC (Entry.Start 2 4 0 0 0 0 0)
 starts-in = (omega arith, omega arith, omega arith, omega arith, omega arith, omega arith, omega arith)
 
 pub closed-run : ClosedRun entries
-unfolding laid fcsBit fcsBits fcsWord fcsFrom headerOk memoryOf pageOf lengthOk pageOk spanOf bodyOk segmentOk segmentEnd walk fileEnd isSector bySector sectorOf isEmpty statusOf statusIn fourthWord entryOf entryFor entriesFrom directoryOf entered entrySays entryIs keptStatus firstFrom countFrom isNamed searchOf targetOf takes placeOf stored ownStatus masksOk stateOk startVerdict requestVerdict addressed routeOf readOf writeOf filesOf ownOf startOf requestOf valueOf digitsOf wordsIn wordsOf bytesOf packed encodeOf nodeIn alike areState startCheck requestCheck startEntry requestEntry
+unfolding laid fcsBit fcsBits fcsWord fcsFrom headerOk memoryOf pageOf lengthOk pageOk spanOf bodyOk segmentOk segmentEnd walk fileEnd isSector bySector sectorOf isEmpty statusOf statusIn fourthWord entryOf entryFor entriesFrom directoryOf entered entrySays entryIs keptStatus firstFrom countFrom isNamed searchOf targetOf takes placeOf stored ownStatus masksOk stateOk startVerdict requestVerdict addressed routeOf readOf fileWriteOf filesOf ownOf startOf requestOf valueOf digitsOf wordsIn wordsOf bytesOf packed encodeOf nodeIn alike areState startCheck requestCheck startEntry requestEntry
 closed-run = record { begins = refl; begun = refl; writes = refl; state = refl; reads = refl; bytes = refl }

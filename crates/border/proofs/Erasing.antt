@@ -10,7 +10,7 @@ use mathlib.Core.List.{List, [], _∷_, _++_}
 use lib.ListN.{length, drop, replicate, length-replicate}
 use lib.Dec.{eqb}
 use lib.Seq.{drop-append-seam}
-use borrow.Author.Tests.{eq-eqb}
+use borrow.Author.Tests.{eq-eqb, eqb-true}
 use Rattle.base.specs.Pick.{pick}
 use Rattle.base.specs.Words.{laid, blanks, Below}
 use Rattle.base.proofs.Pick.{yes, no}
@@ -22,7 +22,7 @@ use Rattle.flash.specs.declared.Progress.{Progress}
 use Rattle.flash.proofs.Geometry.{sector-fits, length-sector}
 use Rattle.flash.proofs.Statuses.{empty-blanks}
 use Rattle.memory.specs.Segment.{Memories}
-use Rattle.node.specs.Effect.{lent, Outcome}
+use Rattle.node.specs.Effect.{lent, Outcome, Further}
 use Rattle.node.specs.Calls.{requestOf}
 use Rattle.node.specs.State.{refusalNumber}
 use Rattle.node.specs.declared.Answer.{Answer}
@@ -41,10 +41,12 @@ use Rattle.demands.proofs.Lays.{flash-follows as words-laid}
 use Rattle.codec.specs.Bytes.{wordsOf, bytesOf, storeWords}
 use Rattle.codec.specs.StateBytes.{sizeIn, nodeIn, progressIn}
 use Rattle.logodwen.specs.Number.{fields, answerNumber}
-use Rattle.logodwen.specs.Entry.{memoryWords, replyWords, isSet}
+use Rattle.logodwen.specs.Entry.{memoryWords, replyWords, isSet, furtherWords}
 use Rattle.codec.proofs.Runs.{length-bytes, length-words-of}
 use Rattle.logodwen.proofs.Entering.{request-fine, erase-fine}
 use Rattle.codec.proofs.ThereAndBack.{bytes-kept}
+use Rattle.node.specs.Route.{bcOf}
+use Rattle.demands.proofs.Commands.{command-whole}
 use Rattle.border.specs.Exactly.{entries, eraseCauses}
 use Rattle.border.specs.Host.{Entry, InC, answerOf, numberAfter, stateAfter, flashAfter, onWords, isDone, Step as HostStep}
 use Rattle.border.specs.Kept.{erasingIn}
@@ -120,14 +122,14 @@ module _ (state flash : List ℕ) (st : Stands state flash) (clock link bc error
   -- what it lays
   lays-bytes : Made asks state flash → (s : ℕ) (words : List ℕ) → WordsLay (lent (wordsOf 2 flash) (memoryWords m) (furtherWords x) (replyWords reply)) does s words → Lays flash (answerOf entries asks state flash) s words
   lays-bytes made s words l =
-      let bench = request-fine link _ state _ _ _ _ _ (made .fine) .bench in
+      let bench = request-fine link _ state _ _ _ _ _ _ (made .fine) .bench in
       record {
         number = made .number ∙ ap answerNumber (l .answer);
         bytes = made .words (st .below) ∙ ap (λ (x : List ℕ). storeWords 2 x flash) (l .flash) ∙ sector-laid flash (st .below) bench s words (l .room);
       }
 
   request-lays : (answerOf entries asks state flash .runs .flash ≡ flash)
-      ⊎ (LaysFile state flash packet (answerOf entries asks state flash) ⊎ LaysHeader state flash packet (answerOf entries asks state flash))
+      ⊎ (LaysFile state flash link bc packet x (answerOf entries asks state flash) ⊎ LaysHeader state flash bc packet (answerOf entries asks state flash))
   request-lays = by (entry-step asks state flash)
     where
       by : Step asks state flash
@@ -424,9 +426,9 @@ has-set state flash later after s given counted bench b k h =
 pub erases : Erases entries
 erases =
     record {
-      starts = λ state flash hosted clock link bc packet m reply s done whole c two quiet named.
-          let d = delivered clock link bc 0 packet m reply state flash done refl whole (omega arith) (omega arith) in
-          number-is clock link bc 0 packet m reply state flash done
+      starts = λ state flash hosted clock link bc packet m x reply s done free c two quiet named.
+          let d = delivered clock link bc 0 packet m x reply state flash done refl (eqb-true (bcOf bc) 3 (command-whole 0x47 bc (wordsOf 2 packet) c)) free (omega arith) (omega arith) in
+          number-is clock link bc 0 packet m x reply state flash done
           ∙ ap answerNumber
           (words-erase .starts (nodeIn state) clock link bc false (wordsOf 2 packet) (lent (wordsOf 2 flash) (memoryWords m) (furtherWords x) (replyWords reply)) s c d (length-words-of 2 packet ∙ two)
           (no-erasing state quiet) named);

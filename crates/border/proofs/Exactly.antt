@@ -14,7 +14,7 @@ use Rattle.node.specs.State.{refusalNumber}
 use Rattle.node.specs.Effect.{Effect, Lent, Outcome, outcome}
 use Rattle.node.specs.Valid.{kindOk, portsOk}
 use Rattle.node.specs.Refusals.{firstOf, isPending, isAsked, replyVerdict, pollVerdict, eraseVerdict, startVerdict}
-use Rattle.node.specs.Refusals.{Cause as Test, cause as test, replyCause as replyTest, slaveCause as slaveTest, busyCause as busyTest, pollCause as pollTest, unaskedCause as unaskedTest}
+use Rattle.node.specs.Refusals.{Cause as Test, cause as test, replyCause as replyTest, areaCause as areaTest, slaveCause as slaveTest, busyCause as busyTest, pollCause as pollTest, unaskedCause as unaskedTest}
 use Rattle.node.specs.Slaves.{ask, gathering, replyEffect, pollEffect}
 use Rattle.node.specs.Calls.{judged, given, startBy, lentReply, lentFlash, eraseEffect, startOf, requestOf, replyOf, pollOf, eraseOf}
 use Rattle.node.specs.declared.Answer.{Answer}
@@ -74,8 +74,8 @@ flash-tells : (state flash : List ℕ)
 flash-tells state flash =
     or-tells (not-tells (bench-tells flash)) (where-tells (eqb-tells (length state) 180) (eqb-tells (length flash / 2) (sizeIn state)))
 
-short-tells : (reply : List ℕ) → Tells (ltb (length reply / 2) 12288) (length reply < 2 * 12288)
-short-tells reply = same-tells (λ h. omega arith) (λ h. omega arith) (ltb-tells (length reply / 2) 12288)
+short-tells : (words : ℕ) (run : List ℕ) → Tells (ltb (length run / 2) words) (length run < 2 * words)
+short-tells words run = same-tells (λ h. omega arith) (λ h. omega arith) (ltb-tells (length run / 2) words)
 
 above-two : (words : ℕ) (run : List ℕ) → Tells (ltb words (length run / 2)) (Above 2 words run)
 above-two words run = same-tells (λ h. omega arith) (λ h. omega arith) (ltb-tells words (length run / 2))
@@ -180,14 +180,14 @@ request-exactly clock link bc errors packet state runs =
     let dm = length (runs .memories .dm) / 2 in
     let io = length (runs .memories .io) / 2 in
     entered-exactly
-    (benchTest state flash ∷ replyTest (length (runs .reply) / 2) ∷ memoriesTest pm dm io ∷ portTest state link ∷ bytesTest state
+    (benchTest state flash ∷ replyTest (length (runs .reply) / 2) ∷ memoriesTest pm dm io ∷ areaTest (length (runs .further .area) / 2) ∷ portTest state link ∷ bytesTest state
     ∷ busyTest n (length packet / 2) ∷ [])
     (requestCauses link packet state runs) state runs (requestOf n clock link bc e words lent)
     (λ h. judged-taken (verdictOn n link words lent) n lent (requestEffect n clock link bc e words lent)
     (request-taken n clock link bc e words lent) (request-fine link packet state runs h)) (
       (refl, flash-tells state (runs .flash)),
       (
-        (refl, short-tells (runs .reply)),
+        (refl, short-tells 12288 (runs .reply)),
         (
           (
             refl,
@@ -195,12 +195,15 @@ request-exactly clock link bc errors packet state runs =
                 (above-two 4096 (runs .memories .io)),
           ),
           (
-            (refl, where-tells (eqb-tells (length state) 180) (ltb-tells link (portsIn state))),
+            (refl, short-tells 32768 (runs .further .area)),
             (
-              (refl, not-tells (state-bytes-tell state)),
+              (refl, where-tells (eqb-tells (length state) 180) (ltb-tells link (portsIn state))),
               (
-                (refl, and-tells (pends-tells state) (word-tells packet)),
-                tt,
+                (refl, not-tells (state-bytes-tell state)),
+                (
+                  (refl, and-tells (pends-tells state) (word-tells packet)),
+                  tt,
+                ),
               ),
             ),
           ),
@@ -222,7 +225,7 @@ reply-exactly clock slave bc errors status address packet state reply =
     (replyCauses slave packet state reply) state (lentReply reply) (replyOf n clock slave bc e status address words buffer)
     (λ h. judged-taken (replyVerdict n slave (length buffer)) n (lentReply buffer) (replyEffect n clock e status address bc words buffer)
     (reply-taken n clock e status address bc words buffer) (reply-fine slave packet state reply h)) (
-      (refl, short-tells reply),
+      (refl, short-tells 12288 reply),
       (
         (refl, above-two 32768 packet),
         (
@@ -249,7 +252,7 @@ poll-exactly clock state reply =
     (pollOf n clock buffer)
     (λ h. judged-taken (pollVerdict n (length buffer)) n (lentReply buffer) (pollEffect n clock buffer) (poll-taken n clock buffer)
     (poll-fine state reply h))
-    ((refl, short-tells reply), ((refl, not-tells (state-bytes-tell state)), ((refl, not-tells (pends-tells state)), tt)))
+    ((refl, short-tells 12288 reply), ((refl, not-tells (state-bytes-tell state)), ((refl, not-tells (pends-tells state)), tt)))
 
 erase-exactly : (budget : ℕ) (state flash : List ℕ)
     → Exactly (eraseCauses state flash) (eraseEntry budget state flash .number % 256)

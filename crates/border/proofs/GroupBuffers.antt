@@ -10,7 +10,7 @@ use lib.Dec.{ltb, leb, eqb}
 use lib.ListN.{length, getD, take, length-take}
 use borrow.Author.Tests.{leb-false}
 use Rattle.base.specs.Pick.{pick}
-use Rattle.base.specs.Words.{Below}
+use Rattle.base.specs.Words.{Below, laid}
 use Rattle.base.proofs.Pick.{pick-case}
 use Rattle.base.proofs.Part.{below-take, below-append}
 use Rattle.fcs.specs.Fcs.{polynomial, fcsBit, fcsBits, fcsWord, fcsFrom, fcsOf}
@@ -29,7 +29,7 @@ use Rattle.group.proofs.Changes.{end-changes, passed-changes}
 use Rattle.group.proofs.Status.{status-fits}
 use Rattle.group.proofs.Takes.{taken-changes}
 use Rattle.report.specs.Status.{ownStatus}
-use Rattle.node.specs.Effect.{Effect, Lent, Outcome}
+use Rattle.node.specs.Effect.{Effect, Lent, Outcome, Did}
 use Rattle.node.specs.Refusals.{isPending, replyVerdict, pollVerdict}
 use Rattle.node.specs.Settings.{statusIn}
 use Rattle.node.specs.Slaves.{heard, silent, goesOn, hears, askedAt, replyEffect, pollEffect}
@@ -42,6 +42,9 @@ use Rattle.node.specs.declared.Verdict.{Verdict}
 use Rattle.node.proofs.Routes.{Command, command-words, route-case}
 use Rattle.node.proofs.Verdicts.{request-fine}
 use Rattle.demands.proofs.Taken.{verdictOn, requestEffect}
+use Rattle.base.proofs.Laid.{laid-none}
+use Rattle.node.specs.Files.{fileWriteOf, joined, isErasing, placedFor, writeAt}
+use Rattle.flash.specs.declared.Found.{Found}
 use Rattle.border.proofs.Runs.{below-laid}
 
 -- the check sequence is a 16-bit word
@@ -223,6 +226,15 @@ poll-kept n clock buffer b =
 
 -- a request that is not an own command leaves the buffer
 
+-- File Write lays no words in the reply buffer
+write-words : (n : Node) (flash file : List ℕ) → fileWriteOf n flash file .words ≡ []
+unfolding fileWriteOf
+write-words n flash file = pick-case (λ (d : Did). d .words ≡ []) (isErasing (n .erasing)) (λ _. refl) (λ _. at (placedFor n flash file))
+  where
+    at : (f : Found) → writeAt file f .words ≡ []
+    at Found.Nothing = refl
+    at (Found.At s) = refl
+
 module _ (n : Node) (clock link bc : ℕ) (errors : Bool) (packet : List ℕ) (l : Lent) where
   abbrev does : Outcome
   does = requestOf n clock link bc errors packet l
@@ -239,7 +251,9 @@ module _ (n : Node) (clock link bc : ℕ) (errors : Bool) (packet : List ℕ) (l
           let same : does .turn .answer ≡ said =
           ap (λ (v : Verdict). judged v n l (requestEffect n clock link bc errors packet l) .turn .answer) e in
           route-case (λ r. routed r n clock link packet l .answer ≡ said → routed r n clock link packet l .reply ≡ l .reply) n link bc errors
-          packet (λ _. refl) (λ _. refl) (λ _ _. refl) (λ id c q. absurd (other e id c _ (q ∙ sym same))) (λ s h _. refl)
+          packet (λ _. refl) (λ _. refl) (λ _ _ _. refl) (λ _ _ _. refl) (λ _ _ _. refl) (λ from at j _. refl)
+          (λ at k _. ap (laid (l .reply) 0) (write-words n (l .flash) (joined (l .further .area) at packet)) ∙ sym (laid-none (l .reply) 0))
+          (λ id w c q. absurd (other e id c _ (q ∙ sym same))) (λ s h _. refl)
           (λ set from s named h _. refl) refl
 
   pub asks-leaves : (a : Asking) → does .turn .answer ≡ Answer.Ask a → does .after .reply ≡ l .reply
@@ -255,7 +269,7 @@ module _ (n : Node) (clock link bc : ℕ) (errors : Bool) (packet : List ℕ) (l
       empty e h =
           let m = l .memories in
           let free =
-          request-fine n link (length packet) (length (l .flash)) (length (m .pm)) (length (m .dm)) (length (m .io)) (length (l .reply)) e
+          request-fine n link (length packet) (length (l .flash)) (length (m .pm)) (length (m .dm)) (length (m .io)) (length (l .further .area)) (length (l .reply)) e
           .free in
           let none : leb 1 (length packet) ≡ false = ap (λ (t : Bool). t && leb 1 (length packet)) (sym p) ∙ free in
           omega (arith, leb-false 1 (length packet) none)

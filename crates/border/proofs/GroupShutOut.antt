@@ -22,7 +22,7 @@ use Rattle.group.specs.declared.Kind.{Kind}
 use Rattle.group.specs.declared.ZeroLength.{ZeroLength}
 use Rattle.node.specs.Route.{asking}
 use Rattle.node.specs.Valid.{masksOk, stateOk}
-use Rattle.node.specs.Effect.{Effect, Lent, lent, Outcome}
+use Rattle.node.specs.Effect.{Effect, Lent, lent, Outcome, further}
 use Rattle.node.specs.Calls.{judged, requestOf}
 use Rattle.node.specs.declared.Node.{Node}
 use Rattle.node.specs.declared.Verdict.{Verdict}
@@ -35,7 +35,7 @@ use Rattle.codec.specs.Places.{packed}
 use Rattle.logodwen.specs.Number.{answerNumber}
 use Rattle.codec.specs.StateBytes.{encodeOf, nodeIn, alike, areState}
 use Rattle.logodwen.specs.Causes.{requestCheck}
-use Rattle.logodwen.specs.Entry.{Answered, entered, told, inBytes, memoryWords, replyWords, requestEntry}
+use Rattle.logodwen.specs.Entry.{Answered, entered, told, inBytes, memoryWords, replyWords, requestEntry, furtherWords}
 use Rattle.codec.proofs.Runs.{length-words-of}
 use Rattle.border.specs.Host.{U8s, InC, answerOf, numberAfter, isDone, Hosted}
 use Rattle.border.specs.Answers.{InBits}
@@ -63,7 +63,7 @@ abbrev nothing : Memories
 nothing = memories [] [] []
 
 abbrev runs : Lent
-runs = lent blank nothing (zeros 24576)
+runs = lent blank nothing (further (zeros 65536)) (zeros 24576)
 
 abbrev reply : Event
 reply = Event.Replied 0 0 3 0 0 0 []
@@ -114,7 +114,7 @@ slaves-are = ap slavesOf set-is ∙ slaves-up 24 0 1
 -- the request is done ..
 
 abbrev l : Lent
-l = lent (wordsOf 2 blank) (memoryWords nothing) (replyWords (zeros 24576))
+l = lent (wordsOf 2 blank) (memoryWords nothing) (furtherWords (further (zeros 65536))) (replyWords (zeros 24576))
 
 abbrev o : Outcome
 o = requestOf (nodeIn fresh) 0 0 3 false words l
@@ -146,7 +146,7 @@ facts = (refl, refl, refl, refl)
 asks : InBits (numberAfter forgetful (sends packet) fresh blank) 2 0 (stripped words) 0
 asks =
     let k = length-words-of 2 packet in
-    group-is-asked 0 0 3 packet nothing (zeros 24576) fresh blank 0 [] ask-done refl (facts .0) (facts .1) (facts .3)
+    group-is-asked 0 0 3 packet nothing (further (zeros 65536)) (zeros 24576) fresh blank 0 [] ask-done refl none-stands (facts .0) (facts .1) (facts .3)
     (omega (arith, k, facts .2)) (omega (arith, k)) slaves-are
 
 -- .. and leaves the reply buffer
@@ -155,7 +155,7 @@ ask-leaves =
     let k = length-words-of 2 packet in
     let n : length (zeros 24576) ≡ 24576 = refl in
     let asked =
-    node-asks 0 0 3 packet nothing (zeros 24576) fresh blank 0 [] ask-done refl (facts .0) (facts .1) (facts .3)
+    node-asks 0 0 3 packet nothing (further (zeros 65536)) (zeros 24576) fresh blank 0 [] ask-done refl none-stands (facts .0) (facts .1) (facts .3)
     (omega (arith, k, facts .2)) (omega (arith, k)) slaves-are in
     ap (λ (a : Answered). a .runs .reply) answers
     ∙ ap (λ (ws : List ℕ). storeWords 2 ws (zeros 24576))
@@ -184,6 +184,7 @@ run =
       errors = 0;
       packet = packet;
       memories = nothing;
+      further = further (zeros 65536);
       buffer = zeros 24576;
       typed = ask-in;
       group = facts .0;

@@ -17,7 +17,7 @@ use Rattle.group.specs.Fragment.{built}
 use Rattle.node.specs.State.{turn}
 use Rattle.node.specs.Refusals.{firstOf, slaveCause, unaskedCause, isAsked, replyVerdict, pollVerdict}
 use Rattle.node.specs.Refusals.{isPending as nodePending}
-use Rattle.node.specs.Effect.{Effect, Lent, lent, Outcome}
+use Rattle.node.specs.Effect.{Effect, Lent, lent, Outcome, Further}
 use Rattle.node.specs.Slaves.{ask, gathering, replyEffect, pollEffect}
 use Rattle.node.specs.Calls.{judged, lentReply, replyOf, pollOf}
 use Rattle.node.specs.declared.Answer.{Answer}
@@ -35,7 +35,7 @@ use Rattle.codec.specs.Bytes.{wordsIn, wordsOf, bytesOf, storeWords}
 use Rattle.codec.specs.StateBytes.{tallyOf, waitIn, nodeIn, areState}
 use Rattle.logodwen.specs.Number.{answerNumber}
 use Rattle.logodwen.specs.Causes.{bytesCause, replyCheck, pollCheck}
-use Rattle.logodwen.specs.Entry.{Answered, entered, memoryWords, replyWords, isSet, replyEntry, pollEntry}
+use Rattle.logodwen.specs.Entry.{Answered, entered, memoryWords, replyWords, isSet, replyEntry, pollEntry, furtherWords}
 use Rattle.codec.specs.declared.Wait.{Wait}
 use Rattle.codec.proofs.Runs.{length-words-of, length-bytes, length-store, store-words, words-take}
 use Rattle.codec.proofs.ThereAndBack.{words-read}
@@ -145,7 +145,7 @@ pub record Called (first : List ℕ) (w : Call) (e : Event) (h : Host) : Type 0 
 -- the call that it is, whatever its length, and what that comes to
 
 abbrev pub wordOf : Event → Call
-wordOf (Event.Requested clock link bc errors packet m x) = Call.Requested clock link bc (isSet errors) (wordsOf 2 packet) (memoryWords m)
+wordOf (Event.Requested clock link bc errors packet m x) = Call.Requested clock link bc (isSet errors) (wordsOf 2 packet) (memoryWords m) (furtherWords x)
 wordOf (Event.Replied clock slave bc errors status address packet) =
     Call.Replied clock slave bc (isSet errors) status address (wordsOf 2 packet)
 wordOf (Event.Polled clock) = Call.Polled clock
@@ -191,7 +191,7 @@ buffer-is (Event.Polled clock) h k made = ap (λ (a : Answered). a .runs .reply)
 buffer-is (Event.Erased budget) h k made = sym (kept-reply (h .buffer) (k .long) (k .bytes))
 
 in-c : (e : Event) (buffer : List ℕ) → InC (entryOf e []) → Below 256 buffer → InC (entryOf e buffer)
-in-c (Event.Requested clock link bc errors packet m x) buffer c b = (c .0, c .1, c .2, c .3, c .4, c .5, c .6, c .7, b)
+in-c (Event.Requested clock link bc errors packet m x) buffer c b = (c .0, c .1, c .2, c .3, c .4, c .5, c .6, c .7, c .8, b)
 in-c (Event.Replied clock slave bc errors status address packet) buffer c b = (c .0, c .1, c .2, c .3, c .4, c .5, c .6, b)
 in-c (Event.Polled clock) buffer c b = (c .0, b)
 in-c (Event.Erased budget) buffer c b = c
@@ -254,8 +254,8 @@ none-asked e h u =
 
 pub undone-same : (e : Event) (h : Host) → isDone (stepped entries e h .number) ≡ false → Same e h
 undone-same (Event.Requested clock link bc errors packet m x) h u =
-    let s : Stays _ (h .state) (lent (h .flash) m (h .buffer)) =
-    refused-exactly .request clock link bc errors packet (h .state) (lent (h .flash) m (h .buffer)) .1 (eqb-false _ 0 u) in
+    let s : Stays _ (h .state) (lent (h .flash) m x (h .buffer)) =
+    refused-exactly .request clock link bc errors packet (h .state) (lent (h .flash) m x (h .buffer)) .1 (eqb-false _ 0 u) in
     record {
       state = s .bytes;
       flash = ap (λ (l : Lent). l .flash) (s .lent);
@@ -413,12 +413,12 @@ module _ {first : List ℕ} (h : Host) (k : Holds first h) (p : isPending (h .st
           (same-poll (h .state) (h .buffer) (k .stands .bytes) (k .long)) (poll-taken n clock buffer) u (λ a. refl))
 
   -- .. a request and erase progress are, if they are done
-  pub request-called : (clock link bc errors : ℕ) (packet : List ℕ) (m : Memories)
+  pub request-called : (clock link bc errors : ℕ) (packet : List ℕ) (m : Memories) (x : Further)
       → let e : Event = Event.Requested clock link bc errors packet m x in
       InC (entryOf e []) → isDone (stepped entries e h .number) ≡ true → Called first (wordOf e) e h
-  request-called clock link bc errors packet m c d =
+  request-called clock link bc errors packet m x c d =
       let e : Event = Event.Requested clock link bc errors packet m x in
-      let l : Lent = lent (wordsOf 2 (h .flash)) (memoryWords m) buffer in
+      let l : Lent = lent (wordsOf 2 (h .flash)) (memoryWords m) (furtherWords x) buffer in
       done-called first e h k c d
       (left (h .buffer) (k .bytes) (busy-leaves n clock link bc (isSet errors) (wordsOf 2 packet) l pending))
 

@@ -15,7 +15,7 @@ use Rattle.group.specs.Kind.{answer, Answer as SlaveAnswer}
 use Rattle.group.specs.Time.{isLate}
 use Rattle.group.specs.Whole.{assembled}
 use Rattle.group.specs.declared.Reply.{Reply}
-use Rattle.node.specs.Effect.{lent}
+use Rattle.node.specs.Effect.{lent, Further}
 use Rattle.node.specs.Refusals.{isPending as nodePending}
 use Rattle.node.specs.Settings.{statusIn}
 use Rattle.node.specs.Slaves.{heard, silent}
@@ -27,7 +27,7 @@ use Rattle.demands.specs.Groups.{GroupRun as NodeRun, atLast as nodeLast, said 
 use Rattle.demands.proofs.Groups.{group-is-its-fragments as node-fragments, so-far as node-so-far, asked-in-order, each-asked-once}
 use Rattle.codec.specs.Bytes.{wordsOf, storeWords}
 use Rattle.codec.specs.StateBytes.{nodeIn}
-use Rattle.logodwen.specs.Entry.{memoryWords, replyWords, isSet}
+use Rattle.logodwen.specs.Entry.{memoryWords, replyWords, isSet, furtherWords}
 use Rattle.logodwen.proofs.Entering.{request-fine}
 use Rattle.border.specs.Exactly.{entries}
 use Rattle.border.specs.Host.{InC, isDone}
@@ -46,7 +46,7 @@ heards-on : (w : Call) (cs ds : List Call) → ((at : ℕ) (ss : List ℕ) → h
     → (at : ℕ) (ss : List ℕ) → heards at ss (w ∷ cs) ≡ heards at ss (w ∷ ds)
 unfolding heards
 heards-on w cs ds q at [] = refl
-heards-on (Call.Requested clock link bc errors packet m) cs ds q at (s ∷ ss) = q at (s ∷ ss)
+heards-on (Call.Requested clock link bc errors packet m x) cs ds q at (s ∷ ss) = q at (s ∷ ss)
 heards-on (Call.Replied clock slave bc errors status address words) cs ds q at (s ∷ ss) =
     λ i. pick (eqb s slave) (answer (heard (isLate clock at) errors status address bc) words ∷ q clock ss i) (q at (s ∷ ss) i)
 heards-on (Call.Polled clock) cs ds q at (s ∷ ss) =
@@ -61,11 +61,11 @@ unheard-none : Unheard []
 unfolding Unheard
 unheard-none cs at ss = refl
 
-unheard-request : (clock link bc : ℕ) (errors : Bool) (packet : List ℕ) (m : Memories)
-    → Unheard (Call.Requested clock link bc errors packet m ∷ [])
+unheard-request : (clock link bc : ℕ) (errors : Bool) (packet : List ℕ) (m : Memories) (x : Further)
+    → Unheard (Call.Requested clock link bc errors packet m x ∷ [])
 unfolding Unheard heards
-unheard-request clock link bc errors packet m cs at [] = refl
-unheard-request clock link bc errors packet m cs at (s ∷ ss) = refl
+unheard-request clock link bc errors packet m x cs at [] = refl
+unheard-request clock link bc errors packet m x cs at (s ∷ ss) = refl
 
 unheard-erase : (budget : ℕ) → Unheard (Call.Erased budget ∷ [])
 unfolding Unheard heards
@@ -163,9 +163,9 @@ carry link first (Event.Requested clock l bc errors packet m x) es h a p u k c r
     e = Event.Requested clock l bc errors packet m x
 
     by : (t : Bool) → isDone (stepped entries e h .number) ≡ t → Carried link first (e ∷ es) h a
-    by true d = carry-call link first e es h a p u refl (request-called h k p clock l bc errors packet m c d) rest
+    by true d = carry-call link first e es h a p u refl (request-called h k p clock l bc errors packet m x c d) rest
     by false d =
-        carry-none link first e es h a p u (unheard-request clock l bc (isSet errors) (wordsOf 2 packet) (memoryWords m)) k
+        carry-none link first e es h a p u (unheard-request clock l bc (isSet errors) (wordsOf 2 packet) (memoryWords m) (furtherWords x)) k
         (undone-same e h d) rest
 carry link first (Event.Erased budget) es h a p u k c rest = by (isDone (stepped entries e h .number)) refl
   where
@@ -237,7 +237,7 @@ ends-so f e = record { common = λ z q. f _ _ (e .common z q); whole = λ q. f _
 module _ (r : GroupRun entries) where
   -- the request, and where the host stood before it
   abbrev request : Event
-  request = Event.Requested (r .clock) (r .link) (r .bc) (r .errors) (r .packet) (r .memories)
+  request = Event.Requested (r .clock) (r .link) (r .bc) (r .errors) (r .packet) (r .memories) (r .further)
 
   abbrev before : Host
   before = record { number = 0; state = r .state; flash = r .flash; buffer = r .buffer; asked = [] }
@@ -253,7 +253,7 @@ module _ (r : GroupRun entries) where
       let m = r .memories in
       let f =
       request-fine (r .link) (length (r .packet) / 2) (r .state) (length (r .flash) / 2) (length (m .pm) / 4) (length (m .dm) / 2)
-      (length (m .io) / 2) (length (r .buffer) / 2) (made .fine) in
+      (length (m .io) / 2) (length (r .further .area) / 2) (length (r .buffer) / 2) (made .fine) in
       omega (arith, f .buffer)
 
   holds : Holds (r .buffer) before
@@ -261,8 +261,8 @@ module _ (r : GroupRun entries) where
       record {
         stands = hosted-stands (r .has);
         long = long;
-        bytes = r .typed .8;
-        front = sym (kept-reply (r .buffer) long (r .typed .8));
+        bytes = r .typed .9;
+        front = sym (kept-reply (r .buffer) long (r .typed .9));
       }
 
   -- it asks, and so leaves the reply buffer
@@ -274,10 +274,10 @@ module _ (r : GroupRun entries) where
   called : Called (r .buffer) (wordOf request) request before
   called =
       let c = r .typed in
-      done-called (r .buffer) request before holds (c .0, c .1, c .2, c .3, c .4, c .5, c .6, c .7, λ i. omega arith) done
-      (left (r .buffer) (r .typed .8)
+      done-called (r .buffer) request before holds (c .0, c .1, c .2, c .3, c .4, c .5, c .6, c .7, c .8, λ i. omega arith) done
+      (left (r .buffer) (r .typed .9)
       (asks-leaves (nodeIn (r .state)) (r .clock) (r .link) (r .bc) (isSet (r .errors)) (wordsOf 2 (r .packet))
-      (lent (wordsOf 2 (r .flash)) (memoryWords (r .memories)) (replyWords (r .buffer))) (asks .asking) (asks .is)))
+      (lent (wordsOf 2 (r .flash)) (memoryWords (r .memories)) (furtherWords (r .further)) (replyWords (r .buffer))) (asks .asking) (asks .is)))
 
   -- the entries after it
   run : Carried (r .link) (r .buffer) (r .events) (begun r) (called .answer)
@@ -293,7 +293,7 @@ module _ (r : GroupRun entries) where
         bc = r .bc;
         errors = isSet (r .errors);
         packet = wordsOf 2 (r .packet);
-        lent = lent (wordsOf 2 (r .flash)) (memoryWords (r .memories)) (replyWords (r .buffer));
+        lent = lent (wordsOf 2 (r .flash)) (memoryWords (r .memories)) (furtherWords (r .further)) (replyWords (r .buffer));
         words = words-of-below (r .packet) (r .typed .4);
         group = r .group;
         asking = asks .asking;
@@ -323,7 +323,7 @@ module _ (r : GroupRun entries) where
       let fits : length ws ≤ 12288 = omega (arith, front, length-reply (atLast r .buffer) (run .holds .long)) in
       run .holds .front
       ∙ ap (λ (l : List ℕ). storeWords 2 l (r .buffer)) words
-      ∙ laid-reply ws (r .buffer) long (r .typed .8) fits
+      ∙ laid-reply ws (r .buffer) long (r .typed .9) fits
 
   pub so-far : length (said r) < length (slaves r) → atLast r .buffer ≡ storeWords 2 (assembled (slaves r) (said r) 0) (r .buffer)
   so-far more =

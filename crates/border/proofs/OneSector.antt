@@ -152,7 +152,7 @@ one-sector (Entry.Start kind ports subdetector program version tests clock) stat
 one-sector (Entry.Request clock link bc errors packet m x reply) state flash b =
     made-within (Entry.Request clock link bc errors packet m x reply) state flash b
     (λ d. request-fine link (length packet / 2) state (length flash / 2) (length (m .pm) / 4) (length (m .dm) / 2) (length (m .io) / 2)
-    (length reply / 2) (d .fine) .bench)
+    (length (x .area) / 2) (length reply / 2) (d .fine) .bench)
 one-sector (Entry.Reply clock slave bc errors status address packet reply) state flash b = refl
 one-sector (Entry.Poll clock reply) state flash b = refl
 one-sector (Entry.Erase budget) state flash b = made-within (Entry.Erase budget) state flash b (erase-bench budget state flash)

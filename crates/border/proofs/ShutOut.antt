@@ -27,7 +27,7 @@ use Rattle.node.specs.Valid.{masksOk, stateOk}
 use Rattle.node.specs.Refusals.{requestVerdict, eraseVerdict}
 use Rattle.node.specs.Route.{addressed, routeOf}
 use Rattle.node.specs.Settings.{pingOf}
-use Rattle.node.specs.Files.{writeOf}
+use Rattle.node.specs.Files.{fileWriteOf}
 use Rattle.node.specs.Own.{settingsOf, filesOf, ownOf}
 use Rattle.node.specs.Calls.{requestOf, eraseOf}
 use Rattle.node.specs.declared.Answer.{Answer}
@@ -69,7 +69,7 @@ written-hosted : Hosted scanning fresh (written scanning .runs .flash)
 written-hosted = Hosted.Then (first scanning refl) (Step.Made (sends (fileWrite file)) write-in)
 
 stands-byte : getD (directoryBytes fresh (written scanning .runs .flash)) 0 0 ≡ 0x21
-unfolding laid fcsBit fcsBits fcsWord fcsFrom headerOk memoryOf pageOf lengthOk pageOk spanOf bodyOk segmentOk segmentEnd walk fileEnd isSector bySector sectorOf isEmpty statusOf statusIn fourthWord entryOf entryFor entriesFrom directoryOf entered entrySays entryIs keptStatus firstFrom countFrom isNamed searchOf targetOf takes placeOf stored ownStatus masksOk stateOk requestVerdict addressed routeOf writeOf filesOf ownOf requestOf valueOf digitsOf wordsIn wordsOf bytesOf packed encodeOf nodeIn alike areState requestCheck requestEntry
+unfolding laid fcsBit fcsBits fcsWord fcsFrom headerOk memoryOf pageOf lengthOk pageOk spanOf bodyOk segmentOk segmentEnd walk fileEnd isSector bySector sectorOf isEmpty statusOf statusIn fourthWord entryOf entryFor entriesFrom directoryOf entered entrySays entryIs keptStatus firstFrom countFrom isNamed searchOf targetOf takes placeOf stored ownStatus masksOk stateOk requestVerdict addressed routeOf fileWriteOf filesOf ownOf requestOf valueOf digitsOf wordsIn wordsOf bytesOf packed encodeOf nodeIn alike areState requestCheck requestEntry
 stands-byte = refl
 
 scans-once : NoStaleRecord scanning → ⊥
@@ -127,11 +127,11 @@ erases-all says h =
 
 nothing-in : InC (sends (fileWrite []))
 unfolding allBelow
-nothing-in = (omega arith, omega arith, omega arith, omega arith, tested (fileWrite []) refl, none, none, none, tested (zeros 24576) refl)
+nothing-in = (omega arith, omega arith, omega arith, omega arith, tested (fileWrite []) refl, none, none, none, tested (zeros 65536) refl, tested (zeros 24576) refl)
 
 stores-nothing : ReadsBack lying → ⊥
 unfolding wordsOf wordsIn valueOf headerOk fileEnd
-stores-nothing w = no-file (w fresh blank (first lying refl) 0 0 3 0 [] (memories [] [] []) (zeros 24576) nothing-in refl refl .valid)
+stores-nothing w = no-file (w fresh blank (first lying refl) 0 0 3 0 (fileWrite []) (memories [] [] []) (further (zeros 65536)) (zeros 24576) nothing-in [] (Brings.Whole [] refl refl) refl refl .valid)
   where
     no-file : End.Invalid ≡ End.At 0 → ⊥
     no-file e = let z : _≡_ {A = ℕ} 0 1 = cc in omega arith

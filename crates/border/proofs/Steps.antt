@@ -34,7 +34,7 @@ checkOf (Entry.Start kind ports subdetector program version tests clock) state f
     startCheck kind ports subdetector state (length flash / 2)
 checkOf (Entry.Request clock link bc errors packet m x reply) state flash =
     requestCheck link (length packet / 2) state (length flash / 2) (length (m .pm) / 4) (length (m .dm) / 2) (length (m .io) / 2)
-    (length reply / 2)
+    (length (x .area) / 2) (length reply / 2)
 checkOf (Entry.Reply clock slave bc errors status address packet reply) state flash =
     replyCheck slave (length packet / 2) state (length reply / 2)
 checkOf (Entry.Poll clock reply) state flash = pollCheck state (length reply / 2)

@@ -30,6 +30,7 @@ use Rattle.demands.proofs.Taken.{verdictOn, requestEffect}
 use Rattle.demands.proofs.Sound.{Sound}
 use Rattle.codec.specs.StateBytes.{waitOf}
 use Rattle.codec.specs.Kept.{Typed}
+use Rattle.node.specs.Route.{asks}
 use Rattle.border.proofs.Flash.{directory-below}
 
 -- the state, but for its directory
@@ -81,7 +82,8 @@ At p = waitOf p .at < 4294967296
 request-asked : (n : Node) (clock link bc : ℕ) (errors : Bool) (packet : List ℕ) (l : Lent) → clock < 4294967296 → At (n .pending)
     → At (requestEffect n clock link bc errors packet l .pending)
 request-asked n clock link bc errors packet l c h =
-    route-case (λ r. At (routed r n clock link packet l .pending)) n link bc errors packet h h (λ _. omega arith) (λ id _. h) (λ s _. c)
+    route-case (λ r. At (routed r n clock link packet l .pending)) n link bc errors packet h h (λ _ _. h) (λ _ _. h)
+    (λ _ _. pick-case At (asks (n .pending) link) (λ _. omega arith) (λ _. h)) (λ from at _. h) (λ at _. h) (λ id _ _. h) (λ s _. c)
     (λ set from s _ _. c)
 
 hears-asked : (p : Pending) (n : Node) (clock : ℕ) (h : Heard) (words reply : List ℕ) → clock < 4294967296
