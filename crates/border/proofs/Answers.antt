@@ -33,6 +33,7 @@ use Rattle.node.specs.Slaves.{heard, silent, goesOn, hears, askedAt, replyEffec
 use Rattle.node.specs.Calls.{judged, lentReply, lentFlash, routed, requestOf, replyOf, pollOf, eraseEffect, eraseOf}
 use Rattle.node.specs.declared.Answer.{Answer}
 use Rattle.node.specs.declared.Gathering.{Gathering}
+use Rattle.node.specs.Files.{joined}
 use Rattle.node.specs.declared.Node.{Node}
 use Rattle.node.specs.declared.Pending.{Pending}
 use Rattle.node.specs.declared.Verdict.{Verdict}
@@ -53,7 +54,7 @@ use Rattle.border.specs.Exactly.{entries}
 use Rattle.border.specs.Host.{Entry, numberAfter, isDone}
 use Rattle.border.specs.Answers.{InBits, Says, Bounds, answerIn, NothingCut, endNumber}
 use Rattle.border.proofs.Steps.{Made, start-begins, done-made, done-taken}
-use Rattle.border.proofs.Replies.{Short, own-replied}
+use Rattle.border.proofs.Replies.{write-replied, Short, own-replied}
 
 -- an answer within bounds stands in the bits of its number
 fields-in : (k w f n : ℕ) → k < 256 → w < 256 → f < 256 → n < 4294967296 → InBits (fields k w f n) k w f n
@@ -90,7 +91,9 @@ request-bounds : (n : Node) (clock link bc : ℕ) (errors : Bool) (packet : List
     → Bounds (requestEffect n clock link bc errors packet l .answer)
 request-bounds n clock link bc errors packet l d =
     route-case (λ r. Bounds (routed r n clock link packet l .answer)) n link bc errors packet (omega arith, omega arith)
-    (omega arith, omega arith) (λ _. (omega arith, omega arith)) (λ id _. own-replied n l packet id clock link d) (λ s h. (h, inl refl))
+    (omega arith, omega arith) (λ _ _. (omega arith, omega arith)) (λ _ _. (omega arith, omega arith)) (λ _ _. (omega arith, omega arith))
+    (λ from at j. (omega arith, omega arith)) (λ at k. write-replied n l packet (joined (l .further .area) at packet))
+    (λ id w c. own-replied n l packet id clock link d) (λ s h. (h, inl refl))
     (λ set from s named e. (next-small set 0 s e, named-from named))
 
 -- a slave's answer, where the reply buffer has at most 12,288 words

@@ -6,7 +6,7 @@ use mathlib.Core.Path.{_≡_, refl, sym, ap, _∙_, subst}
 use mathlib.Core.Bool.{Bool, true, false}
 use mathlib.Core.List.{List, [], _∷_}
 use lib.ListN.{length, getD}
-use borrow.Author.Tests.{eq-eqb}
+use borrow.Author.Tests.{eq-eqb, eqb-false}
 use Rattle.base.specs.Pick.{pick}
 use Rattle.base.specs.Words.{laid}
 use Rattle.flash.specs.Geometry.{isSector}
@@ -41,6 +41,7 @@ use Rattle.border.specs.Host.{U8s, InC, answerOf, numberAfter, isDone, H
 use Rattle.border.specs.Answers.{InBits}
 use Rattle.border.specs.ClosedRun.{blank, zeros, fresh, sends}
 use Rattle.border.specs.Events.{Event, callsOf, AllInC, stepped, isPending, hosted}
+use Rattle.border.specs.Files.{Stands}
 use Rattle.border.specs.Groups.{GroupRun, begun, atLast, slaves, said, GroupIsItsFragments}
 use Rattle.border.specs.ShutOut.{forgetful}
 use Rattle.border.proofs.Fine.{request-fine}
@@ -142,6 +143,14 @@ ask-done =
 facts : (isGroup words ≡ true) × (knowsMask words ≡ true) × (stripped words ≡ 2) × (numberAt 1 0 fresh ≡ 2)
 unfolding valueOf wordsIn wordsOf
 facts = (refl, refl, refl, refl)
+
+-- no write stands
+no-write : numberAt 1 172 fresh ≡ 0
+unfolding valueOf
+no-write = refl
+
+none-stands : Stands fresh 0 → ⊥
+none-stands s = eqb-false 0 1 refl (sym no-write ∙ s .0)
 
 asks : InBits (numberAfter forgetful (sends packet) fresh blank) 2 0 (stripped words) 0
 asks =

@@ -25,7 +25,7 @@ use Rattle.report.specs.Status.{hasMasks}
 use Rattle.node.specs.Effect.{Did, Lent, says, answers}
 use Rattle.node.specs.Status.{statusWords, maskWords, maskWordsFrom}
 use Rattle.node.specs.Settings.{statusIn, statusOf, pingOf, modeReadOf, modeWriteOf, maskReadOf, maskWriteOf}
-use Rattle.node.specs.Files.{isErasing, unlessErasing, namedBy, seen, readBy, readAt, readOf, testAt, testOf, loadBy, loadAt, loadOf, placedFor, writeAt, writeOf, toErase, eraseAt, eraseStartOf, setTo, attributeBy, attributeAt, attributeSetOf, summaryOf}
+use Rattle.node.specs.Files.{isErasing, unlessErasing, namedBy, seen, readBy, readAt, readOf, testAt, testOf, loadBy, loadAt, loadOf, placedFor, writeAt, fileWriteOf, toErase, eraseAt, eraseStartOf, setTo, attributeBy, attributeAt, attributeSetOf, summaryOf}
 use Rattle.node.specs.Memories.{dataRoom, memoryReadOf, memoryWriteOf, performIoOf}
 use Rattle.node.specs.Own.{settingsOf, memoriesOf, filesOf, onFiles, onMemories, ownOf}
 use Rattle.node.specs.declared.Node.{Node}
@@ -106,11 +106,11 @@ module _ (n : Node) (l : Lent) (packet : List ℕ) where
       at Target.Missing = abort
       at (Target.At s) = by (sectorOf flash s) (seen n flash s)
 
-  write-replied : Replied (writeOf n flash packet)
-  unfolding writeOf
-  write-replied = idle _ (at (placedFor n flash (drop 1 packet)))
+  pub write-replied : (file : List ℕ) → Replied (fileWriteOf n flash file)
+  unfolding fileWriteOf
+  write-replied file = idle _ (at (placedFor n flash file))
     where
-      at : (f : Found) → Replied (writeAt (drop 1 packet) f)
+      at : (f : Found) → Replied (writeAt file f)
       at Found.Nothing = abort
       at (Found.At s) = end
 
@@ -145,7 +145,7 @@ module _ (n : Node) (l : Lent) (packet : List ℕ) where
   unfolding filesOf summaryOf
   files-replied id d =
       pick-case Replied (eqb id 0x05) (λ _. read-replied)
-      (λ _. pick-case Replied (eqb id 0x45) (λ _. write-replied)
+      (λ _. pick-case Replied (eqb id 0x45) (λ _. write-replied (drop 1 packet))
       (λ _. pick-case Replied (eqb id 0x06) (λ _. test-replied)
       (λ _. pick-case Replied (eqb id 0x46) (λ _. load-replied)
       (λ _. pick-case Replied (eqb id 0x07) (λ _. sized 1 _ (short (statusIn n) (n .directory) (omega arith)))

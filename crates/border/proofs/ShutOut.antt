@@ -36,10 +36,11 @@ use Rattle.codec.specs.Places.{packed}
 use Rattle.codec.specs.StateBytes.{encodeOf, nodeIn, alike, areState}
 use Rattle.logodwen.specs.Causes.{requestCheck, eraseCheck}
 use Rattle.logodwen.specs.Entry.{Answered, requestEntry, eraseEntry}
+use Rattle.node.specs.Effect.{further}
 use Rattle.border.specs.Exactly.{Entries, entries}
 use Rattle.border.specs.Host.{Entry, U8s, InC, numberAfter, flashAfter, isDone, Step, Hosted}
 use Rattle.border.specs.Kept.{directoryBytes, NoStaleRecord}
-use Rattle.border.specs.Files.{fileWrite}
+use Rattle.border.specs.Files.{fileWrite, Brings}
 use Rattle.border.specs.Flash.{InStep, NoBitRises}
 use Rattle.border.specs.Answers.{Says, answerIn, NothingCut, endNumber}
 use Rattle.border.specs.ReadsBack.{ReadsBack}
