@@ -86,7 +86,7 @@ module _ (n : Node) (clock link bc : ℕ) (errors : Bool) (packet : List ℕ) (l
     module _ (c : isWrite n link bc packet ≡ true) where
       own : (id : ℕ) → Whole n link bc → Command packet id → routeOf n link bc errors packet ≡ Route.Own id → Brings
       own id w k q =
-          let e = eqb-true id 0x45 (sym (command-write n link (w .one) k) ∙ c) in
+          let e = eqb-true id 0x45 (sym (command-write n link bc (w .one) k) ∙ c) in
           whole w (record { own = k .own; number = k .number ∙ e }) (q ∙ ap Route.Own e)
 
       -- BC 10 brings none

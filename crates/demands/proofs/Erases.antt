@@ -23,7 +23,7 @@ use Rattle.flash.proofs.Geometry.{sector-fits, length-sector, laid-sector}
 use Rattle.flash.proofs.Statuses.{empty-blanks}
 use Rattle.flash.proofs.Erasure.{count-is, erased-laid}
 use Rattle.memory.specs.Segment.{Memories}
-use Rattle.node.specs.Effect.{ownOutcome, Did, changes, owns, Lent, lent, Outcome, applied, nodeAfter, Change, flashAfter}
+use Rattle.node.specs.Effect.{ownOutcome, Did, changes, owns, Lent, lent, Outcome, applied, nodeAfter, Change, flashAfter, Further}
 use Rattle.node.specs.Files.{isErasing, toErase, eraseAt, eraseStartOf}
 use Rattle.node.specs.Own.{filesOf, ownOf}
 use Rattle.node.specs.Refusals.{replyVerdict, pollVerdict, eraseVerdict}

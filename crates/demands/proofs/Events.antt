@@ -252,6 +252,7 @@ heard-goes {link} {from} {set} {own} {at} {s} {s′} {ss} {b} {h} k clock errors
             mode = v .mode;
             masks = v .masks;
             erasing = v .erasing;
+            writing = v .writing;
             pending =
                 subst
                 (λ (x : List ℕ). pendingOk (n .given .ports) (goesOn n (ask link s at) (gathering set from b) clock (taken (assembly (h .buffer) b) (length x) s a) (nextOf x) .pending) ≡ true)

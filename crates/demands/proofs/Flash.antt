@@ -44,23 +44,23 @@ within-none Found.Nothing flash = refl
 within-none (Found.At s) flash = (only-same refl, λ i p. refl)
 
 -- a command's number, against another
-pub command-is : {packet : List ℕ} {id bc : ℕ} (x : ℕ) → bcOf bc ≡ 3 → Command packet id → isCommand x bc packet ≡ eqb id x
-command-is x b c = λ i. eqb (b i) 3 && (eqb (c .own i) 0x2E && eqb (c .number i) x)
+pub command-is : {packet : List ℕ} {id : ℕ} (bc x : ℕ) → bcOf bc ≡ 3 → Command packet id → isCommand x bc packet ≡ eqb id x
+command-is bc x b c = λ i. eqb (b i) 3 && (eqb (c .own i) 0x2E && eqb (c .number i) x)
 
 -- of the commands File Write alone brings a file
 or-none : (t : Bool) → (t || false) ≡ t
 or-none true = refl
 or-none false = refl
 
-pub command-write : {packet : List ℕ} {id bc : ℕ} (n : Node) (link : ℕ) → bcOf bc ≡ 3 → Command packet id → isWrite n link bc packet ≡ eqb id 0x45
-command-write {id = id} n link b c =
+pub command-write : {packet : List ℕ} {id : ℕ} (n : Node) (link bc : ℕ) → bcOf bc ≡ 3 → Command packet id → isWrite n link bc packet ≡ eqb id 0x45
+command-write {id = id} n link bc b c =
     (λ i. (eqb (b i) 3 && (eqb (c .own i) 0x2E && eqb (c .number i) 0x45)) || (eqb (b i) 1 && writes (n .writing) link)) ∙ or-none (eqb id 0x45)
 
 -- a request's change lies in its site
 module _ (n : Node) (link bc : ℕ) (packet : List ℕ) (l : Lent) where
   -- the file that a request writes is the one that it brings
   pub source-write : {file : List ℕ} → Source n link bc packet l file → isWrite n link bc packet ≡ true
-  source-write (Source.whole w c) = λ i. command-is 0x45 (w .one) c i || isLast n link bc
+  source-write (Source.whole w c) = λ i. command-is bc 0x45 (w .one) c i || isLast n link bc
   source-write (Source.last k) =
       (λ i. (eqb (k .code i) 3 && (eqb (firstByte (getD packet 0 0)) 0x2E && eqb (secondByte (getD packet 0 0)) 0x45)) || (eqb (k .code i) 1 && writes (k .stands i) link))
       ∙ eq-eqb link link refl
@@ -82,7 +82,7 @@ module _ (n : Node) (link bc : ℕ) (packet : List ℕ) (l : Lent) where
       subst (λ (x : Found). Within x flash (flashAfter (Change.Wrote s file) (n .erasing) flash)) at
       (stored-only flash s file, stored-below flash s file (w .place .sector))
   why-within (Change.Headed s end header) w =
-      let at : Found.At s ≡ site = no _ (command-write n link (w .whole .one) (w .command)) (yes _ (command-is 0x48 (w .whole .one) (w .command)) (sym (ap foundBy (w .found)))) in
+      let at : Found.At s ≡ site = no _ (command-write n link bc (w .whole .one) (w .command)) (yes _ (command-is bc 0x48 (w .whole .one) (w .command)) (sym (ap foundBy (w .found)))) in
       subst (λ (x : Found). Within x flash (flashAfter (Change.Headed s end header) (n .erasing) flash)) at
       (stored-only flash s (header ∷ []), stored-below flash s (header ∷ []) (w .sector))
   why-within (Change.Begun s) w = within-none site flash

@@ -99,7 +99,7 @@ module _ (n : Node) (clock link bc : ℕ) (errors : Bool) (packet : List ℕ) (l
       why Change.Kept w = refl
       why (Change.Wrote s file) w = refl
       why (Change.Headed s file header) w = refl
-      why (Change.Begun s) w = absurd (false≢true (sym c ∙ command-is 0x47 (w .whole .one) (w .command)))
+      why (Change.Begun s) w = absurd (false≢true (sym c ∙ command-is bc 0x47 (w .whole .one) (w .command)))
       why (Change.Blanked budget) w = absurd w
 
       by : (v : Verdict) → judged v n l (requestEffect n clock link bc errors packet l) .turn .node .erasing ≡ n .erasing

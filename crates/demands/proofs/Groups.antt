@@ -207,7 +207,7 @@ module _ (r : GroupRun logodwen) where
       (λ _. pick-case Finds (eqb (getD (r .packet) 0 0) 0x452E) (λ _ a. absurd (reply-asks _ a)) (λ _ a. absurd (reply-asks _ a)))
 
   later-found : (w : Writing) (t : Bool) → Finds (laterPacket w (r .link) t (length (r .packet)))
-  later-found Writing.Nothing t a = absurd (reply-asks _ a)
+  later-found Writing.Nothing t = λ a. absurd (reply-asks _ a)
   later-found (Writing.File j) t =
       pick-case Finds (eqb (j .link) (r .link))
       (λ _. pick-case Finds (ltb 32768 (j .words + length (r .packet))) (λ _ a. absurd (reply-asks _ a)) (λ _. pick-case Finds t (λ _ a. absurd (reply-asks _ a)) (λ _ a. absurd (reply-asks _ a))))
@@ -283,7 +283,7 @@ module _ (r : GroupRun logodwen) where
       go : (v : Verdict) → verdict ≡ v → judged v n l (does (routeOf n (r .link) (r .bc) (r .errors) (r .packet))) .turn .answer ≡ Answer.Ask (r .asking)
           → Begins (after v (routeOf n (r .link) (r .bc) (r .errors) (r .packet)))
       go Verdict.Fine e a =
-          let fine = request-fine n (r .link) (length (r .packet)) (length (l .flash)) (length (l .memories .pm)) (length (l .memories .dm)) (length (l .memories .io)) (length (l .reply)) e in
+          let fine = request-fine n (r .link) (length (r .packet)) (length (l .flash)) (length (l .memories .pm)) (length (l .memories .dm)) (length (l .memories .io)) (length (l .further .area)) (length (l .reply)) e in
           let v = ranges-tell n (fine .fits .state) in
           taken′ fine (routeOf n (r .link) (r .bc) (r .errors) (r .packet)) (route-found a)
           (request-pending n (r .clock) (r .link) (r .bc) (r .errors) (r .packet) l (r .words) (fine .below) (v .masks) (v .pending))

@@ -133,7 +133,7 @@ module _ (s : ℕ) (file flash : List ℕ) (held : Held s file flash) where
           let passes = target-tells (n .directory) (nameOf (getD packet 1 0)) t (w .found) .passes in
           let word = ap (λ (x : ℕ). getD (n .directory) (entryPlace x) 0) e ∙ entry-first n flash fresh s (held .sector) ∙ held-first in
           let name = named-tells (nameOf (getD packet 1 0)) (getD file 0 0) (ap (isNamed (nameOf (getD packet 1 0))) (sym word) ∙ passes) in
-          false≢true (sym a ∙ and-both (command-is 0x48 (w .whole .one) (w .command)) (eq-eqb (nameOf (getD packet 1 0)) (fileName file) (sym name)))
+          false≢true (sym a ∙ and-both (command-is bc 0x48 (w .whole .one) (w .command)) (eq-eqb (nameOf (getD packet 1 0)) (fileName file) (sym name)))
 
       ok : headerOk (firstOf (sectorOf flash t)) ≡ true
       ok =

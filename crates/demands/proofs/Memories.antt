@@ -147,7 +147,7 @@ memories-left n clock link bc errors packet l h = by (verdictOn n link packet l)
     own : (id : ℕ) → Whole n link bc → Command packet id → ownOf id n clock link packet l .store ≡ Store.Kept
     own id w c =
         let k = none (isCommand 0x46 bc packet) (isCommand 0x0F bc packet) (isCommand 0x50 bc packet) (isCommand 0x51 bc packet) h in
-        own-keeps n clock link packet l id (sym (command-is 0x46 (w .one) c) ∙ k .0) (sym (command-is 0x0F (w .one) c) ∙ k .1) (sym (command-is 0x50 (w .one) c) ∙ k .2) (sym (command-is 0x51 (w .one) c) ∙ k .3)
+        own-keeps n clock link packet l id (sym (command-is bc 0x46 (w .one) c) ∙ k .0) (sym (command-is bc 0x0F (w .one) c) ∙ k .1) (sym (command-is bc 0x50 (w .one) c) ∙ k .2) (sym (command-is bc 0x51 (w .one) c) ∙ k .3)
 
     by : (v : Verdict) → judged v n l (requestEffect n clock link bc errors packet l) .after .memories ≡ l .memories
     by Verdict.Fine =

@@ -139,7 +139,7 @@ module _ (n : Node) (packet : List ℕ) (l : Lent) where
       end′ = Answer.Reply (zeroReply ZeroLength.End)
 
       outcomeWith : Memories → Lent
-      outcomeWith m = record { flash = l .flash; memories = m; reply = l .reply }
+      outcomeWith m = record { flash = l .flash; memories = m; further = l .further; reply = l .reply }
 
   load-loads : (clock link : ℕ) → Loads (ownOf 0x46 n clock link packet l)
   unfolding ownOf filesOf loadOf

@@ -87,9 +87,9 @@ record Stands (link : ℕ) (n : Node) (flash : List ℕ) (n′ : Node) (flash′
 
 sent-stands : {link : ℕ} {n : Node} {flash area : List ℕ} → n .writing ≡ Writing.Nothing → {n′ : Node} {flash′ area′ sent : List ℕ}
     → Sent logodwen link n flash area n′ flash′ area′ sent → Stands link n flash n′ flash′ area′ sent
-sent-stands {link} {n} {flash} {area} free (Sent.First clock bc words m reply b short taken) =
+sent-stands {link} {n} {flash} {area} free (Sent.First clock bc words m reply after b short is taken) =
     let l : Lent = lent flash m (further area) reply in
-    let o = first-is n clock link bc words l taken free b short in
+    let o = sym is ∙ first-is n clock link bc words l (ap (λ (x : Outcome). isRefused (x .turn .answer)) is ∙ taken) free b short in
     record {
       node = ap (λ (x : Outcome). x .turn .node) o ∙ ap (λ (k : ℕ). withWriting n (Writing.File (joining link k))) (zero-add (length words));
       same = ap (λ (x : Outcome). x .after .flash) o;
@@ -97,11 +97,12 @@ sent-stands {link} {n} {flash} {area} free (Sent.First clock bc words m reply b 
           ap (λ (x : Outcome). take (length words) (x .after .further .area)) o
           ∙ take-laid area 0 words (length words) (zero-add (length words)) (omega arith);
     }
-sent-stands {link} {n} {flash} {area} free (Sent.Then {n′ = n′} {flash′ = flash′} {area′ = area′} {sent = sent} before clock bc words m reply b least most short taken) =
+sent-stands {link} {n} {flash} {area} free (Sent.Then {n′ = n′} {flash′ = flash′} {area′ = area′} {sent = sent} before clock bc words m reply after b least most short is answered) =
     let s = sent-stands free before in
     let l : Lent = lent flash′ m (further area′) reply in
     let stands = ap (λ (x : Node). x .writing) (s .node) in
-    let o = between-is n′ clock link bc words l taken (joining link (length sent)) stands refl least most short b in
+    let taken = ap (λ (x : Outcome). isRefused (x .turn .answer)) is ∙ answered in
+    let o = sym is ∙ between-is n′ clock link bc words l taken (joining link (length sent)) stands refl least most short b in
     let long = length-append sent words in
     let room = area-room n′ clock link bc words l taken in
     record {
@@ -209,7 +210,7 @@ module _ (n : Node) (clock link bc : ℕ) (packet : List ℕ) (m : Memories) (x 
       later k = about (k .size) (ap (λ (v : Writing). writes v link) (k .stands) ∙ eq-eqb link link refl)
 
       joins : {from at : ℕ} → Joins n link bc packet from at → ⊥
-      joins (Joins.first f) = free-stands (f .free)
+      joins (Joins.begins f) = free-stands (f .free)
       joins (Joins.between k) = later k
 
   request-left : (errors : Bool) → isAbout j (Call.Request clock link bc errors packet m x reply) ≡ false

@@ -95,7 +95,7 @@ call-held (Call.Request clock link bc errors packet m x reply) n flash s file so
     same : isCommand 0x48 bc packet ≡ true → setsAttribute (fileName file) (Call.Request clock link bc errors packet m x reply) ≡ true → flashOf logodwen (Call.Request clock link bc errors packet m x reply) n flash ≡ flash
     same c a =
         ⊎-elim (λ e. e)
-        (⊎-elim (λ w. absurd (false≢true (sym (command-write n link (eqb-true (bcOf bc) 3 (command-whole 0x48 bc packet c)) (command-told 0x48 bc packet c)) ∙ w .command))) (λ w. p .attribute a (w .lays .answer)))
+        (⊎-elim (λ w. absurd (false≢true (sym (command-write n link bc (eqb-true (bcOf bc) 3 (command-whole 0x48 bc packet c)) (command-told 0x48 bc packet c)) ∙ w .command))) (λ w. p .attribute a (w .lays .answer)))
         (flash-follows n clock link bc errors packet (lent flash m x reply))
 
     attribute : (t : Bool) → (isCommand 0x48 bc packet && eqb (nameOf (getD packet 1 0)) (fileName file)) ≡ t → Held s file (flashOf logodwen (Call.Request clock link bc errors packet m x reply) n flash)

@@ -130,7 +130,7 @@ pub node-settled : NodeSettled
 node-settled =
     record {
       start = λ κs given x y v w p q. (p ∙ sym q, refl);
-      request = λ κs given x y v w p q. (ap (λ (o : Outcome). o .turn) (p ∙ sym q), λ i. (v .0, (v .1 .0, (v .1 .1 .0, (v .1 .1 .1 .0, (v .1 .1 .1 .1 .0, (v .1 .1 .1 .1 .1 .0, ((p ∙ sym q) i .after .flash, ((p ∙ sym q) i .after .memories .pm, ((p ∙ sym q) i .after .memories .dm, ((p ∙ sym q) i .after .memories .io, ((p ∙ sym q) i .after .reply, v .1 .1 .1 .1 .1 .1 .1 .1 .1 .1 .1))))))))))));
+      request = λ κs given x y v w p q. (ap (λ (o : Outcome). o .turn) (p ∙ sym q), λ i. (v .0, (v .1 .0, (v .1 .1 .0, (v .1 .1 .1 .0, (v .1 .1 .1 .1 .0, (v .1 .1 .1 .1 .1 .0, ((p ∙ sym q) i .after .flash, ((p ∙ sym q) i .after .memories .pm, ((p ∙ sym q) i .after .memories .dm, ((p ∙ sym q) i .after .memories .io, ((p ∙ sym q) i .after .further .area, ((p ∙ sym q) i .after .reply, v .1 .1 .1 .1 .1 .1 .1 .1 .1 .1 .1 .1)))))))))))));
       reply = λ κs given x y v w p q. (ap (λ (o : Outcome). o .turn) (p ∙ sym q), λ i. (v .0, (v .1 .0, (v .1 .1 .0, (v .1 .1 .1 .0, (v .1 .1 .1 .1 .0, (v .1 .1 .1 .1 .1 .0, (v .1 .1 .1 .1 .1 .1 .0, (v .1 .1 .1 .1 .1 .1 .1 .0, ((p ∙ sym q) i .after .reply, v .1 .1 .1 .1 .1 .1 .1 .1 .1))))))))));
       poll = λ κs given x y v w p q. (ap (λ (o : Outcome). o .turn) (p ∙ sym q), λ i. (v .0, (v .1 .0, ((p ∙ sym q) i .after .reply, v .1 .1 .1))));
       erase = λ κs given x y v w p q. (ap (λ (o : Outcome). o .turn) (p ∙ sym q), λ i. (v .0, (v .1 .0, ((p ∙ sym q) i .after .flash, v .1 .1 .1))));

@@ -33,7 +33,7 @@ use Rattle.group.specs.declared.Reply.{Reply}
 use Rattle.node.specs.State.{refusalNumber, joining, withWriting}
 use Rattle.node.specs.Valid.{masksOk, stateOk}
 use Rattle.node.specs.Refusals.{startVerdict, requestVerdict, eraseVerdict}
-use Rattle.node.specs.Route.{addressed, routeOf}
+use Rattle.node.specs.Route.{writes, addressed, routeOf}
 use Rattle.node.specs.Files.{fileWriteOf, loadOf, toErase, eraseStartOf}
 use Rattle.node.specs.Settings.{modeReadOf}
 use Rattle.node.specs.Own.{settingsOf, filesOf, ownOf}
@@ -70,6 +70,7 @@ not-done Refusal.Number e = omega arith
 not-done Refusal.State e = omega arith
 not-done Refusal.Busy e = omega arith
 not-done Refusal.Unasked e = omega arith
+not-done Refusal.AreaSize e = omega arith
 
 -- an erase-progress call that ours takes
 taken : eraseOf (started logodwen .node) 0 blank .turn .answer ≡ Answer.Erased 0
@@ -113,6 +114,10 @@ not-erasing : started logodwen .node .erasing ≡ Erasing.Nothing
 unfolding startVerdict startOf
 not-erasing = refl
 
+not-writing : writes (started logodwen .node .writing) 0 ≡ false
+unfolding startVerdict startOf
+not-writing = refl
+
 -- so a machine that starts as ours does, takes the File Write and does what `Writes` says has answered END
 first : (M : Machine) → started M ≡ started logodwen → Reached M (started M .node) blank
 first M e = Reached.First 2 4 0 0 0 0 0 blank (ap (λ (x : Turn). isRefused (x .answer)) e ∙ ap isRefused (closed-run .begins))
@@ -120,7 +125,7 @@ first M e = Reached.First 2 4 0 0 0 0 0 blank (ap (λ (x : Turn). isRefused (x .
 first-write : (M : Machine) → started M ≡ started logodwen → isRefused (written M .turn .answer) ≡ false → Writes M → written M .turn .answer ≡ end
 first-write M e t w =
     w (started M .node) blank (first M e) (ap (λ (x : Turn). x .node .erasing) e ∙ not-erasing) 0 0 3 false (0x452E ∷ file) (memories [] [] []) (further (replicate 32768 0)) (replicate 12288 0) refl
-    (record { taken = t; clean = refl; least = leb-true 1 6 refl; most = leb-true 6 8192 refl; whole = refl })
+    (record { taken = t; clean = refl; least = leb-true 1 6 refl; most = leb-true 6 8192 refl; free = λ _. ap (λ (x : Turn). writes (x .node .writing) 0) e ∙ not-writing })
     file-valid (blank-unused (fileName file)) 3 blank-takes
 
 aborts : Writes aborting → ⊥
@@ -272,9 +277,9 @@ erases-unasked w = ⊎-elim not-same (λ b. false≢true (b .command)) (w .reque
     not-same e = let z : _≡_ {A = ℕ} 0 1 = cc in omega arith
 
 -- a first packet whose words are no file's; a first packet of one word, which joins none; another link's packet between
-abbrev wordsIn : Writing → ℕ
-wordsIn Writing.Nothing = 0
-wordsIn (Writing.File j) = j .words
+abbrev joinedIn : Writing → ℕ
+joinedIn Writing.Nothing = 0
+joinedIn (Writing.File j) = j .words
 
 judges-first : AnyDivision judging → ⊥
 unfolding headerOk masksOk stateOk startVerdict requestVerdict routeOf startOf requestOf
@@ -283,7 +288,7 @@ judges-first w = eqb-false 2 0 refl (ap bcIn (w .first (started logodwen .node) 
 joins-header : AnyDivision hoarding → ⊥
 unfolding masksOk stateOk startVerdict requestVerdict routeOf startOf requestOf
 joins-header w =
-    eqb-false 1 0 refl (ap (λ (n : Node). wordsIn (n .writing)) (w .stands 0 (started logodwen .node) blank (replicate 32768 0) refl _ _ _ _ (Sent.First 0 2 [] (memories [] [] []) (replicate 12288 0) refl (leb-true 0 8191 refl) refl) .0))
+    eqb-false 1 0 refl (ap (λ (n : Node). joinedIn (n .writing)) (w .stands 0 (started logodwen .node) blank (replicate 32768 0) refl _ _ _ _ (Sent.First 0 2 [] (memories [] [] []) (replicate 12288 0) _ refl (leb-true 0 8191 refl) refl refl) .0))
 
 standing : Node
 standing = withWriting (started logodwen .node) (Writing.File (joining 0 0))
@@ -292,7 +297,7 @@ mixes-links : LeftAlone mixing → ⊥
 unfolding standing masksOk stateOk startVerdict requestVerdict routeOf startOf requestOf
 mixes-links w =
     eqb-false 1 0 refl
-    (ap wordsIn (w (Call.Request 0 1 0 false (0 ∷ []) (memories [] [] []) (further (replicate 32768 0)) (replicate 12288 0)) standing blank (joining 0 0) refl refl .0))
+    (ap joinedIn (w (Call.Request 0 1 0 false (0 ∷ []) (memories [] [] []) (further (replicate 32768 0)) (replicate 12288 0)) standing blank (joining 0 0) refl refl .0))
 
 -- a Load while the erasure is in progress
 loads-half : NeverCorrupted loader → ⊥

@@ -32,14 +32,14 @@ fileWrite = 0x452E
 -- file; then any number with BC 00 of 1 to 8,192 words; together at most 32,768 words of the file. No receive errors, none refused, no
 -- other call between, and the area left as it stands. From a state, a flash and an area to those after, with the words sent.
 pub data Sent (M : Machine) (link : ℕ) (n : Node) (flash area : List ℕ) : Node → List ℕ → List ℕ → List ℕ → Type 0 where
-  First : (clock bc : ℕ) (words : List ℕ) (m : Memories) (reply : List ℕ) → bc % 4 ≡ 2 → length words ≤ 8191
-      → let o : Outcome = M .request n clock link bc false (fileWrite ∷ words) (lent flash m (further area) reply) in
-      isRefused (o .turn .answer) ≡ false → Sent M link n flash area (o .turn .node) (o .after .flash) (o .after .further .area) words
+  First : (clock bc : ℕ) (words : List ℕ) (m : Memories) (reply : List ℕ) (o : Outcome) → bc % 4 ≡ 2 → length words ≤ 8191
+      → M .request n clock link bc false (fileWrite ∷ words) (lent flash m (further area) reply) ≡ o → isRefused (o .turn .answer) ≡ false
+      → Sent M link n flash area (o .turn .node) (o .after .flash) (o .after .further .area) words
   Then : {n′ : Node} {flash′ area′ sent : List ℕ} → Sent M link n flash area n′ flash′ area′ sent
-      → (clock bc : ℕ) (words : List ℕ) (m : Memories) (reply : List ℕ) → bc % 4 ≡ 0 → 1 ≤ length words → length words ≤ 8192
+      → (clock bc : ℕ) (words : List ℕ) (m : Memories) (reply : List ℕ) (o : Outcome) → bc % 4 ≡ 0 → 1 ≤ length words → length words ≤ 8192
       → length sent + length words ≤ 32768
-      → let o : Outcome = M .request n′ clock link bc false words (lent flash′ m (further area′) reply) in
-      isRefused (o .turn .answer) ≡ false → Sent M link n flash area (o .turn .node) (o .after .flash) (o .after .further .area) (sent ++ words)
+      → M .request n′ clock link bc false words (lent flash′ m (further area′) reply) ≡ o → isRefused (o .turn .answer) ≡ false
+      → Sent M link n flash area (o .turn .node) (o .after .flash) (o .after .further .area) (sent ++ words)
 
 -- A file in several packets: those but the last, and the last, BC 01, of 1 to 8,192 words.
 pub record Division (M : Machine) (link : ℕ) (n : Node) (flash area file : List ℕ) : Type 0 where

@@ -147,8 +147,8 @@ next-slave (t ∷ rest) s h = let z : t ≡ s = cc in (rest, ap (λ (x : ℕ). x
 pub request-pending : (n : Node) (clock link bc : ℕ) (errors : Bool) (packet : List ℕ) (l : Lent) → Below 65536 packet → link < n .given .ports → masksOk (n .masks) ≡ true
     → pendingOk (n .given .ports) (n .pending) ≡ true → pendingOk (n .given .ports) (routed (routeOf n link bc errors packet) n clock link packet l .pending) ≡ true
 request-pending n clock link bc errors packet l b k m h =
-    route-case (λ r. pendingOk (n .given .ports) (routed r n clock link packet l .pending) ≡ true) n link bc errors packet h h (λ _. h) (λ _. h)
-    (λ _. pick-case (λ (p : Pending). pendingOk (n .given .ports) p ≡ true) (asks (n .pending) link) (λ _. refl) (λ _. h))
+    route-case (λ r. pendingOk (n .given .ports) (routed r n clock link packet l .pending) ≡ true) n link bc errors packet h h (λ _ _. h) (λ _ _. h)
+    (λ _ _. pick-case (λ (p : Pending). pendingOk (n .given .ports) p ≡ true) (asks (n .pending) link) (λ _. refl) (λ _. h))
     (λ from at j. h) (λ at w. h) (λ id w c. h)
     (λ s q. and-both (lt-ltb link (n .given .ports) k) (le-leb s 23 q))
     (λ set from s named e. and-both (and-both (lt-ltb link (n .given .ports) k) (slave set s e)) (and-both (and-both (and-both (member set s e) (lt-ltb set 16777216 (named-below m b named))) (room set s e)) (named-from named)))
@@ -169,8 +169,8 @@ request-pending n clock link bc errors packet l b k m h =
 pub request-writing : (n : Node) (clock link bc : ℕ) (errors : Bool) (packet : List ℕ) (l : Lent) → link < n .given .ports
     → writingOk (n .given .ports) (n .writing) ≡ true → writingOk (n .given .ports) (writingAfter (routed (routeOf n link bc errors packet) n clock link packet l .join) (n .writing)) ≡ true
 request-writing n clock link bc errors packet l k h =
-    route-case (λ r. Ok (routed r n clock link packet l .join)) n link bc errors packet h h (λ _. refl) (λ _. refl)
-    (λ _. pick-case Ok (writes (n .writing) link) (λ _. refl) (λ _. h))
+    route-case (λ r. Ok (routed r n clock link packet l .join)) n link bc errors packet h h (λ _ _. refl) (λ _ _. refl)
+    (λ _ _. pick-case Ok (writes (n .writing) link) (λ _. refl) (λ _. h))
     (λ from at j.
     let fits = joins-fit j .1 in
     and-both (lt-ltb link (n .given .ports) k) (le-leb (at + length (drop from packet)) 32768 (omega (arith, length-drop from packet))))

@@ -62,8 +62,8 @@ pub data Joins (n : Node) (link bc : ℕ) (packet : List ℕ) : ℕ → ℕ → 
   between : {at : ℕ} → Later n link bc 0 packet at → Joins n link bc packet 0 at
 
 module _ (P : Route → Type 0) (n : Node) (link bc : ℕ) (errors : Bool) (packet : List ℕ) (wrong : P Route.Wrong) (unserved : P Route.Unserved)
-    (broken : writes (n .writing) link ≡ true → P Route.Broken) (overlong : writes (n .writing) link ≡ true → P Route.Overlong)
-    (dropped : length packet ≡ 0 → P Route.Dropped)
+    (broken : Sized packet → writes (n .writing) link ≡ true → P Route.Broken) (overlong : Sized packet → writes (n .writing) link ≡ true → P Route.Overlong)
+    (dropped : length packet ≡ 0 → drops n link bc ≡ true → P Route.Dropped)
     (join : (from at : ℕ) → Joins n link bc packet from at → P (Route.Join from at))
     (last : (at : ℕ) → Later n link bc 1 packet at → P (Route.Last at))
     (own : (id : ℕ) → Whole n link bc → Command packet id → P (Route.Own id))
@@ -93,8 +93,8 @@ module _ (P : Route → Type 0) (n : Node) (link bc : ℕ) (errors : Bool) (pack
       (λ _. pick-case P (eqb (firstByte first) 0x23) (λ _. group-case _ 2 Named.sent)
       (λ _. pick-case P (eqb (firstByte first) 0x2A) (λ _. group-case _ 1 Named.all) (λ _. wrong)))))
 
-  whole-case : bcOf bc ≡ 3 → P (wholePacket (n .writing) link (addressed (n .given .kind) (n .masks) (length packet) (getD packet 0 0) (getD packet 1 0)))
-  whole-case b = pick-case P (writes (n .writing) link) broken (λ e. addressed-case (record { one = b; none = e }))
+  whole-case : bcOf bc ≡ 3 → Sized packet → P (wholePacket (n .writing) link (addressed (n .given .kind) (n .masks) (length packet) (getD packet 0 0) (getD packet 1 0)))
+  whole-case b z = pick-case P (writes (n .writing) link) (broken z) (λ e. addressed-case (record { one = b; none = e }))
 
   first-case : bcOf bc ≡ 2 → Sized packet → P (firstPacket (n .writing) link (getD packet 0 0))
   first-case b z = by (n .writing) refl
@@ -105,7 +105,7 @@ module _ (P : Route → Type 0) (n : Node) (link bc : ℕ) (errors : Bool) (pack
           (λ h. join 1 0 (Joins.begins (record { code = b; size = z; free = e; command = eqb-true (getD packet 0 0) 0x452E h })))
           (λ _. wrong)
       by (Writing.File j) e =
-          pick-case P (eqb (j .link) link) (λ h. broken (ap (λ (w : Writing). writes w link) e ∙ h))
+          pick-case P (eqb (j .link) link) (λ h. broken z (ap (λ (w : Writing). writes w link) e ∙ h))
           (λ _. pick-case P (eqb (getD packet 0 0) 0x452E) (λ _. unserved) (λ _. wrong))
 
   later-case : eqb (bcOf bc) 3 ≡ false → eqb (bcOf bc) 2 ≡ false → Sized packet
@@ -116,7 +116,7 @@ module _ (P : Route → Type 0) (n : Node) (link bc : ℕ) (errors : Bool) (pack
       by Writing.Nothing e = wrong
       by (Writing.File j) e =
           pick-case P (eqb (j .link) link)
-          (λ h. pick-case P (ltb 32768 (j .words + length packet)) (λ _. overlong (ap (λ (w : Writing). writes w link) e ∙ h))
+          (λ h. pick-case P (ltb 32768 (j .words + length packet)) (λ _. overlong z (ap (λ (w : Writing). writes w link) e ∙ h))
           (λ q. let stands = e ∙ ap (λ (x : ℕ). Writing.File (joining x (j .words))) (eqb-true (j .link) link h) in
           let room = ltb-false 32768 (j .words + length packet) q in
           pick-case P (eqb (bcOf bc) 1)
@@ -133,10 +133,10 @@ module _ (P : Route → Type 0) (n : Node) (link bc : ℕ) (errors : Bool) (pack
   unfolding routeOf
   route-case =
       pick-case P errors (λ _. wrong)
-      (λ _. pick-case P (eqb (length packet) 0) (λ e. pick-case P (drops n link bc) (λ _. dropped (eqb-true (length packet) 0 e)) (λ _. unserved))
+      (λ _. pick-case P (eqb (length packet) 0) (λ e. pick-case P (drops n link bc) (dropped (eqb-true (length packet) 0 e)) (λ _. unserved))
       (λ e. pick-case P (ltb 8192 (length packet)) (λ _. wrong)
       (λ h. let z : Sized packet = record { some = omega (arith, eqb-false (length packet) 0 e); most = ltb-false 8192 (length packet) h } in
-      pick-case P (eqb (bcOf bc) 3) (λ b. whole-case (eqb-true (bcOf bc) 3 b))
+      pick-case P (eqb (bcOf bc) 3) (λ b. whole-case (eqb-true (bcOf bc) 3 b) z)
       (λ b. pick-case P (eqb (bcOf bc) 2) (λ c. first-case (eqb-true (bcOf bc) 2 c) z) (λ c. later-case b c z)))))
 
 -- so the node's own command has a word, and the words of a write fit into its area
@@ -158,5 +158,5 @@ joins-fit (Joins.between l) = (omega arith, l .room)
 
 pub route-fits : (n : Node) (link bc : ℕ) (errors : Bool) (packet : List ℕ) → Fits (routeOf n link bc errors packet) packet
 route-fits n link bc errors packet =
-    route-case (λ r. Fits r packet) n link bc errors packet tt tt (λ _. tt) (λ _. tt) (λ _. tt) (λ from at j. joins-fit j) (λ at l. l .room)
+    route-case (λ r. Fits r packet) n link bc errors packet tt tt (λ _ _. tt) (λ _ _. tt) (λ _ _. tt) (λ from at j. joins-fit j) (λ at l. l .room)
     (λ id w c. command-words packet id c) (λ s h. tt) (λ set from s named e. tt)

@@ -328,7 +328,7 @@ module _ (n : Node) (link bc : ℕ) (packet : List ℕ) (l : Lent) where
   pub request-why : (clock : ℕ) (errors : Bool) → Because (routed (routeOf n link bc errors packet) n clock link packet l)
   unfolding none
   request-why clock errors =
-      route-case (λ r. Because (routed r n clock link packet l)) n link bc errors packet none none (λ _. none) (λ _. none) (λ _. none)
+      route-case (λ r. Because (routed r n clock link packet l)) n link bc errors packet none none (λ _ _. none) (λ _ _. none) (λ _ _. none)
       (λ from at j. none) (λ at w. write-reason (joined (l .further .area) at packet) (Source.last w))
       (λ id w c. own-reason id clock w c) (λ s h. none) (λ set from s named e. none)
 
