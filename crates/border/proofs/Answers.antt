@@ -41,13 +41,13 @@ use Rattle.node.proofs.Ranges.{ranges-tell}
 use Rattle.demands.specs.Machine.{isRefused}
 use Rattle.demands.specs.Requests.{end}
 use Rattle.demands.proofs.Taken.{verdictOn, requestEffect}
-use Rattle.logodwen.specs.Bytes.{wordsOf}
-use Rattle.logodwen.specs.StateBytes.{nodeIn, areState}
+use Rattle.codec.specs.Bytes.{wordsOf}
+use Rattle.codec.specs.StateBytes.{nodeIn, areState}
 use Rattle.logodwen.specs.Number.{fields, answerNumber}
 use Rattle.logodwen.specs.Entry.{memoryWords, replyWords, isSet}
-use Rattle.logodwen.proofs.Runs.{length-words, length-words-of}
+use Rattle.codec.proofs.Runs.{length-words, length-words-of}
 use Rattle.logodwen.proofs.Entering.{reply-fine, poll-fine, erase-fine}
-use Rattle.logodwen.proofs.Small.{size-most}
+use Rattle.codec.proofs.Small.{size-most}
 use Rattle.logodwen.proofs.Fine.{state-sound}
 use Rattle.border.specs.Exactly.{entries}
 use Rattle.border.specs.Host.{Entry, numberAfter, isDone}

@@ -24,10 +24,10 @@ use Rattle.node.specs.Route.{addressed, routeOf}
 use Rattle.node.specs.Files.{readOf, writeOf}
 use Rattle.node.specs.Own.{filesOf, ownOf}
 use Rattle.node.specs.Calls.{startOf, requestOf}
-use Rattle.logodwen.specs.Bytes.{valueOf, digitsOf, wordsIn, wordsOf, bytesOf}
+use Rattle.codec.specs.Bytes.{valueOf, digitsOf, wordsIn, wordsOf, bytesOf}
 use Rattle.memory.specs.Run.{allBelow}
-use Rattle.logodwen.specs.Places.{packed}
-use Rattle.logodwen.specs.StateBytes.{encodeOf, nodeIn, alike, areState}
+use Rattle.codec.specs.Places.{packed}
+use Rattle.codec.specs.StateBytes.{encodeOf, nodeIn, alike, areState}
 use Rattle.logodwen.specs.Causes.{startCheck, requestCheck}
 use Rattle.logodwen.specs.Entry.{startEntry, requestEntry}
 use Rattle.border.specs.Exactly.{entries}

@@ -17,13 +17,13 @@ use Rattle.node.specs.Settings.{statusIn}
 use Rattle.node.specs.Calls.{requestOf}
 use Rattle.demands.specs.Machine.{logodwen}
 use Rattle.demands.specs.Requests.{Delivered, handed as handedWords}
-use Rattle.logodwen.specs.Bytes.{wordsOf, bytesOf, storeWords}
-use Rattle.logodwen.specs.StateBytes.{nodeIn}
+use Rattle.codec.specs.Bytes.{wordsOf, bytesOf, storeWords}
+use Rattle.codec.specs.StateBytes.{nodeIn}
 use Rattle.logodwen.specs.Number.{answerNumber}
 use Rattle.logodwen.specs.Entry.{answered, memoryWords, memoriesLeft, replyWords, inBytes, told, isSet}
-use Rattle.logodwen.proofs.Runs.{length-bytes, length-words-of}
+use Rattle.codec.proofs.Runs.{length-bytes, length-words-of}
 use Rattle.logodwen.proofs.Entering.{request-fine}
-use Rattle.logodwen.proofs.ThereAndBack.{encoded-decoded, bytes-kept}
+use Rattle.codec.proofs.ThereAndBack.{encoded-decoded, bytes-kept}
 use Rattle.border.specs.Exactly.{entries}
 use Rattle.border.specs.Host.{Entry, InC, U8s, answerOf, numberAfter, isDone}
 use Rattle.border.specs.Answers.{wholeNumber, handed}

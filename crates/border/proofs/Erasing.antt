@@ -38,13 +38,13 @@ use Rattle.demands.proofs.Sound.{reached-sound}
 use Rattle.demands.proofs.Follows.{erasure-follows as words-follow}
 use Rattle.demands.proofs.Erases.{erases as words-erase}
 use Rattle.demands.proofs.Lays.{flash-follows as words-laid}
-use Rattle.logodwen.specs.Bytes.{wordsOf, bytesOf, storeWords}
-use Rattle.logodwen.specs.StateBytes.{sizeIn, nodeIn, progressIn}
+use Rattle.codec.specs.Bytes.{wordsOf, bytesOf, storeWords}
+use Rattle.codec.specs.StateBytes.{sizeIn, nodeIn, progressIn}
 use Rattle.logodwen.specs.Number.{fields, answerNumber}
 use Rattle.logodwen.specs.Entry.{memoryWords, replyWords, isSet}
-use Rattle.logodwen.proofs.Runs.{length-bytes, length-words-of}
+use Rattle.codec.proofs.Runs.{length-bytes, length-words-of}
 use Rattle.logodwen.proofs.Entering.{request-fine, erase-fine}
-use Rattle.logodwen.proofs.ThereAndBack.{bytes-kept}
+use Rattle.codec.proofs.ThereAndBack.{bytes-kept}
 use Rattle.border.specs.Exactly.{entries, eraseCauses}
 use Rattle.border.specs.Host.{Entry, InC, answerOf, numberAfter, stateAfter, flashAfter, onWords, isDone, Step as HostStep}
 use Rattle.border.specs.Kept.{erasingIn}

@@ -30,12 +30,12 @@ use Rattle.demands.specs.Refusals.{Cause}
 use Rattle.demands.proofs.Tests.{Tells, leb-tells, ltb-tells, eqb-tells, and-tells, or-tells, not-tells, same-tells}
 use Rattle.demands.proofs.Refusals.{kind-tells, ports-tells, Decides, verdictNumber, first-is}
 use Rattle.demands.proofs.Taken.{verdictOn, requestEffect, request-taken, reply-taken, poll-taken}
-use Rattle.logodwen.specs.Bytes.{numberAt, wordsOf}
-use Rattle.logodwen.specs.StateBytes.{sizeIn, portsIn, tallyOf, waitIn, nodeIn}
+use Rattle.codec.specs.Bytes.{numberAt, wordsOf}
+use Rattle.codec.specs.StateBytes.{sizeIn, portsIn, tallyOf, waitIn, nodeIn}
 use Rattle.logodwen.specs.Number.{answerNumber}
 use Rattle.logodwen.specs.Causes.{benchCause as benchTest, memoriesCause as memoriesTest, lengthCause as lengthTest, portCause as portTest, bytesCause as bytesTest, requestCheck, replyCheck, pollCheck, eraseCheck, startCheck}
 use Rattle.logodwen.specs.Entry.{Answered, entered, isSet, replyWords, runWords, startEntry, requestEntry, replyEntry, pollEntry, eraseEntry}
-use Rattle.logodwen.specs.declared.Wait.{Wait}
+use Rattle.codec.specs.declared.Wait.{Wait}
 use Rattle.border.specs.Exactly.{entries, Above, BenchSize, Pends, Asks, startCauses, requestCauses, replyCauses, pollCauses, eraseCauses, Exactly, Unchanged, RefusedExactly}
 use Rattle.border.proofs.Fine.{request-fine, reply-fine, poll-fine, erase-fine, start-fine}
 use Rattle.border.proofs.OfState.{state-bytes-tell}

@@ -16,11 +16,11 @@ use Rattle.node.specs.declared.Refusal.{Refusal}
 use Rattle.node.specs.declared.Verdict.{Verdict}
 use Rattle.node.proofs.Verdicts.{fine-tells}
 use Rattle.demands.proofs.Taken.{verdictOn}
-use Rattle.logodwen.specs.Bytes.{wordsOf}
-use Rattle.logodwen.specs.StateBytes.{nodeIn}
+use Rattle.codec.specs.Bytes.{wordsOf}
+use Rattle.codec.specs.StateBytes.{nodeIn}
 use Rattle.logodwen.specs.Causes.{benchCause, memoriesCause, lengthCause, portCause, bytesCause, requestCheck, replyCheck, pollCheck, eraseCheck, startCheck}
 use Rattle.logodwen.specs.Entry.{replyWords, runWords}
-use Rattle.logodwen.proofs.Runs.{length-words-of}
+use Rattle.codec.proofs.Runs.{length-words-of}
 use Rattle.logodwen.proofs.Fine.{none-refuses, state-no, flash-no, memory-no, link-no}
 
 -- the lent part of a reply buffer that passes refusal 2 is long enough

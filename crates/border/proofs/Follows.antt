@@ -14,8 +14,8 @@ use Rattle.demands.specs.Machine.{logodwen, turnOf}
 use Rattle.demands.specs.Requests.{end}
 use Rattle.demands.specs.Reached.{stateAfter as nodeAfter, Step as Called}
 use Rattle.demands.specs.Files.{Spares as SparedBy, Runs as Calls}
-use Rattle.logodwen.specs.Bytes.{wordsOf}
-use Rattle.logodwen.specs.StateBytes.{nodeIn, progressIn}
+use Rattle.codec.specs.Bytes.{wordsOf}
+use Rattle.codec.specs.StateBytes.{nodeIn, progressIn}
 use Rattle.logodwen.specs.Number.{answerNumber}
 use Rattle.border.specs.Exactly.{entries}
 use Rattle.border.specs.Host.{Entry, InC, numberAfter, stateAfter, flashAfter, onWords, Step as HostStep}

@@ -13,10 +13,10 @@ use Rattle.node.specs.Calls.{requestOf}
 use Rattle.node.specs.declared.Answer.{Answer}
 use Rattle.demands.specs.Groups.{isGroup, setAsked, stripped, knowsMask}
 use Rattle.demands.proofs.Asks.{group-is-asked as node-asked}
-use Rattle.logodwen.specs.Bytes.{numberAt, wordsOf}
-use Rattle.logodwen.specs.StateBytes.{nodeIn}
+use Rattle.codec.specs.Bytes.{numberAt, wordsOf}
+use Rattle.codec.specs.StateBytes.{nodeIn}
 use Rattle.logodwen.specs.Entry.{memoryWords, replyWords}
-use Rattle.logodwen.proofs.Runs.{length-words-of}
+use Rattle.codec.proofs.Runs.{length-words-of}
 use Rattle.border.specs.Exactly.{entries}
 use Rattle.border.specs.Host.{Entry, numberAfter, isDone}
 use Rattle.border.specs.Answers.{Says}

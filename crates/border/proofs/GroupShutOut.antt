@@ -30,13 +30,13 @@ use Rattle.demands.specs.Machine.{isRefused}
 use Rattle.demands.specs.Events.{Event as Call, Undropped, heards}
 use Rattle.demands.specs.Groups.{isGroup, setAsked, stripped, knowsMask}
 use Rattle.demands.proofs.Taken.{requestEffect, request-taken}
-use Rattle.logodwen.specs.Bytes.{valueOf, digitsOf, numberAt, wordsIn, wordsOf, bytesOf, storeWords}
-use Rattle.logodwen.specs.Places.{packed}
+use Rattle.codec.specs.Bytes.{valueOf, digitsOf, numberAt, wordsIn, wordsOf, bytesOf, storeWords}
+use Rattle.codec.specs.Places.{packed}
 use Rattle.logodwen.specs.Number.{answerNumber}
-use Rattle.logodwen.specs.StateBytes.{encodeOf, nodeIn, alike, areState}
+use Rattle.codec.specs.StateBytes.{encodeOf, nodeIn, alike, areState}
 use Rattle.logodwen.specs.Causes.{requestCheck}
 use Rattle.logodwen.specs.Entry.{Answered, entered, told, inBytes, memoryWords, replyWords, requestEntry}
-use Rattle.logodwen.proofs.Runs.{length-words-of}
+use Rattle.codec.proofs.Runs.{length-words-of}
 use Rattle.border.specs.Host.{U8s, InC, answerOf, numberAfter, isDone, Hosted}
 use Rattle.border.specs.Answers.{InBits}
 use Rattle.border.specs.ClosedRun.{blank, zeros, fresh, sends}

@@ -31,14 +31,14 @@ use Rattle.demands.specs.Machine.{logodwen, flashOf, isRefused}
 use Rattle.demands.specs.Reached.{stateAfter as nodeAfter}
 use Rattle.demands.specs.Events.{Event as Call, Host as NodeHost, host as nodeHost, slaveIn as slaveAsked, stepped as nodeStepped}
 use Rattle.demands.proofs.Taken.{reply-taken, poll-taken}
-use Rattle.logodwen.specs.Bytes.{wordsIn, wordsOf, bytesOf, storeWords}
-use Rattle.logodwen.specs.StateBytes.{tallyOf, waitIn, nodeIn, areState}
+use Rattle.codec.specs.Bytes.{wordsIn, wordsOf, bytesOf, storeWords}
+use Rattle.codec.specs.StateBytes.{tallyOf, waitIn, nodeIn, areState}
 use Rattle.logodwen.specs.Number.{answerNumber}
 use Rattle.logodwen.specs.Causes.{bytesCause, replyCheck, pollCheck}
 use Rattle.logodwen.specs.Entry.{Answered, entered, memoryWords, replyWords, isSet, replyEntry, pollEntry}
-use Rattle.logodwen.specs.declared.Wait.{Wait}
-use Rattle.logodwen.proofs.Runs.{length-words-of, length-bytes, length-store, store-words, words-take}
-use Rattle.logodwen.proofs.ThereAndBack.{words-read}
+use Rattle.codec.specs.declared.Wait.{Wait}
+use Rattle.codec.proofs.Runs.{length-words-of, length-bytes, length-store, store-words, words-take}
+use Rattle.codec.proofs.ThereAndBack.{words-read}
 use Rattle.border.specs.Exactly.{entries, Stays}
 use Rattle.border.specs.Host.{Entry, InC, onWords, isDone}
 use Rattle.border.specs.Answers.{Says, answerIn}

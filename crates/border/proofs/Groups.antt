@@ -25,8 +25,8 @@ use Rattle.demands.specs.Machine.{logodwen}
 use Rattle.demands.specs.Events.{Event as Call, Host as NodeHost, stepped as nodeStepped, hosted as nodeHosted, Undropped, heards}
 use Rattle.demands.specs.Groups.{GroupRun as NodeRun, atLast as nodeLast, said as nodeSaid, Sends as NodeSends, EndsBy, ExactlyThose}
 use Rattle.demands.proofs.Groups.{group-is-its-fragments as node-fragments, so-far as node-so-far, asked-in-order, each-asked-once}
-use Rattle.logodwen.specs.Bytes.{wordsOf, storeWords}
-use Rattle.logodwen.specs.StateBytes.{nodeIn}
+use Rattle.codec.specs.Bytes.{wordsOf, storeWords}
+use Rattle.codec.specs.StateBytes.{nodeIn}
 use Rattle.logodwen.specs.Entry.{memoryWords, replyWords, isSet}
 use Rattle.logodwen.proofs.Entering.{request-fine}
 use Rattle.border.specs.Exactly.{entries}

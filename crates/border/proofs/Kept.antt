@@ -14,14 +14,14 @@ use Rattle.node.specs.Effect.{lent}
 use Rattle.node.specs.declared.Node.{Node}
 use Rattle.demands.specs.Requests.{handed}
 use Rattle.demands.proofs.NoStaleRecord.{no-stale-record as word-record, summary-is-true as word-summary}
-use Rattle.logodwen.specs.Bytes.{valueOf, wordsIn, wordsOf, bytesOf}
-use Rattle.logodwen.specs.Places.{packed}
-use Rattle.logodwen.specs.StateBytes.{sizes, numbersOf, encodeOf, nodeIn}
-use Rattle.logodwen.specs.Kept.{Typed}
+use Rattle.codec.specs.Bytes.{valueOf, wordsIn, wordsOf, bytesOf}
+use Rattle.codec.specs.Places.{packed}
+use Rattle.codec.specs.StateBytes.{sizes, numbersOf, encodeOf, nodeIn}
+use Rattle.codec.specs.Kept.{Typed}
 use Rattle.logodwen.specs.Entry.{memoryWords, replyWords}
-use Rattle.logodwen.proofs.Runs.{length-bytes}
-use Rattle.logodwen.proofs.Encoding.{length-numbers}
-use Rattle.logodwen.proofs.ThereAndBack.{encoded-decoded}
+use Rattle.codec.proofs.Runs.{length-bytes}
+use Rattle.codec.proofs.Encoding.{length-numbers}
+use Rattle.codec.proofs.ThereAndBack.{encoded-decoded}
 use Rattle.border.specs.Exactly.{entries}
 use Rattle.border.specs.Kept.{erasingIn, AlwaysState, NoStaleRecord, SummaryIsTrue}
 use Rattle.border.proofs.Stands.{stands-typed, hosted-stands}

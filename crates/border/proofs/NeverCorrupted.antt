@@ -29,13 +29,13 @@ use Rattle.demands.specs.Requests.{end, isCommand, handed as handedWords}
 use Rattle.demands.specs.Files.{IsFile, Names as WordsNames, loaded as loadedWords, Did as WordsDid}
 use Rattle.demands.proofs.Commands.{replyIn}
 use Rattle.demands.proofs.NeverCorrupted.{never-corrupted as words-never}
-use Rattle.logodwen.specs.Bytes.{valueOf, digitsOf, numberAt, wordsIn, wordsOf, bytesOf, storeWords}
-use Rattle.logodwen.specs.Places.{packed}
-use Rattle.logodwen.specs.StateBytes.{encodeOf, nodeIn, areState}
+use Rattle.codec.specs.Bytes.{valueOf, digitsOf, numberAt, wordsIn, wordsOf, bytesOf, storeWords}
+use Rattle.codec.specs.Places.{packed}
+use Rattle.codec.specs.StateBytes.{encodeOf, nodeIn, areState}
 use Rattle.logodwen.specs.Entry.{Answered, answered, memoryWords, memoriesLeft, inBytes, told, replyWords, runWords, isSet}
-use Rattle.logodwen.proofs.Runs.{length-bytes, length-words-of}
+use Rattle.codec.proofs.Runs.{length-bytes, length-words-of}
 use Rattle.logodwen.proofs.Entering.{RequestFine, request-fine}
-use Rattle.logodwen.proofs.ThereAndBack.{encoded-decoded, words-read, bytes-kept}
+use Rattle.codec.proofs.ThereAndBack.{encoded-decoded, words-read, bytes-kept}
 use Rattle.border.specs.Exactly.{entries}
 use Rattle.border.specs.Host.{Entry, InC, U8s, answerOf, numberAfter, isDone}
 use Rattle.border.specs.Kept.{erasingIn}

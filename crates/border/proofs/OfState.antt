@@ -14,12 +14,12 @@ use Rattle.node.specs.declared.Node.{Node}
 use Rattle.node.specs.declared.Pending.{Pending}
 use Rattle.demands.proofs.Refusals.{state-tells}
 use Rattle.demands.proofs.Tests.{Tells}
-use Rattle.logodwen.specs.Bytes.{digitsOf, numberAt, bytesOf}
-use Rattle.logodwen.specs.Places.{packed}
-use Rattle.logodwen.specs.StateBytes.{waitOf, pendingOf, sizes, numbersOf, encodeOf, waitIn, nodeIn, areState}
-use Rattle.logodwen.specs.Kept.{Typed}
-use Rattle.logodwen.proofs.Runs.{length-words}
-use Rattle.logodwen.proofs.ThereAndBack.{decoded-encoded, encoded-decoded}
+use Rattle.codec.specs.Bytes.{digitsOf, numberAt, bytesOf}
+use Rattle.codec.specs.Places.{packed}
+use Rattle.codec.specs.StateBytes.{waitOf, pendingOf, sizes, numbersOf, encodeOf, waitIn, nodeIn, areState}
+use Rattle.codec.specs.Kept.{Typed}
+use Rattle.codec.proofs.Runs.{length-words}
+use Rattle.codec.proofs.ThereAndBack.{decoded-encoded, encoded-decoded}
 use Rattle.border.specs.Exactly.{OfState, StateBytesExactly}
 use Rattle.border.proofs.Runs.{value-below, words-below, below-digits, below-bytes}
 use Rattle.logodwen.proofs.Fine.{state-sound}

@@ -19,11 +19,11 @@ use Rattle.flash.specs.declared.Found.{Found}
 use Rattle.demands.specs.Machine.{logodwen, flashOf}
 use Rattle.demands.specs.Flash.{Within as WithinWords, InStep as InWords, SetByErasing as SetWords}
 use Rattle.demands.proofs.Flash.{one-sector as words-one-sector, no-bit-rises as words-no-bit-rises}
-use Rattle.logodwen.specs.Bytes.{digitsOf, wordsOf, bytesOf, storeWords}
-use Rattle.logodwen.specs.StateBytes.{nodeIn, progressIn}
-use Rattle.logodwen.proofs.Runs.{length-bytes, length-words-of}
+use Rattle.codec.specs.Bytes.{digitsOf, wordsOf, bytesOf, storeWords}
+use Rattle.codec.specs.StateBytes.{nodeIn, progressIn}
+use Rattle.codec.proofs.Runs.{length-bytes, length-words-of}
 use Rattle.logodwen.proofs.Entering.{request-fine, erase-fine}
-use Rattle.logodwen.proofs.ThereAndBack.{bytes-kept}
+use Rattle.codec.proofs.ThereAndBack.{bytes-kept}
 use Rattle.border.specs.Exactly.{entries}
 use Rattle.border.specs.Host.{Entry, flashAfter, onWords}
 use Rattle.border.specs.Files.{sectorIn}

@@ -18,12 +18,12 @@ use Rattle.demands.specs.Machine.{logodwen}
 use Rattle.demands.specs.Requests.{isCommand}
 use Rattle.demands.specs.Files.{IsFile, fileName, Unused as WordsUnused, Written as WordsWritten, Runs as Calls}
 use Rattle.demands.proofs.ReadsBack.{reads-back as words-back}
-use Rattle.logodwen.specs.Bytes.{valueOf, wordsOf, bytesOf, storeWords}
-use Rattle.logodwen.specs.StateBytes.{nodeIn}
+use Rattle.codec.specs.Bytes.{valueOf, wordsOf, bytesOf, storeWords}
+use Rattle.codec.specs.StateBytes.{nodeIn}
 use Rattle.logodwen.specs.Entry.{memoryWords, replyWords, isSet}
-use Rattle.logodwen.proofs.Runs.{length-words-of}
+use Rattle.codec.proofs.Runs.{length-words-of}
 use Rattle.logodwen.proofs.Entering.{request-fine}
-use Rattle.logodwen.proofs.Small.{size-most}
+use Rattle.codec.proofs.Small.{size-most}
 use Rattle.border.specs.Exactly.{entries}
 use Rattle.border.specs.Host.{Entry, InC, numberAfter, stateAfter, flashAfter, isDone}
 use Rattle.border.specs.Answers.{endNumber, handed}

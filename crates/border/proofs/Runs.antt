@@ -9,9 +9,9 @@ use lib.Seq.{take-nil, take-length, take-append-le}
 use Rattle.base.specs.Words.{laid, Below}
 use Rattle.base.proofs.Part.{below-take, below-drop, below-append}
 use Rattle.base.proofs.Laid.{length-laid, laid-append-left}
-use Rattle.logodwen.specs.Bytes.{valueOf, digitsOf, numberAt, wordsIn, wordsOf, bytesOf, storeWords}
-use Rattle.logodwen.proofs.Runs.{length-bytes, bytes-append, words-bytes, bytes-words}
-use Rattle.logodwen.proofs.ThereAndBack.{bytes-kept}
+use Rattle.codec.specs.Bytes.{valueOf, digitsOf, numberAt, wordsIn, wordsOf, bytesOf, storeWords}
+use Rattle.codec.proofs.Runs.{length-bytes, bytes-append, words-bytes, bytes-words}
+use Rattle.codec.proofs.ThereAndBack.{bytes-kept}
 
 -- words laid into a run
 pub below-laid : {m : ℕ} (ws : List ℕ) (at : ℕ) (new : List ℕ) → Below m ws → Below m new → Below m (laid ws at new)

@@ -16,9 +16,9 @@ use Rattle.flash.specs.Status.{isEmpty, firstOf}
 use Rattle.flash.specs.Search.{isNamed}
 use Rattle.flash.proofs.Geometry.{sector-fits, length-sector}
 use Rattle.demands.specs.Files.{Unused as WordsUnused, Takes as WordsTake}
-use Rattle.logodwen.specs.Bytes.{valueOf, digitsOf, numberAt, wordsOf, bytesOf}
-use Rattle.logodwen.proofs.Runs.{length-bytes, length-words-of}
-use Rattle.logodwen.proofs.ThereAndBack.{words-read, bytes-kept}
+use Rattle.codec.specs.Bytes.{valueOf, digitsOf, numberAt, wordsOf, bytesOf}
+use Rattle.codec.proofs.Runs.{length-bytes, length-words-of}
+use Rattle.codec.proofs.ThereAndBack.{words-read, bytes-kept}
 use Rattle.border.specs.Files.{sectorByte, sectorBytes, inSector, Unused, Takes}
 use Rattle.border.proofs.Runs.{words-of-below, words-two, bytes-take, bytes-drop, laid-front}
 use Rattle.border.proofs.Flash.{sector-below}

@@ -31,9 +31,9 @@ use Rattle.node.specs.Files.{writeOf}
 use Rattle.node.specs.Own.{settingsOf, filesOf, ownOf}
 use Rattle.node.specs.Calls.{requestOf, eraseOf}
 use Rattle.node.specs.declared.Answer.{Answer}
-use Rattle.logodwen.specs.Bytes.{valueOf, digitsOf, wordsIn, wordsOf, bytesOf}
-use Rattle.logodwen.specs.Places.{packed}
-use Rattle.logodwen.specs.StateBytes.{encodeOf, nodeIn, alike, areState}
+use Rattle.codec.specs.Bytes.{valueOf, digitsOf, wordsIn, wordsOf, bytesOf}
+use Rattle.codec.specs.Places.{packed}
+use Rattle.codec.specs.StateBytes.{encodeOf, nodeIn, alike, areState}
 use Rattle.logodwen.specs.Causes.{requestCheck, eraseCheck}
 use Rattle.logodwen.specs.Entry.{Answered, requestEntry, eraseEntry}
 use Rattle.border.specs.Exactly.{Entries, entries}

@@ -12,11 +12,11 @@ use Rattle.node.proofs.Ranges.{ranges-told}
 use Rattle.demands.specs.Machine.{logodwen, flashOf}
 use Rattle.demands.specs.Reached.{Lends16, stateAfter as nodeAfter, Step as Called, Reached}
 use Rattle.demands.proofs.Sound.{reached-sound}
-use Rattle.logodwen.specs.Bytes.{wordsOf}
-use Rattle.logodwen.specs.StateBytes.{encodeOf, nodeIn, areState}
-use Rattle.logodwen.specs.Kept.{Typed}
-use Rattle.logodwen.proofs.Runs.{length-words-of}
-use Rattle.logodwen.proofs.ThereAndBack.{decoded-encoded}
+use Rattle.codec.specs.Bytes.{wordsOf}
+use Rattle.codec.specs.StateBytes.{encodeOf, nodeIn, areState}
+use Rattle.codec.specs.Kept.{Typed}
+use Rattle.codec.proofs.Runs.{length-words-of}
+use Rattle.codec.proofs.ThereAndBack.{decoded-encoded}
 use Rattle.border.specs.Exactly.{entries}
 use Rattle.border.specs.Host.{Entry, InC, numberAfter, stateAfter, flashAfter, onWords, isDone, Step as HostStep, Hosted}
 use Rattle.border.proofs.Runs.{words-of-below, stored-words, stored-below}

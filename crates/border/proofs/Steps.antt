@@ -15,12 +15,12 @@ use Rattle.node.specs.declared.Refusal.{Refusal}
 use Rattle.node.specs.declared.Verdict.{Verdict}
 use Rattle.demands.specs.Machine.{logodwen, flashOf, isRefused}
 use Rattle.demands.specs.Reached.{stateAfter as nodeAfter}
-use Rattle.logodwen.specs.Bytes.{wordsOf, storeWords}
-use Rattle.logodwen.specs.StateBytes.{encodeOf, nodeIn}
+use Rattle.codec.specs.Bytes.{wordsOf, storeWords}
+use Rattle.codec.specs.StateBytes.{encodeOf, nodeIn}
 use Rattle.logodwen.specs.Number.{answerNumber}
 use Rattle.logodwen.specs.Causes.{requestCheck, replyCheck, pollCheck, eraseCheck, startCheck}
 use Rattle.logodwen.specs.Entry.{Answered, answered, inBytes, told, entered, replyWords, runWords, isSet, startEntry, requestEntry, replyEntry, pollEntry, eraseEntry}
-use Rattle.logodwen.proofs.ThereAndBack.{bytes-kept}
+use Rattle.codec.proofs.ThereAndBack.{bytes-kept}
 use Rattle.border.specs.Exactly.{entries}
 use Rattle.border.specs.Host.{Entry, answerOf, numberAfter, stateAfter, flashLeft, flashAfter, onWords, isDone}
 use Rattle.border.specs.Answers.{answerIn}

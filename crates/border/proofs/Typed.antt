@@ -28,8 +28,8 @@ use Rattle.demands.specs.Machine.{Call, logodwen, isRefused}
 use Rattle.demands.specs.Reached.{stateAfter}
 use Rattle.demands.proofs.Taken.{verdictOn, requestEffect}
 use Rattle.demands.proofs.Sound.{Sound}
-use Rattle.logodwen.specs.StateBytes.{waitOf}
-use Rattle.logodwen.specs.Kept.{Typed}
+use Rattle.codec.specs.StateBytes.{waitOf}
+use Rattle.codec.specs.Kept.{Typed}
 use Rattle.border.proofs.Flash.{directory-below}
 
 -- the state, but for its directory

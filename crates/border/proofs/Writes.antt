@@ -8,13 +8,13 @@ use lib.ListN.{length, drop}
 use Rattle.demands.specs.Requests.{isCommand}
 use Rattle.demands.specs.Files.{IsFile, fileName, Unused as WordsUnused}
 use Rattle.demands.proofs.Writes.{writes as words-written}
-use Rattle.logodwen.specs.Bytes.{wordsOf}
-use Rattle.logodwen.specs.StateBytes.{nodeIn}
+use Rattle.codec.specs.Bytes.{wordsOf}
+use Rattle.codec.specs.StateBytes.{nodeIn}
 use Rattle.logodwen.specs.Number.{answerNumber}
 use Rattle.logodwen.specs.Entry.{memoryWords, replyWords}
-use Rattle.logodwen.proofs.Runs.{length-words-of}
+use Rattle.codec.proofs.Runs.{length-words-of}
 use Rattle.logodwen.proofs.Entering.{request-fine}
-use Rattle.logodwen.proofs.Small.{size-most}
+use Rattle.codec.proofs.Small.{size-most}
 use Rattle.border.specs.Exactly.{entries}
 use Rattle.border.specs.Host.{Entry}
 use Rattle.border.specs.Files.{fileWrite, nameIn}

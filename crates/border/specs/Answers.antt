@@ -11,8 +11,8 @@ use Rattle.node.specs.Settings.{statusIn}
 use Rattle.node.specs.Effect.{Lent, lent, sealedWords}
 use Rattle.node.specs.declared.Answer.{Answer}
 use Rattle.demands.specs.Machine.{logodwen, turnOf}
-use Rattle.logodwen.specs.Bytes.{wordsOf, bytesOf}
-use Rattle.logodwen.specs.StateBytes.{nodeIn}
+use Rattle.codec.specs.Bytes.{wordsOf, bytesOf}
+use Rattle.codec.specs.StateBytes.{nodeIn}
 use Rattle.logodwen.specs.Number.{fields}
 use Rattle.logodwen.specs.Entry.{Answered, answered}
 use Rattle.border.specs.Exactly.{Entries}

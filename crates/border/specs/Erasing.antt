@@ -20,8 +20,8 @@ use Rattle.memory.specs.Segment.{Memories}
 use Rattle.node.specs.Files.{placedFor, toErase}
 use Rattle.demands.specs.Requests.{isCommand}
 use Rattle.demands.specs.Files.{Names}
-use Rattle.logodwen.specs.Bytes.{wordsOf, bytesOf}
-use Rattle.logodwen.specs.StateBytes.{nodeIn}
+use Rattle.codec.specs.Bytes.{wordsOf, bytesOf}
+use Rattle.codec.specs.StateBytes.{nodeIn}
 use Rattle.logodwen.specs.Number.{fields}
 use Rattle.logodwen.specs.Entry.{Answered}
 use Rattle.border.specs.Exactly.{Entries}

@@ -8,7 +8,7 @@ use lib.ListN.{length}
 use Rattle.base.specs.Pick.{pick}
 use Rattle.memory.specs.Segment.{Memories}
 use Rattle.demands.specs.Events.{Event as Call}
-use Rattle.logodwen.specs.Bytes.{numberAt, wordsOf}
+use Rattle.codec.specs.Bytes.{numberAt, wordsOf}
 use Rattle.logodwen.specs.Entry.{Answered, memoryWords, isSet}
 use Rattle.border.specs.Exactly.{Entries}
 use Rattle.border.specs.Host.{Entry, InC, answerOf, flashLeft, isDone}

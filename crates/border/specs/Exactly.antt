@@ -11,9 +11,9 @@ use Rattle.node.specs.Effect.{Lent}
 use Rattle.node.specs.Calls.{lentReply, lentFlash}
 use Rattle.node.specs.declared.Node.{Node}
 use Rattle.demands.specs.Refusals.{Cause, cause, FirstOf, IsState}
-use Rattle.logodwen.specs.Bytes.{numberAt}
-use Rattle.logodwen.specs.StateBytes.{sizeIn, portsIn, encodeOf, nodeIn, areState}
-use Rattle.logodwen.specs.Kept.{Typed}
+use Rattle.codec.specs.Bytes.{numberAt}
+use Rattle.codec.specs.StateBytes.{sizeIn, portsIn, encodeOf, nodeIn, areState}
+use Rattle.codec.specs.Kept.{Typed}
 use Rattle.logodwen.specs.Entry.{Answered, startEntry, requestEntry, replyEntry, pollEntry, eraseEntry}
 
 -- Anything that answers the five entries. The statement is of any such five, so that it can be seen to shut out wrong ones.

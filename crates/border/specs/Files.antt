@@ -9,7 +9,7 @@ use Rattle.base.specs.Words.{part}
 use Rattle.image.specs.Header.{nameOf}
 use Rattle.flash.specs.Geometry.{isSector, sizeOf, startOf}
 use Rattle.flash.specs.Search.{isNamed}
-use Rattle.logodwen.specs.Bytes.{numberAt}
+use Rattle.codec.specs.Bytes.{numberAt}
 
 -- The packets of File Write, File Read and Load: 2E and the command's ID, then the file, or two bytes that have its name.
 abbrev pub fileWrite : List ℕ → List ℕ

@@ -7,8 +7,8 @@ use lib.ListN.{length, getD}
 use Rattle.flash.specs.Change.{restOf, bitOf}
 use Rattle.flash.specs.declared.Found.{Found}
 use Rattle.demands.specs.Flash.{siteOf}
-use Rattle.logodwen.specs.Bytes.{wordsOf, numberAt}
-use Rattle.logodwen.specs.StateBytes.{nodeIn, progressIn}
+use Rattle.codec.specs.Bytes.{wordsOf, numberAt}
+use Rattle.codec.specs.StateBytes.{nodeIn, progressIn}
 use Rattle.border.specs.Exactly.{Entries}
 use Rattle.border.specs.Host.{Entry, U8s, flashAfter, onWords}
 use Rattle.border.specs.Files.{sectorIn, sectorByte, sectorBytes}

@@ -14,8 +14,8 @@ use Rattle.node.specs.Settings.{statusIn}
 use Rattle.node.specs.declared.Answer.{Answer}
 use Rattle.demands.specs.Events.{Undropped, heards}
 use Rattle.demands.specs.Groups.{isGroup, setAsked, stripped, knowsMask, EndsBy, ExactlyThose}
-use Rattle.logodwen.specs.Bytes.{numberAt, wordsOf, storeWords}
-use Rattle.logodwen.specs.StateBytes.{nodeIn}
+use Rattle.codec.specs.Bytes.{numberAt, wordsOf, storeWords}
+use Rattle.codec.specs.StateBytes.{nodeIn}
 use Rattle.border.specs.Exactly.{Entries}
 use Rattle.border.specs.Host.{Entry, InC, numberAfter, isDone, Hosted}
 use Rattle.border.specs.Answers.{InBits, Says}

@@ -10,7 +10,7 @@ use Rattle.base.specs.Words.{Below}
 use Rattle.memory.specs.Segment.{Memories}
 use Rattle.node.specs.Effect.{lent}
 use Rattle.demands.specs.Machine.{Call}
-use Rattle.logodwen.specs.Bytes.{wordsOf}
+use Rattle.codec.specs.Bytes.{wordsOf}
 use Rattle.logodwen.specs.Entry.{Answered, memoryWords, replyWords, isSet}
 use Rattle.border.specs.Exactly.{Entries}
 

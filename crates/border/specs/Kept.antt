@@ -10,8 +10,8 @@ use Rattle.flash.specs.Directory.{directoryOf}
 use Rattle.flash.specs.declared.Erasing.{Erasing}
 use Rattle.memory.specs.Segment.{Memories}
 use Rattle.node.specs.Effect.{lent}
-use Rattle.logodwen.specs.Bytes.{wordsOf, bytesOf}
-use Rattle.logodwen.specs.StateBytes.{erasingOf, progressIn, areState}
+use Rattle.codec.specs.Bytes.{wordsOf, bytesOf}
+use Rattle.codec.specs.StateBytes.{erasingOf, progressIn, areState}
 use Rattle.border.specs.Exactly.{Entries}
 use Rattle.border.specs.Host.{Entry, InC, answerOf, numberAfter, isDone, Hosted}
 use Rattle.border.specs.Answers.{handed}

@@ -18,7 +18,7 @@ use Rattle.report.specs.Status.{counted}
 use Rattle.node.specs.Effect.{Lent, lent}
 use Rattle.demands.specs.Requests.{isCommand}
 use Rattle.demands.specs.Files.{IsFile}
-use Rattle.logodwen.specs.Bytes.{digitsOf, numberAt, wordsIn, wordsOf, bytesOf}
+use Rattle.codec.specs.Bytes.{digitsOf, numberAt, wordsIn, wordsOf, bytesOf}
 use Rattle.logodwen.specs.Entry.{Answered, answered, memoryWords, memoriesLeft}
 use Rattle.border.specs.Exactly.{Entries}
 use Rattle.border.specs.Host.{Entry, InC, U8s, answerOf, numberAfter, isDone}

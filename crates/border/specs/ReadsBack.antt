@@ -9,8 +9,8 @@ use Rattle.base.specs.Words.{laid}
 use Rattle.memory.specs.Segment.{Memories}
 use Rattle.node.specs.Effect.{lent}
 use Rattle.demands.specs.Files.{IsFile, ErasesSector, setsAttribute}
-use Rattle.logodwen.specs.Bytes.{wordsOf}
-use Rattle.logodwen.specs.StateBytes.{nodeIn}
+use Rattle.codec.specs.Bytes.{wordsOf}
+use Rattle.codec.specs.StateBytes.{nodeIn}
 use Rattle.border.specs.Exactly.{Entries}
 use Rattle.border.specs.Host.{Entry, InC, answerOf, numberAfter, stateAfter, flashAfter, onWords, isDone, Step, Hosted}
 use Rattle.border.specs.Answers.{endNumber, handed}

@@ -5,7 +5,7 @@ use mathlib.Core.List.{List, [], _∷_}
 use Rattle.base.specs.Pick.{pick}
 use Rattle.base.specs.Words.{laid}
 use Rattle.demands.specs.Requests.{isCommand}
-use Rattle.logodwen.specs.Bytes.{wordsOf}
+use Rattle.codec.specs.Bytes.{wordsOf}
 use lib.ListN.{length}
 use Rattle.node.specs.Calls.{lentReply, lentFlash}
 use Rattle.logodwen.specs.Entry.{Answered, answered, startEntry, requestEntry, replyEntry, pollEntry, eraseEntry}

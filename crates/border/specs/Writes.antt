@@ -6,7 +6,7 @@ use mathlib.Core.List.{List}
 use lib.ListN.{length}
 use Rattle.memory.specs.Segment.{Memories}
 use Rattle.demands.specs.Files.{IsFile}
-use Rattle.logodwen.specs.Bytes.{wordsOf}
+use Rattle.codec.specs.Bytes.{wordsOf}
 use Rattle.border.specs.Exactly.{Entries}
 use Rattle.border.specs.Host.{Entry, InC, numberAfter, isDone, Hosted}
 use Rattle.border.specs.Answers.{endNumber}

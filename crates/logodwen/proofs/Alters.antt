@@ -30,12 +30,12 @@ use Rattle.node.specs.declared.Turn.{Turn}
 use Rattle.node.specs.declared.Verdict.{Verdict}
 use Rattle.node.proofs.Outcomes.{ends}
 use Rattle.node.proofs.Commands.{ends-changed, changes-as, served, unserved}
-use Rattle.logodwen.specs.Bytes.{wordsOf, storeWords}
+use Rattle.codec.specs.Bytes.{wordsOf, storeWords}
 use Rattle.logodwen.specs.Entry.{memoryWords, replyWords, runWords, inBytes}
 use Rattle.logodwen.specs.Touch.{Alters, filingOf, isFiling}
-use Rattle.logodwen.proofs.Runs.{drop-take, length-words-of}
+use Rattle.codec.proofs.Runs.{drop-take, length-words-of}
 use Rattle.logodwen.proofs.InSector.{stored-read}
-use Rattle.logodwen.proofs.ThereAndBack.{bytes-kept}
+use Rattle.codec.proofs.ThereAndBack.{bytes-kept}
 use Rattle.logodwen.proofs.Touch.{Lends, reply-kept}
 use Rattle.logodwen.proofs.Taken.{verdictIn, routeIn, asked, taken-in}
 

@@ -22,11 +22,11 @@ use Rattle.node.specs.declared.Node.{Node}
 use Rattle.node.specs.declared.Turn.{Turn}
 use Rattle.node.specs.declared.Verdict.{Verdict}
 use Rattle.node.proofs.Blanks.{step-idle, step-set}
-use Rattle.logodwen.specs.Bytes.{wordsIn, wordsOf, bytesOf, storeWords}
+use Rattle.codec.specs.Bytes.{wordsIn, wordsOf, bytesOf, storeWords}
 use Rattle.logodwen.specs.Entry.{inBytes}
-use Rattle.logodwen.proofs.Runs.{length-words, length-words-of, store-words, store-laid, below-words}
+use Rattle.codec.proofs.Runs.{length-words, length-words-of, store-words, store-laid, below-words}
 use Rattle.logodwen.proofs.InSector.{words-stored, below-laid}
-use Rattle.logodwen.proofs.ThereAndBack.{bytes-kept}
+use Rattle.codec.proofs.ThereAndBack.{bytes-kept}
 use Rattle.logodwen.proofs.Exchange.{left-flash}
 
 -- a step of an erasure: the words set, stored at their place

@@ -1,11 +1,11 @@
--- The words of bytes, as this crate takes them out, are those over which the check sequence of bytes is worked out. Assumes nothing.
+-- The words of bytes, as `codec` takes them out, are those over which the check sequence of bytes is worked out. Assumes nothing.
 use Prim.Native.Nat.{ℕ, suc, _+_, _*_, _/_}
 use native.Mathlib.Omega.{arith}
 use mathlib.Core.List.{List, [], _∷_}
 use mathlib.Core.Path.{_≡_, refl, ap₂}
 use lib.ListN.{length}
 use Rattle.fcs.specs.Fcs.{byteWords}
-use Rattle.logodwen.specs.Bytes.{valueOf, wordsIn, wordsOf}
+use Rattle.codec.specs.Bytes.{valueOf, wordsIn, wordsOf}
 
 pub byte-words : (bs : List ℕ) → byteWords bs ≡ wordsOf 2 bs
 unfolding byteWords wordsOf wordsIn valueOf

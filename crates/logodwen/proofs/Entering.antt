@@ -19,10 +19,10 @@ use Rattle.node.specs.declared.Refusal.{Refusal}
 use Rattle.node.specs.declared.Turn.{Turn}
 use Rattle.node.specs.declared.Verdict.{Verdict}
 use Rattle.node.proofs.Verdicts.{or-neither}
-use Rattle.logodwen.specs.StateBytes.{encodeOf, nodeIn, alike, areState}
+use Rattle.codec.specs.StateBytes.{encodeOf, nodeIn, alike, areState}
 use Rattle.logodwen.specs.Number.{answerNumber}
 use Rattle.logodwen.specs.Causes.{keptOk, linkOk, requestCheck, replyCheck, pollCheck, eraseCheck}
-use Rattle.logodwen.proofs.Small.{one-of}
+use Rattle.codec.proofs.Small.{one-of}
 use Rattle.logodwen.specs.Entry.{answered, inBytes, told, entered}
 
 pub entered-fine : (v : Verdict) (state : List ℕ) (runs : Lent) (o : Outcome) {t : Turn} {l : Lent} {number : ℕ} {after : List ℕ} → v ≡ Verdict.Fine

@@ -9,9 +9,9 @@ use Rattle.base.specs.Words.{laid}
 use Rattle.node.specs.Effect.{Outcome, outcome}
 use Rattle.node.specs.Calls.{lentReply, lentFlash}
 use Rattle.node.specs.declared.Turn.{Turn}
-use Rattle.logodwen.specs.Bytes.{wordsIn, wordsOf, bytesOf, storeWords, Loaded}
+use Rattle.codec.specs.Bytes.{wordsIn, wordsOf, bytesOf, storeWords, Loaded}
 use Rattle.logodwen.specs.Entry.{inBytes}
-use Rattle.logodwen.proofs.Runs.{loaded-part}
+use Rattle.codec.proofs.Runs.{loaded-part}
 
 -- where the flash is the only run, or there is none
 

@@ -14,7 +14,7 @@ use Rattle.node.specs.Valid.{sizeOk, stateOk}
 use Rattle.node.specs.Refusals.{Cause, firstOf, flashCause, replyCause, memoryCause, linkCause, stateCause, busyCause, requestVerdict, eraseVerdict}
 use Rattle.node.specs.declared.Verdict.{Verdict}
 use Rattle.node.proofs.Verdicts.{NoneHolds, fine-tells, or-neither}
-use Rattle.logodwen.specs.StateBytes.{sizeIn, portsIn, encodeOf, nodeIn, alike, areState}
+use Rattle.codec.specs.StateBytes.{sizeIn, portsIn, encodeOf, nodeIn, alike, areState}
 use Rattle.logodwen.specs.Causes.{keptOk, linkOk, benchCause, memoriesCause, portCause, bytesCause, requestCheck, eraseCheck}
 use Rattle.logodwen.proofs.Entering.{state-long}
 

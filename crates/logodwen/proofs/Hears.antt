@@ -39,10 +39,10 @@ use Rattle.node.specs.declared.Node.{Node}
 use Rattle.node.specs.declared.Refusal.{Refusal}
 use Rattle.node.specs.declared.Turn.{Turn}
 use Rattle.node.specs.declared.Verdict.{Verdict}
-use Rattle.logodwen.specs.Bytes.{wordsOf, bytesOf, storeWords, Loaded}
+use Rattle.codec.specs.Bytes.{wordsOf, bytesOf, storeWords, Loaded}
 use Rattle.logodwen.specs.Entry.{replyWords, inBytes}
 use Rattle.logodwen.specs.Held.{Rest, bufferWords}
-use Rattle.logodwen.proofs.Runs.{length-words, loaded-front, part-words}
+use Rattle.codec.proofs.Runs.{length-words, loaded-front, part-words}
 use Rattle.logodwen.proofs.Touch.{reply-words}
 use Rattle.logodwen.proofs.Held.{words-laid, rest-laid, rest-none, rest-left}
 

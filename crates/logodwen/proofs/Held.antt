@@ -4,15 +4,15 @@ use Prim.Native.Nat.{ℕ, _+_, _-_, _*_, _^_, _≤_}
 use mathlib.Core.Path.{_≡_, refl, sym, ap, _∙_}
 use mathlib.Core.List.{List, _++_}
 use native.Mathlib.Omega.{arith}
-use native.Mathlib.Nat.{add-mul, add-zero, mul-le-mul-right}
+use native.Mathlib.Nat.{add-mul, mul-le-mul-right}
 use lib.ListN.{length, take, drop, length-append, take-append-drop}
 use lib.Seq.{length-take-le, drop-at, drop-drop}
-use Rattle.base.specs.Words.{part, laid, Below}
+use Rattle.base.specs.Words.{laid, Below}
 use Rattle.base.proofs.Part.{below-take, below-drop, below-append}
-use Rattle.base.proofs.Laid.{length-laid, laid-part}
-use Rattle.logodwen.specs.Bytes.{wordsIn, bytesOf, storeWords}
+use Rattle.base.proofs.Laid.{length-laid}
+use Rattle.codec.specs.Bytes.{wordsIn, bytesOf, storeWords}
 use Rattle.logodwen.specs.Held.{Rest}
-use Rattle.logodwen.proofs.Runs.{length-words, length-bytes, bytes-words, store-laid, laid-front, below-each, stored-each}
+use Rattle.codec.proofs.Runs.{length-words, length-bytes, bytes-words, store-laid, laid-front, below-each, stored-each}
 
 below-laid : {m : ℕ} (words new : List ℕ) (at : ℕ) → Below m words → Below m new → Below m (laid words at new)
 unfolding laid
@@ -64,14 +64,3 @@ module _ (k n : ℕ) where
       ∙ ap (λ (l : List ℕ). bytesOf k (wordsIn k n after) ++ l) (sym (r .bytes))
       ∙ ap (λ (l : List ℕ). l ++ drop (n * k) after) (bytes-words k n after (omega arith) h)
       ∙ take-append-drop (n * k) after
-
--- a part that is lent, and given back with words stored at its front
-pub part-put : (k : ℕ) (bs words : List ℕ) (at : ℕ) {from to : ℕ} {ys : List ℕ} → (at + length words) * k ≤ length bs → from ≡ at * k → to ≡ (at + length words) * k
-    → ys ≡ storeWords k words (part bs from (to - from))
-    → take from bs ++ (ys ++ drop (to - from) (drop from bs)) ≡ laid bs (at * k) (bytesOf k words)
-part-put k bs words at {from} {to} {ys} fits f t e =
-    let wide : to - from ≡ length words * k = omega (arith, add-mul at (length words) k) in
-    let long = length-bytes k words in
-    ap (λ (y : List ℕ). take from bs ++ (y ++ drop (to - from) (drop from bs))) e
-    ∙ laid-part bs from (to - from) 0 (bytesOf k words) (omega (arith, add-mul at (length words) k)) (omega arith)
-    ∙ ap (λ (j : ℕ). laid bs j (bytesOf k words)) (add-zero from ∙ f)

@@ -22,10 +22,10 @@ use Rattle.flash.proofs.Statuses.{empty-turn, first-word}
 use Rattle.flash.proofs.Kept.{takes-offered}
 use Rattle.flash.proofs.Changes.{stored-laid, stored-none}
 use Rattle.flash.proofs.Storing.{stored-only}
-use Rattle.logodwen.specs.Bytes.{numberAt, wordsIn, wordsOf, bytesOf, storeWords}
-use Rattle.logodwen.proofs.Runs.{length-words-of, length-bytes, length-store, store-laid, word-there, below-words, stored-words, part-words}
-use Rattle.logodwen.proofs.Small.{size-most}
-use Rattle.logodwen.proofs.ThereAndBack.{bytes-kept}
+use Rattle.codec.specs.Bytes.{numberAt, wordsIn, wordsOf, bytesOf, storeWords}
+use Rattle.codec.proofs.Runs.{length-words-of, length-bytes, length-store, store-laid, word-there, below-words, stored-words, part-words}
+use Rattle.codec.proofs.Small.{size-most}
+use Rattle.codec.proofs.ThereAndBack.{bytes-kept}
 
 -- the sector's words, off its bytes
 pub sector-words : (flash : List ℕ) (s from to : ℕ) → length flash / 2 ≡ 32768 → from ≡ startOf 2048 s * 2 → to ≡ (startOf 2048 s + sizeOf 2048 s) * 2

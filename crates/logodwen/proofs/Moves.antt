@@ -49,14 +49,14 @@ use Rattle.node.specs.declared.Node.{Node}
 use Rattle.node.specs.declared.Route.{Route}
 use Rattle.node.specs.declared.Verdict.{Verdict}
 use Rattle.node.specs.declared.Turn.{Turn}
-use Rattle.logodwen.specs.Bytes.{numberAt, digitsOf, wordsIn, wordsOf, bytesOf, storeWords, Loaded}
+use Rattle.codec.specs.Bytes.{numberAt, digitsOf, wordsIn, wordsOf, bytesOf, storeWords, Loaded}
 use Rattle.logodwen.specs.Entry.{memoryWords, memoriesLeft, replyWords, runWords, inBytes}
 use Rattle.logodwen.specs.Apart.{needsMemories, needsFlash}
 use Rattle.logodwen.specs.Touch.{Quiet, isFile, isFiling}
 use Rattle.logodwen.specs.Held.{Rest}
 use Rattle.logodwen.specs.Moves.{takesSegment, performBy, MemoriesRest, Moves}
-use Rattle.logodwen.proofs.Runs.{length-words-of, put-one, word-in, below-each, part-each}
-use Rattle.logodwen.proofs.ThereAndBack.{bytes-kept}
+use Rattle.codec.proofs.Runs.{length-words-of, put-one, word-in, below-each, part-each}
+use Rattle.codec.proofs.ThereAndBack.{bytes-kept}
 use Rattle.logodwen.proofs.Touch.{Lends, reply-front, quiet-says}
 use Rattle.logodwen.proofs.Taken.{verdictIn, routeIn, asked, taken-in}
 use Rattle.logodwen.proofs.Held.{words-laid, rest-laid, rest-none, rest-then, rest-left}

@@ -21,10 +21,10 @@ use Rattle.node.specs.declared.Node.{Node}
 use Rattle.node.specs.declared.Route.{Route}
 use Rattle.node.specs.declared.Turn.{Turn}
 use Rattle.node.specs.declared.Verdict.{Verdict}
-use Rattle.logodwen.specs.Bytes.{wordsOf}
+use Rattle.codec.specs.Bytes.{wordsOf}
 use Rattle.logodwen.specs.Entry.{runWords, inBytes}
 use Rattle.logodwen.specs.Touch.{Quiet, fileAs, fileAt, fileOf, isFile}
-use Rattle.logodwen.proofs.Runs.{length-words-of}
+use Rattle.codec.proofs.Runs.{length-words-of}
 use Rattle.logodwen.proofs.Touch.{Lends, Plain, answers-plain, faulty-plain, quiet-left, says-plain}
 use Rattle.logodwen.proofs.Taken.{asked, routeIn, taken-in, verdictIn}
 

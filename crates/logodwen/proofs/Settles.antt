@@ -17,7 +17,7 @@ use Rattle.node.specs.declared.Node.{Node}
 use Rattle.node.specs.declared.Route.{Route}
 use Rattle.node.specs.declared.Turn.{Turn}
 use Rattle.node.specs.declared.Verdict.{Verdict}
-use Rattle.logodwen.specs.Bytes.{wordsOf}
+use Rattle.codec.specs.Bytes.{wordsOf}
 use Rattle.logodwen.specs.Entry.{runWords, inBytes}
 use Rattle.logodwen.specs.Apart.{needsMemories, needsFlash}
 use Rattle.logodwen.specs.Touch.{isQuiet, quietOf, Quiet}

@@ -15,9 +15,9 @@ use Rattle.node.specs.declared.Node.{Node}
 use Rattle.node.specs.declared.Route.{Route}
 use Rattle.node.specs.declared.Turn.{Turn}
 use Rattle.node.specs.declared.Verdict.{Verdict}
-use Rattle.logodwen.specs.Bytes.{wordsOf}
+use Rattle.codec.specs.Bytes.{wordsOf}
 use Rattle.logodwen.specs.Entry.{replyWords, runWords, inBytes}
-use Rattle.logodwen.proofs.Runs.{length-words-of}
+use Rattle.codec.proofs.Runs.{length-words-of}
 use Rattle.logodwen.proofs.Touch.{Lends, length-reply, runs-kept}
 
 -- a request by its verdict and its route

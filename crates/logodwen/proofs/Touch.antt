@@ -16,11 +16,11 @@ use Rattle.node.specs.Effect.{Change, Store, Setup, Did, says, faulty, sets, an
 use Rattle.node.specs.declared.Answer.{Answer}
 use Rattle.node.specs.declared.Node.{Node}
 use Rattle.node.specs.declared.Turn.{Turn}
-use Rattle.logodwen.specs.Bytes.{wordsIn, wordsOf, bytesOf, storeWords}
+use Rattle.codec.specs.Bytes.{wordsIn, wordsOf, bytesOf, storeWords}
 use Rattle.logodwen.specs.Entry.{replyWords, runWords, inBytes}
 use Rattle.logodwen.specs.Touch.{ownTurn, Quiet, repliedWords}
-use Rattle.logodwen.proofs.Runs.{length-words-of, words-take, store-words, store-laid}
-use Rattle.logodwen.proofs.ThereAndBack.{bytes-kept}
+use Rattle.codec.proofs.Runs.{length-words-of, words-take, store-words, store-laid}
+use Rattle.codec.proofs.ThereAndBack.{bytes-kept}
 
 -- the first 12,288 words of a reply buffer
 

@@ -16,7 +16,7 @@ use Rattle.node.specs.declared.Answer.{Answer}
 use Rattle.node.specs.declared.Node.{Node}
 use Rattle.node.specs.declared.Turn.{Turn}
 use Rattle.node.specs.declared.Verdict.{Verdict}
-use Rattle.logodwen.specs.Bytes.{bytesOf}
+use Rattle.codec.specs.Bytes.{bytesOf}
 use Rattle.logodwen.specs.Entry.{replyWords, inBytes}
 use Rattle.logodwen.specs.Touch.{waitsBy}
 use Rattle.logodwen.proofs.Touch.{length-reply, reply-kept}

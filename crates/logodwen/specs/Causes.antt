@@ -10,7 +10,7 @@ use Rattle.node.specs.Valid.{kindOk, portsOk}
 use Rattle.node.specs.Refusals.{Cause, cause, firstOf, replyCause, slaveCause, busyCause, pollCause, unaskedCause}
 use Rattle.node.specs.declared.Refusal.{Refusal}
 use Rattle.node.specs.declared.Verdict.{Verdict}
-use Rattle.logodwen.specs.StateBytes.{sizeIn, portsIn, nodeIn, areState}
+use Rattle.codec.specs.StateBytes.{sizeIn, portsIn, nodeIn, areState}
 
 -- 1: the flash isn't bench size, or isn't the size used at start.
 abbrev pub keptOk : List ℕ → ℕ → Bool

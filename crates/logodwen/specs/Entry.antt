@@ -11,8 +11,8 @@ use Rattle.node.specs.State.{refusalNumber}
 use Rattle.node.specs.Effect.{Lent, lent, Outcome, outcome}
 use Rattle.node.specs.Calls.{startOf, requestOf, replyOf, pollOf, eraseOf, lentReply, lentFlash}
 use Rattle.node.specs.declared.Verdict.{Verdict}
-use Rattle.logodwen.specs.Bytes.{wordsOf, storeWords}
-use Rattle.logodwen.specs.StateBytes.{encodeOf, nodeIn}
+use Rattle.codec.specs.Bytes.{wordsOf, storeWords}
+use Rattle.codec.specs.StateBytes.{encodeOf, nodeIn}
 use Rattle.logodwen.specs.Number.{answerNumber}
 use Rattle.logodwen.specs.Causes.{requestCheck, replyCheck, pollCheck, eraseCheck, startCheck}
 

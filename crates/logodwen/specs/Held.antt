@@ -4,7 +4,7 @@ use Prim.Native.Nat.{ℕ, _*_}
 use mathlib.Core.Path.{_≡_}
 use mathlib.Core.List.{List}
 use lib.ListN.{length, drop}
-use Rattle.logodwen.specs.Bytes.{wordsIn}
+use Rattle.codec.specs.Bytes.{wordsIn}
 
 -- It is as long as it was, and the bytes behind those words are as they were.
 pub record Rest (k n : ℕ) (before after : List ℕ) : Type 0 where

@@ -14,7 +14,7 @@ use Rattle.node.specs.Effect.{Did, says, answers, Store, memoriesAfter}
 use Rattle.node.specs.Memories.{dataRoom, withStore}
 use Rattle.node.specs.declared.Node.{Node}
 use Rattle.node.specs.declared.Turn.{Turn}
-use Rattle.logodwen.specs.Bytes.{storeWords}
+use Rattle.codec.specs.Bytes.{storeWords}
 use Rattle.logodwen.specs.Entry.{memoryWords}
 use Rattle.logodwen.specs.Touch.{ownTurn}
 use Rattle.logodwen.specs.Held.{Rest}

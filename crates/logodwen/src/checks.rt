@@ -1,10 +1,10 @@
 // When an entry is refused: by numbers, lengths and the state bytes alone.
 ghost use mathlib.Core.Path.{_≡_};
 ghost use Rattle.logodwen.specs.Causes.{keptOk, linkOk, requestCheck, replyCheck, pollCheck, eraseCheck};
-use crate::codec::is_state;
-use crate::codec::node_in;
-use crate::words::byte;
-use crate::words::word32;
+use codec::state::is_state;
+use codec::state::node_in;
+use codec::words::byte;
+use codec::words::word32;
 use node::Refusal;
 use node::Verdict;
 

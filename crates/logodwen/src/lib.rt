@@ -12,19 +12,18 @@ use crate::checks::erase_check;
 use crate::checks::poll_check;
 use crate::checks::reply_check;
 use crate::checks::request_check;
-use crate::codec::encode;
-use crate::codec::node_in;
 use crate::erasing::on_erase;
 use crate::requests::on_request;
 use crate::slaves::on_poll;
 use crate::slaves::on_reply;
 use crate::starting::on_start;
+use codec::state::encode;
+use codec::state::node_in;
 use node::Verdict;
 use node::refusals::refusal_number;
 
 mod answers;
 mod checks;
-mod codec;
 mod erasing;
 mod files;
 mod filing;
@@ -38,19 +37,6 @@ mod settings;
 mod slaves;
 mod starting;
 mod stretches;
-mod words;
-
-// What is pending, as the numbers in the state bytes: 0 nothing, 1 one slave, 2 a group; what the case does not use is 0.
-pub struct Wait {
-    pub pending: u16,
-    pub link: u32,
-    pub slave: u32,
-    pub from: u32,
-    pub tally: u16,
-    pub set: u32,
-    pub at: u32,
-    pub words: usize,
-}
 
 // Start on a flash: the refusal's number, 0 for done.
 #[no_mangle]

@@ -1,7 +1,7 @@
 // The check sequence, for a host that has words as bytes.
 ghost use mathlib.Core.Path.{_≡_};
 ghost use Rattle.fcs.specs.Fcs.{fcsOf};
-ghost use Rattle.logodwen.specs.Bytes.{wordsOf};
+ghost use Rattle.codec.specs.Bytes.{wordsOf};
 
 // The check sequence of the words of bytes.
 #[no_mangle]

@@ -2,15 +2,15 @@
 ghost use Prim.Native.Nat.{_+_, _/_, _≤_};
 ghost use lib.ListN.{length};
 ghost use Rattle.node.specs.Effect.{Replies};
-ghost use Rattle.logodwen.specs.Bytes.{wordsOf};
+ghost use Rattle.codec.specs.Bytes.{wordsOf};
 ghost use Rattle.logodwen.specs.Touch.{quietOf, Quiet};
 use crate::answers::answer_words;
 use crate::rooms::room_64;
 use crate::rooms::room_97;
 use crate::rooms::room_8193;
 use crate::rooms::room_12288;
-use crate::words::load16;
-use crate::words::store16;
+use codec::words::load16;
+use codec::words::store16;
 use node::Node;
 use node::Turn;
 

@@ -3,9 +3,9 @@ ghost use mathlib.Core.Path.{_≡_};
 ghost use Prim.Native.Nat.{_/_};
 ghost use lib.ListN.{length};
 ghost use Rattle.node.specs.Calls.{startOf};
-ghost use Rattle.logodwen.specs.Bytes.{wordsOf};
+ghost use Rattle.codec.specs.Bytes.{wordsOf};
 use crate::rooms::room_32768;
-use crate::words::load16;
+use codec::words::load16;
 use node::Node;
 use node::Turn;
 

@@ -2,7 +2,7 @@
 use mathlib.Core.Path.{sym, ap, _∙_}
 use Prim.Native.Nat.{_/_}
 use lib.ListN.{length}
-use Rattle.logodwen.specs.StateBytes.{nodeIn}
+use Rattle.codec.specs.StateBytes.{nodeIn}
 use Rattle.logodwen.proofs.Entering.{entered-fine, entered-refused, state-long, poll-fine}
 use Rattle.logodwen.specs.Causes.{pollCheck}
 use Rattle.logodwen.specs.Entry.{replyWords, inBytes, pollEntry}

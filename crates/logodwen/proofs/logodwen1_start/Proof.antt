@@ -4,7 +4,7 @@ use mathlib.Core.Bool.{not}
 use Prim.Native.Nat.{_/_}
 use mathlib.Core.List.{[]}
 use lib.ListN.{length}
-use Rattle.logodwen.specs.Bytes.{wordsOf}
+use Rattle.codec.specs.Bytes.{wordsOf}
 use native.Mathlib.Omega.{arith}
 use Rattle.base.proofs.Pick.{yes, no}
 use borrow.Author.Tests.{eq-eqb, ne-eqb}
@@ -16,7 +16,7 @@ use Rattle.node.specs.Effect.{outcome}
 use Rattle.node.specs.declared.Refusal.{Refusal}
 use Rattle.node.specs.declared.Turn.{Turn}
 use Rattle.logodwen.specs.Number.{answerNumber}
-use Rattle.logodwen.proofs.Runs.{length-words-of}
+use Rattle.codec.proofs.Runs.{length-words-of}
 use Rattle.logodwen.proofs.Exchange.{left-nothing}
 use borrow.Author.Needs.{needs}
 use Rattle.logodwen.proofs.logodwen1_start.Statement.{statement}

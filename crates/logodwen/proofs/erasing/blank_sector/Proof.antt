@@ -3,14 +3,14 @@ use Prim.Native.Nat.{ℕ, min, _+_, _-_, _*_}
 use mathlib.Core.Path.{_≡_}
 use native.Mathlib.Omega.{arith}
 use native.Mathlib.Nat.{min-zero}
-use Rattle.logodwen.proofs.Runs.{blank-none}
+use Rattle.codec.proofs.Runs.{blank-none}
 use borrow.Author.Needs.{needs}
 use Rattle.logodwen.proofs.erasing.blank_sector.Statement.{statement}
 use Rattle.logodwen.proofs.erasing.blank_sector.Tie as tie
 use Rattle.logodwen.proofs.erasing.blank_sector.Reads as reads
 use Rattle.logodwen.proofs.erasing.blank_sector.Lts as lts
 use Rattle.base.proofs.least.Reads as least-reads
-use Rattle.logodwen.proofs.words.blank16.Reads as blank16-reads
+use Rattle.codec.proofs.words.blank16.Reads as blank16-reads
 
 returns : tie.Need-returns
 returns c = let a = c .before .before .args in let none : a .size - a .done ≡ 0 = omega (arith, c .if1 .taken) in (sym (ap (λ (k : ℕ). min (a .budget) k) none ∙ min-zero (a .budget)), blank-none (a .bytes .now) ((a .start + a .done) * 2))

@@ -3,7 +3,7 @@ use Prim.Native.Nat.{ℕ, min, _+_, _-_, _*_}
 use native.Mathlib.Omega.{arith}
 use Rattle.base.specs.Words.{laid, blanks}
 use Rattle.flash.proofs.Geometry.{sector-fits}
-use Rattle.logodwen.specs.Bytes.{bytesOf}
+use Rattle.codec.specs.Bytes.{bytesOf}
 use Rattle.logodwen.proofs.Blanked.{erase-left}
 use borrow.Author.Needs.{needs}
 use Rattle.logodwen.proofs.erasing.erase_sector.Statement.{statement}

@@ -9,7 +9,7 @@ use Rattle.node.specs.State.{turn}
 use Rattle.node.specs.Effect.{says}
 use Rattle.node.specs.Files.{isErasing, namedBy}
 use Rattle.flash.specs.declared.Target.{Target}
-use Rattle.logodwen.specs.Bytes.{wordsOf}
+use Rattle.codec.specs.Bytes.{wordsOf}
 use Rattle.logodwen.specs.Touch.{fileAt, fileOf}
 use Rattle.logodwen.proofs.Touch.{quiet-is, quiet-says}
 use Rattle.logodwen.proofs.OneFile.{missing-says, file-unserved, file-served}
@@ -20,7 +20,7 @@ use Rattle.logodwen.proofs.files.on_file.Reads as reads
 use Rattle.logodwen.proofs.files.on_file.Lts as lts
 use Rattle.logodwen.proofs.files.missing.Reads as missing-reads
 use Rattle.logodwen.proofs.files.on_sector.Reads as on-sector-reads
-use Rattle.logodwen.proofs.words.packet_word.Reads as packet-word-reads
+use Rattle.codec.proofs.words.packet_word.Reads as packet-word-reads
 use Rattle.node.proofs.answering.says.Reads as says-reads
 use Rattle.node.proofs.files.is_served.Reads as is-served-reads
 use Rattle.node.proofs.files.named_by.Reads as named-by-reads

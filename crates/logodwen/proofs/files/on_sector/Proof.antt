@@ -6,9 +6,9 @@ use lib.ListN.{length}
 use lib.Seq.{length-take-le}
 use Rattle.flash.specs.Geometry.{sectorOf}
 use Rattle.node.specs.Files.{seenIn}
-use Rattle.logodwen.specs.Bytes.{wordsOf}
+use Rattle.codec.specs.Bytes.{wordsOf}
 use Rattle.logodwen.specs.Touch.{fileAs}
-use Rattle.logodwen.proofs.Runs.{loaded-count, loaded-front, length-words-of}
+use Rattle.codec.proofs.Runs.{loaded-count, loaded-front, length-words-of}
 use Rattle.logodwen.proofs.InSector.{sector-short}
 use Rattle.logodwen.proofs.OneFile.{seen-in}
 use Rattle.logodwen.proofs.Touch.{quiet-is}

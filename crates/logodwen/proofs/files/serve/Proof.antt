@@ -14,7 +14,7 @@ use Rattle.logodwen.proofs.files.serve.Lts as lts
 use Rattle.logodwen.proofs.answers.answer_words.Reads as answer-words-reads
 use Rattle.logodwen.proofs.files.file_words.Reads as file-words-reads
 use Rattle.logodwen.proofs.rooms.room_4098.Reads as room-4098-reads
-use Rattle.logodwen.proofs.words.store16.Reads as store16-reads
+use Rattle.codec.proofs.words.store16.Reads as store16-reads
 use Rattle.node.proofs.files.status_in.Reads as status-in-reads
 
 room-4098-requires : tie.Need-room-4098-requires

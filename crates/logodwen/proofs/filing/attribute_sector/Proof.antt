@@ -9,7 +9,7 @@ use Rattle.flash.specs.Geometry.{sectorOf}
 use Rattle.flash.specs.Change.{settingOf}
 use Rattle.group.specs.declared.ZeroLength.{ZeroLength}
 use Rattle.node.specs.Files.{setTo, attributeBy}
-use Rattle.logodwen.specs.Bytes.{wordsOf}
+use Rattle.codec.specs.Bytes.{wordsOf}
 use Rattle.logodwen.proofs.Alters.{alters-says, alters-as}
 use borrow.Author.Needs.{needs}
 use Rattle.logodwen.proofs.filing.attribute_sector.Statement.{statement}

@@ -6,7 +6,7 @@ use lib.ListN.{getD}
 use Rattle.flash.specs.Geometry.{sectorOf}
 use Rattle.group.specs.declared.ZeroLength.{ZeroLength}
 use Rattle.node.specs.Files.{namedBy, seen, attributeBy, attributeAt, attributeSetOf}
-use Rattle.logodwen.specs.Bytes.{wordsOf}
+use Rattle.codec.specs.Bytes.{wordsOf}
 use Rattle.logodwen.proofs.Alters.{alters-says, alters-as, served-in, unserved-in}
 use borrow.Author.Needs.{needs}
 use Rattle.logodwen.proofs.filing.attribute_set.Statement.{statement}

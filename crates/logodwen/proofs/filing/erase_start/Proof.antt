@@ -5,7 +5,7 @@ use native.Mathlib.Omega.{arith}
 use lib.ListN.{getD}
 use Rattle.group.specs.declared.ZeroLength.{ZeroLength}
 use Rattle.node.specs.Files.{toErase, eraseAt, eraseStartOf}
-use Rattle.logodwen.specs.Bytes.{wordsOf}
+use Rattle.codec.specs.Bytes.{wordsOf}
 use Rattle.logodwen.proofs.Alters.{alters-says, alters-as, served-in, unserved-in}
 use borrow.Author.Needs.{needs}
 use Rattle.logodwen.proofs.filing.erase_start.Statement.{statement}

@@ -6,8 +6,8 @@ use native.Mathlib.Omega.{arith}
 use Rattle.base.proofs.Pick.{yes, no}
 use Rattle.group.specs.declared.ZeroLength.{ZeroLength}
 use Rattle.node.specs.Files.{placedFor, writeAt, writeOf}
-use Rattle.logodwen.specs.Bytes.{wordsOf}
-use Rattle.logodwen.proofs.Runs.{loaded-count, loaded-front}
+use Rattle.codec.specs.Bytes.{wordsOf}
+use Rattle.codec.proofs.Runs.{loaded-count, loaded-front}
 use Rattle.logodwen.proofs.Alters.{alters-says, alters-as, file-in}
 use borrow.Author.Needs.{needs}
 use Rattle.logodwen.proofs.filing.file_write.Statement.{statement}

@@ -7,7 +7,7 @@ use Rattle.base.proofs.Pick.{yes, no}
 use Rattle.flash.specs.Search.{firstFrom, takes, placeOf}
 use Rattle.flash.specs.declared.Found.{Found}
 use Rattle.flash.proofs.Searches.{first-turn, first-end}
-use Rattle.logodwen.specs.Bytes.{wordsOf}
+use Rattle.codec.specs.Bytes.{wordsOf}
 use borrow.Author.Needs.{needs}
 use Rattle.logodwen.proofs.filing.place.Statement.{statement}
 use Rattle.logodwen.proofs.filing.place.Tie as tie

@@ -4,7 +4,7 @@ use mathlib.Core.Path.{refl, sym, _∙_}
 use borrow.Author.Tests.{not-true, not-false}
 use Rattle.base.proofs.Pick.{yes, no}
 use Rattle.node.proofs.Commands.{placed-new}
-use Rattle.logodwen.specs.Bytes.{wordsOf}
+use Rattle.codec.specs.Bytes.{wordsOf}
 use borrow.Author.Needs.{needs}
 use Rattle.logodwen.proofs.filing.placed_for.Statement.{statement}
 use Rattle.logodwen.proofs.filing.placed_for.Tie as tie

@@ -6,9 +6,9 @@ use lib.ListN.{length}
 use Rattle.memory.specs.Load.{loadable}
 use Rattle.memory.specs.Segment.{Memories, memories}
 use Rattle.memory.proofs.Loading.{loadable-tells, load-done, load-abort}
-use Rattle.logodwen.specs.Bytes.{wordsOf}
+use Rattle.codec.specs.Bytes.{wordsOf}
 use Rattle.logodwen.specs.Entry.{memoryWords}
-use Rattle.logodwen.proofs.Runs.{length-words-of}
+use Rattle.codec.proofs.Runs.{length-words-of}
 use Rattle.logodwen.proofs.Moves.{memories-rest-none}
 use borrow.Author.Needs.{needs}
 use Rattle.logodwen.proofs.load.load_file.Statement.{statement}

@@ -6,9 +6,9 @@ use lib.Seq.{length-take-le}
 use Rattle.flash.specs.Geometry.{sectorOf}
 use Rattle.memory.specs.Segment.{Memories, memories}
 use Rattle.node.specs.Files.{seenIn, loadBy}
-use Rattle.logodwen.specs.Bytes.{wordsOf}
+use Rattle.codec.specs.Bytes.{wordsOf}
 use Rattle.logodwen.specs.Entry.{memoryWords}
-use Rattle.logodwen.proofs.Runs.{length-words-of, loaded-count, loaded-front}
+use Rattle.codec.proofs.Runs.{length-words-of, loaded-count, loaded-front}
 use Rattle.logodwen.proofs.InSector.{sector-short}
 use Rattle.logodwen.proofs.OneFile.{seen-in}
 use Rattle.logodwen.proofs.Moves.{moves-is}

@@ -6,7 +6,7 @@ use Rattle.flash.specs.declared.Target.{Target}
 use Rattle.memory.specs.Segment.{Memories, memories}
 use Rattle.node.specs.Effect.{says}
 use Rattle.node.specs.Files.{loadAt}
-use Rattle.logodwen.specs.Bytes.{wordsOf}
+use Rattle.codec.specs.Bytes.{wordsOf}
 use Rattle.logodwen.specs.Entry.{memoryWords}
 use Rattle.logodwen.proofs.Touch.{quiet-says}
 use Rattle.logodwen.proofs.Moves.{moves-is, quiet-moves, load-unserved, load-served}

@@ -7,7 +7,7 @@ use native.Mathlib.Omega.{arith}
 use lib.ListN.{length, drop}
 use Rattle.memory.specs.Pairs.{idsOk, ioAfter}
 use Rattle.memory.proofs.Pairs.{ids-tells, after-done}
-use Rattle.logodwen.specs.Bytes.{wordsOf}
+use Rattle.codec.specs.Bytes.{wordsOf}
 use Rattle.logodwen.specs.Held.{Rest}
 use Rattle.logodwen.proofs.Held.{rest-none}
 use Rattle.logodwen.proofs.Moves.{rest-again, pair-after}

@@ -8,7 +8,7 @@ use Rattle.image.specs.Segment.{wordBytes}
 use Rattle.memory.specs.Pairs.{idsOk, ioAfter}
 use Rattle.memory.specs.Segment.{segmentWords}
 use Rattle.memory.proofs.Segment.{Exact, exact-tells, words-plain}
-use Rattle.logodwen.specs.Bytes.{wordsOf}
+use Rattle.codec.specs.Bytes.{wordsOf}
 use borrow.Author.Needs.{needs}
 use Rattle.logodwen.proofs.load.store_io.Statement.{statement}
 use Rattle.logodwen.proofs.load.store_io.Tie as tie

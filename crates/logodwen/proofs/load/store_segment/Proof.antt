@@ -9,7 +9,7 @@ use Rattle.image.specs.Segment.{memoryOf}
 use Rattle.image.specs.declared.Memory.{Memory}
 use Rattle.memory.specs.Segment.{firstOf, fitsIn, Memories, memories}
 use Rattle.memory.proofs.Segment.{exact-tells, fits-by, stored-by}
-use Rattle.logodwen.specs.Bytes.{wordsOf}
+use Rattle.codec.specs.Bytes.{wordsOf}
 use Rattle.logodwen.specs.Entry.{memoryWords}
 use Rattle.logodwen.proofs.Held.{rest-none}
 use borrow.Author.Needs.{needs}

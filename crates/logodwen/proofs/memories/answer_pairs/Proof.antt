@@ -9,7 +9,7 @@ use lib.ListN.{length, getD, drop, set, length-set}
 use Rattle.base.specs.Words.{laid}
 use Rattle.memory.specs.Pairs.{registerOf, valueOf, idsOk, ioAfter, ioAnswer}
 use Rattle.memory.proofs.Pairs.{ids-tells, after-done, answer-done}
-use Rattle.logodwen.specs.Bytes.{wordsOf}
+use Rattle.codec.specs.Bytes.{wordsOf}
 use Rattle.logodwen.specs.Held.{Rest}
 use Rattle.logodwen.proofs.Held.{rest-none}
 use Rattle.logodwen.proofs.Moves.{rest-again, pair-after, pair-answer}

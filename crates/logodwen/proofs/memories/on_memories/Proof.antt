@@ -7,7 +7,7 @@ use Rattle.memory.specs.Segment.{Memories, memories}
 use Rattle.node.specs.Settings.{statusIn}
 use Rattle.node.specs.Effect.{Lent, lent}
 use Rattle.node.specs.Memories.{memoryReadOf}
-use Rattle.logodwen.specs.Bytes.{wordsOf}
+use Rattle.codec.specs.Bytes.{wordsOf}
 use Rattle.logodwen.specs.Entry.{memoryWords}
 use Rattle.logodwen.proofs.Moves.{moves-is, quiet-moves, read-stores, by-pm-read, by-dm-read, takes}
 use borrow.Author.Needs.{needs}

@@ -14,8 +14,8 @@ use Rattle.memory.specs.Segment.{firstOf, secondOf, segmentWords}
 use Rattle.memory.specs.Command.{performable}
 use Rattle.memory.proofs.Command.{Performable, performable-tells}
 use Rattle.memory.proofs.Segment.{Exact, exact-tells, words-plain}
-use Rattle.logodwen.specs.Bytes.{wordsOf}
-use Rattle.logodwen.proofs.Runs.{length-words-of}
+use Rattle.codec.specs.Bytes.{wordsOf}
+use Rattle.codec.proofs.Runs.{length-words-of}
 use Rattle.logodwen.proofs.Moves.{below-of, perform-laid, performs, performs-not}
 use borrow.Author.Needs.{needs}
 use Rattle.logodwen.proofs.memories.perform.Statement.{statement}

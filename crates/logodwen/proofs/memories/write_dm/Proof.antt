@@ -6,8 +6,8 @@ use lib.ListN.{length}
 use Rattle.image.specs.declared.Memory.{Memory}
 use Rattle.memory.specs.Command.{writable}
 use Rattle.memory.proofs.Command.{writable-tells, write-done, write-abort}
-use Rattle.logodwen.specs.Bytes.{wordsOf}
-use Rattle.logodwen.proofs.Runs.{length-words-of}
+use Rattle.codec.specs.Bytes.{wordsOf}
+use Rattle.codec.proofs.Runs.{length-words-of}
 use Rattle.logodwen.proofs.Held.{rest-none}
 use borrow.Author.Needs.{needs}
 use Rattle.logodwen.proofs.memories.write_dm.Statement.{statement}

@@ -11,10 +11,10 @@ use Rattle.node.specs.Effect.{Lent, lent}
 use Rattle.node.specs.Files.{loadOf}
 use Rattle.node.specs.Own.{onMemories, memoriesOf}
 use Rattle.node.proofs.Routes.{own-words}
-use Rattle.logodwen.specs.Bytes.{wordsOf}
+use Rattle.codec.specs.Bytes.{wordsOf}
 use Rattle.logodwen.specs.Entry.{memoryWords, runWords}
 use Rattle.logodwen.specs.Touch.{isQuiet}
-use Rattle.logodwen.proofs.Runs.{length-words-of}
+use Rattle.codec.proofs.Runs.{length-words-of}
 use Rattle.logodwen.proofs.OneFile.{file-request}
 use Rattle.logodwen.proofs.Touch.{Lends}
 use Rattle.logodwen.proofs.Taken.{own-short}

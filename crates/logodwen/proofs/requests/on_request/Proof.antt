@@ -13,7 +13,7 @@ use Rattle.logodwen.proofs.requests.on_request.Tie as tie
 use Rattle.logodwen.proofs.requests.on_request.Reads as reads
 use Rattle.logodwen.proofs.requests.on_request.Lts as lts
 use Rattle.logodwen.proofs.requests.on_own.Reads as on-own-reads
-use Rattle.logodwen.proofs.words.packet_word.Reads as packet-word-reads
+use Rattle.codec.proofs.words.packet_word.Reads as packet-word-reads
 use Rattle.node.proofs.requests.pass_by.Reads as pass-by-reads
 use Rattle.node.proofs.routing.route_by.Reads as route-by-reads
 

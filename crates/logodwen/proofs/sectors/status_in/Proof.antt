@@ -3,8 +3,8 @@ use Prim.Native.Nat.{_-_}
 use mathlib.Core.Path.{sym, _∙_}
 use native.Mathlib.Omega.{arith}
 use lib.Seq.{length-take-le}
-use Rattle.logodwen.specs.Bytes.{wordsOf}
-use Rattle.logodwen.proofs.Runs.{loaded-count, loaded-front}
+use Rattle.codec.specs.Bytes.{wordsOf}
+use Rattle.codec.proofs.Runs.{loaded-count, loaded-front}
 use Rattle.logodwen.proofs.InSector.{sector-short}
 use Rattle.logodwen.proofs.OneFile.{seen-in}
 use borrow.Author.Needs.{needs}

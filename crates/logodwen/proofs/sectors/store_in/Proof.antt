@@ -5,7 +5,7 @@ use native.Mathlib.Omega.{arith}
 use lib.ListN.{length}
 use Rattle.base.specs.Words.{laid}
 use Rattle.flash.proofs.Geometry.{sector-fits}
-use Rattle.logodwen.specs.Bytes.{bytesOf}
+use Rattle.codec.specs.Bytes.{bytesOf}
 use Rattle.logodwen.proofs.InSector.{lent-bytes, stored-out, stored-in}
 use borrow.Author.Needs.{needs}
 use Rattle.logodwen.proofs.sectors.store_in.Statement.{statement}

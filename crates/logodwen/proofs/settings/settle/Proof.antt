@@ -13,7 +13,7 @@ use Rattle.logodwen.proofs.settings.settle.Reads as reads
 use Rattle.logodwen.proofs.settings.settle.Lts as lts
 use Rattle.logodwen.proofs.answers.answer_words.Reads as answer-words-reads
 use Rattle.logodwen.proofs.settings.quiet.Reads as quiet-reads
-use Rattle.logodwen.proofs.words.store16.Reads as store16-reads
+use Rattle.codec.proofs.words.store16.Reads as store16-reads
 
 quiet-requires : tie.Need-quiet-requires
 quiet-requires c κs = search needs

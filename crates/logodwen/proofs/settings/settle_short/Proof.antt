@@ -2,7 +2,7 @@ use mathlib.Core.Path.{sym, ap, _∙_}
 use native.Mathlib.Omega.{arith}
 use lib.ListN.{length}
 use lib.Seq.{length-take-le}
-use Rattle.logodwen.proofs.Runs.{length-words-of, loaded-count, loaded-front}
+use Rattle.codec.proofs.Runs.{length-words-of, loaded-count, loaded-front}
 use Rattle.logodwen.proofs.Settles.{quiet-as}
 use borrow.Author.Needs.{needs}
 use Rattle.logodwen.proofs.settings.settle_short.Statement.{statement}
@@ -12,7 +12,7 @@ use Rattle.logodwen.proofs.settings.settle_short.Lts as lts
 use Rattle.logodwen.proofs.rooms.room_64.Reads as room-64-reads
 use Rattle.logodwen.proofs.rooms.room_97.Reads as room-97-reads
 use Rattle.logodwen.proofs.settings.settle.Reads as settle-reads
-use Rattle.logodwen.proofs.words.load16.Reads as load16-reads
+use Rattle.codec.proofs.words.load16.Reads as load16-reads
 
 room-64-requires : tie.Need-room-64-requires
 room-64-requires c κs = search needs

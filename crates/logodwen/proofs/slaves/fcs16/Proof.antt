@@ -8,8 +8,8 @@ use lib.Seq.{length-take-le}
 use Rattle.base.proofs.Part.{length-part}
 use Rattle.fcs.specs.Fcs.{fcsFrom, fcsOf}
 use Rattle.fcs.proofs.Runs.{from-end}
-use Rattle.logodwen.specs.Bytes.{wordsOf}
-use Rattle.logodwen.proofs.Runs.{length-words-of}
+use Rattle.codec.specs.Bytes.{wordsOf}
+use Rattle.codec.proofs.Runs.{length-words-of}
 use Rattle.logodwen.proofs.Hears.{fcs-turn}
 use borrow.Author.Needs.{needs}
 use Rattle.logodwen.proofs.slaves.fcs16.Statement.{statement}

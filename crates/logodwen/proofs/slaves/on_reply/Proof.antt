@@ -8,7 +8,7 @@ use Rattle.node.specs.Slaves.{replyEffect}
 use Rattle.node.specs.Refusals.{replyVerdict}
 use Rattle.node.specs.Calls.{replyOf}
 use Rattle.node.specs.declared.Verdict.{Verdict}
-use Rattle.logodwen.specs.Bytes.{wordsOf}
+use Rattle.codec.specs.Bytes.{wordsOf}
 use Rattle.logodwen.proofs.Hears.{taken-left, refused-left}
 use borrow.Author.Needs.{needs}
 use Rattle.logodwen.proofs.slaves.on_reply.Statement.{statement}

@@ -8,7 +8,7 @@ use Rattle.node.specs.Effect.{Outcome, applied}
 use Rattle.node.specs.Slaves.{heard, hears, withAmswire, errorIn, replyEffect}
 use Rattle.node.specs.Calls.{lentReply}
 use Rattle.node.proofs.Hearing.{hears-told}
-use Rattle.logodwen.specs.Bytes.{wordsOf}
+use Rattle.codec.specs.Bytes.{wordsOf}
 use Rattle.logodwen.specs.Held.{bufferWords}
 use borrow.Author.Needs.{needs}
 use Rattle.logodwen.proofs.slaves.reply_taken.Statement.{statement}

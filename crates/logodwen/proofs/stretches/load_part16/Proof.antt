@@ -6,7 +6,7 @@ use lib.ListN.{length}
 use Rattle.base.specs.Words.{part, laid}
 use Rattle.base.proofs.Laid.{laid-none}
 use Rattle.base.proofs.Part.{length-part}
-use Rattle.logodwen.specs.Bytes.{wordsOf}
+use Rattle.codec.specs.Bytes.{wordsOf}
 use Rattle.logodwen.proofs.Moves.{part-loaded}
 use borrow.Author.Needs.{needs}
 use Rattle.logodwen.proofs.stretches.load_part16.Statement.{statement}

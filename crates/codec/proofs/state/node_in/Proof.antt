@@ -1,0 +1,61 @@
+-- `codec::state::node_in` meets its contract. Assumes nothing.
+use mathlib.Core.Path.{ap, _∙_}
+use Rattle.codec.specs.StateBytes.{erasingOf, pendingOf, nodeIn}
+use Rattle.node.specs.State.{node, counts}
+use borrow.Author.Needs.{needs}
+use Rattle.codec.proofs.state.node_in.Statement.{statement}
+use Rattle.codec.proofs.state.node_in.Tie as tie
+
+masks-in-requires : tie.Need-masks-in-requires
+masks-in-requires c κs = search needs
+
+directory-in-requires : tie.Need-directory-in-requires
+directory-in-requires c κs = search needs
+
+given-in-requires : tie.Need-given-in-requires
+given-in-requires c κs = search needs
+
+progress-in-requires : tie.Need-progress-in-requires
+progress-in-requires c κs = search needs
+
+erasing-of-requires : tie.Need-erasing-of-requires
+erasing-of-requires c κs = search needs
+
+wait-in-requires : tie.Need-wait-in-requires
+wait-in-requires c κs = search needs
+
+pending-of-requires : tie.Need-pending-of-requires
+pending-of-requires c κs = search needs
+
+word16-requires : tie.Need-word16-requires
+word16-requires c κs = search needs
+
+word16-requires-2 : tie.Need-word16-requires-2
+word16-requires-2 c κs = search needs
+
+byte-requires : tie.Need-byte-requires
+byte-requires c κs = search needs
+
+cast-t10 : tie.Need-cast-t10
+cast-t10 c = search needs
+
+returns : tie.Need-returns
+unfolding nodeIn
+returns c = λ i. node ((c .before .before .before .before .before .before .before .before .before .masks-in .ensures) i) ((c .before .before .before .before .before .before .before .before .directory-in .ensures) i) ((c .before .before .before .before .before .before .before .given-in .ensures) i) ((c .byte .ensures) i) (counts ((c .before .before .word16 .ensures) i) ((c .before .word162 .ensures) i)) ((c .before .before .before .before .before .erasing-of .ensures ∙ ap erasingOf (c .before .before .before .before .before .before .progress-in .ensures)) i) ((c .before .before .before .pending-of .ensures ∙ ap pendingOf (c .before .before .before .before .wait-in .ensures)) i)
+
+pub node-in-spec : {M : Type 1} → statement M
+node-in-spec =
+    tie.close
+    (tie.spec
+    masks-in-requires
+    directory-in-requires
+    given-in-requires
+    progress-in-requires
+    erasing-of-requires
+    wait-in-requires
+    pending-of-requires
+    word16-requires
+    word16-requires-2
+    byte-requires
+    cast-t10
+    returns)

@@ -1,0 +1,140 @@
+-- The state bytes: the 172 bytes by which a host keeps a node's state. Numbers stand low byte first, and what a case does not use
+-- is 0. 01 'Covered' and 'Call refusals', row 5. Assumes nothing.
+use Prim.Native.Nat.{ℕ}
+use mathlib.Core.Bool.{Bool, true, false, _&&_}
+use mathlib.Core.List.{List, [], _∷_, _++_}
+use lib.ListN.{length, drop}
+use lib.Dec.{eqb}
+use Rattle.base.specs.Pick.{pick}
+use Rattle.flash.specs.Status.{progress}
+use Rattle.flash.specs.declared.Erasing.{Erasing}
+use Rattle.flash.specs.declared.Progress.{Progress}
+use Rattle.group.specs.Fragment.{built}
+use Rattle.group.specs.Tally.{tallyNumber}
+use Rattle.group.specs.declared.Tally.{Tally}
+use Rattle.group.specs.declared.ZeroLength.{ZeroLength}
+use Rattle.node.specs.State.{node, counts}
+use Rattle.node.specs.Slaves.{ask, gathering}
+use Rattle.node.specs.Valid.{stateOk}
+use Rattle.node.specs.declared.Counts.{Counts}
+use Rattle.node.specs.declared.Given.{Given}
+use Rattle.node.specs.declared.Node.{Node}
+use Rattle.node.specs.declared.Pending.{Pending}
+use Rattle.codec.specs.Bytes.{numberAt, wordsIn, bytesOf}
+use Rattle.codec.specs.Places.{packed}
+use Rattle.codec.specs.declared.Wait.{Wait}
+
+-- The tally of a number: 0 none yet, 1 all NEXT, 2 all ABORT, 3 all ERROR, 4 all END, 5 all code 0 with DAT, 6 mixed.
+abbrev pub tallyOf : ℕ → Tally
+tallyOf x =
+    pick (eqb x 0) Tally.Nothing
+    (pick (eqb x 1) (Tally.Zero ZeroLength.Next)
+    (pick (eqb x 2) (Tally.Zero ZeroLength.Abort)
+    (pick (eqb x 3) (Tally.Zero ZeroLength.Error)
+    (pick (eqb x 4) (Tally.Zero ZeroLength.End)
+    (pick (eqb x 5) Tally.Whole Tally.Mixed)))))
+
+-- What is erasing: its sector, 0 for none, and the words set so far.
+abbrev pub progressOf : Erasing → Progress
+progressOf Erasing.Nothing = progress 0 0
+progressOf (Erasing.Sector p) = p
+
+abbrev pub erasingOf : Progress → Erasing
+erasingOf p = pick (eqb (p .sector) 0) Erasing.Nothing (Erasing.Sector p)
+
+-- What is pending: 0 nothing, 1 one slave, 2 a group; and the numbers of the case.
+abbrev pub wait : ℕ → ℕ → ℕ → ℕ → ℕ → ℕ → ℕ → ℕ → Wait
+wait pending link slave from tally set at words =
+    record { pending = pending; link = link; slave = slave; from = from; tally = tally; set = set; at = at; words = words }
+
+abbrev pub waitOf : Pending → Wait
+waitOf Pending.Nothing = wait 0 0 0 0 0 0 0 0
+waitOf (Pending.Slave a) = wait 1 (a .link) (a .slave) 0 0 0 (a .at) 0
+waitOf (Pending.Group a g) = wait 2 (a .link) (a .slave) (g .from) (tallyNumber (g .built .tally)) (g .set) (a .at) (g .built .words)
+
+abbrev pub pendingOf : Wait → Pending
+pendingOf w =
+    pick (eqb (w .pending) 1) (Pending.Slave (ask (w .link) (w .slave) (w .at)))
+    (pick (eqb (w .pending) 2)
+    (Pending.Group (ask (w .link) (w .slave) (w .at)) (gathering (w .set) (w .from) (built (w .words) (tallyOf (w .tally)))))
+    Pending.Nothing)
+
+-- The numbers of a state and their sizes in bytes: at 0, kind, ports, sub-detector, mode, both versions, start tests, AMSWire errors,
+-- FLASH errors ..
+abbrev pub firstSizes : List ℕ
+firstSizes = 1 ∷ 1 ∷ 1 ∷ 1 ∷ 2 ∷ 2 ∷ 2 ∷ 2 ∷ 2 ∷ []
+
+abbrev pub firstNumbers : Given → ℕ → Counts → List ℕ
+firstNumbers g mode c =
+    g .kind ∷ g .ports ∷ g .subdetector ∷ mode ∷ g .«program_version» ∷ g .«subdetector_version» ∷ g .«start_tests» ∷ c .amswire ∷ c .flash ∷ []
+
+-- .. at 14, erasing sector, pending, the clock at start, the flash's size in words, words set, link, slave, from, tally ..
+abbrev pub middleSizes : List ℕ
+middleSizes = 1 ∷ 1 ∷ 4 ∷ 4 ∷ 4 ∷ 1 ∷ 1 ∷ 1 ∷ 1 ∷ []
+
+abbrev pub middleNumbers : Given → Progress → Wait → List ℕ
+middleNumbers g p w =
+    p .sector ∷ w .pending ∷ g .«start_clock» ∷ g .«flash_words» ∷ p .done ∷ w .link ∷ w .slave ∷ w .from ∷ w .tally ∷ []
+
+-- .. at 32, the asked set, the clock when the slave was asked, the words built.
+abbrev pub lastSizes : List ℕ
+lastSizes = 4 ∷ 4 ∷ 4 ∷ []
+
+abbrev pub lastNumbers : Wait → List ℕ
+lastNumbers w = w .set ∷ w .at ∷ w .words ∷ []
+
+abbrev pub sizes : List ℕ
+sizes = firstSizes ++ (middleSizes ++ lastSizes)
+
+abbrev pub numbersOf : Node → List ℕ
+numbersOf n =
+    firstNumbers (n .given) (n .mode) (n .counts)
+    ++ (middleNumbers (n .given) (progressOf (n .erasing)) (waitOf (n .pending)) ++ lastNumbers (waitOf (n .pending)))
+
+-- The bytes of a state: its numbers; at 44 the masks, four bytes each; at 108 the directory's words.
+unfoldable pub encodeOf : Node → List ℕ
+encodeOf n = packed sizes (numbersOf n) ++ (bytesOf 4 (n .masks) ++ bytesOf 2 (n .directory))
+
+-- The node that bytes stand for.
+abbrev pub portsIn : List ℕ → ℕ
+portsIn bytes = numberAt 1 1 bytes
+
+abbrev pub sizeIn : List ℕ → ℕ
+sizeIn bytes = numberAt 4 20 bytes
+
+abbrev pub givenIn : List ℕ → Given
+givenIn bytes =
+    record {
+      kind = numberAt 1 0 bytes;
+      ports = portsIn bytes;
+      subdetector = numberAt 1 2 bytes;
+      «program_version» = numberAt 2 4 bytes;
+      «subdetector_version» = numberAt 2 6 bytes;
+      «start_tests» = numberAt 2 8 bytes;
+      «start_clock» = numberAt 4 16 bytes;
+      «flash_words» = sizeIn bytes;
+    }
+
+abbrev pub progressIn : List ℕ → Progress
+progressIn bytes = progress (numberAt 1 14 bytes) (numberAt 4 24 bytes)
+
+abbrev pub waitIn : List ℕ → Wait
+waitIn bytes =
+    wait (numberAt 1 15 bytes) (numberAt 1 28 bytes) (numberAt 1 29 bytes) (numberAt 1 30 bytes) (numberAt 1 31 bytes) (numberAt 4 32 bytes)
+    (numberAt 4 36 bytes) (numberAt 4 40 bytes)
+
+unfoldable pub nodeIn : List ℕ → Node
+nodeIn bytes =
+    node (wordsIn 4 16 (drop 44 bytes)) (wordsIn 2 32 (drop 108 bytes)) (givenIn bytes) (numberAt 1 3 bytes)
+    (counts (numberAt 2 10 bytes) (numberAt 2 12 bytes)) (erasingOf (progressIn bytes)) (pendingOf (waitIn bytes))
+
+-- Two runs of bytes are the same.
+unfoldable pub alike : List ℕ → List ℕ → Bool
+alike [] [] = true
+alike [] (y ∷ ys) = false
+alike (x ∷ xs) [] = false
+alike (x ∷ xs) (y ∷ ys) = eqb x y && alike xs ys
+
+-- Bytes are those of a state: they are 172, they are the very bytes of the node that they stand for, and its state is one of 01's.
+unfoldable pub areState : List ℕ → Bool
+areState bytes = eqb (length bytes) 172 && (alike (encodeOf (nodeIn bytes)) bytes && stateOk (nodeIn bytes))

@@ -1,0 +1,310 @@
+// The state bytes: a node's state to its 172 bytes and back.
+ghost use mathlib.Core.Path.{_≡_};
+ghost use lib.ListN.{length, drop};
+ghost use Rattle.codec.specs.Bytes.{wordsIn};
+ghost use Rattle.codec.specs.Places.{putAll, packed};
+ghost use Rattle.base.specs.Words.{laid};
+ghost use Rattle.codec.specs.StateBytes.{tallyOf, progressOf, erasingOf, waitOf, pendingOf, firstSizes, firstNumbers, middleSizes, middleNumbers, lastSizes, lastNumbers, sizes, numbersOf, encodeOf, givenIn, progressIn, waitIn, nodeIn, alike, areState};
+use crate::Wait;
+use crate::words::byte;
+use crate::words::load16;
+use crate::words::load32;
+use crate::words::put8;
+use crate::words::put16;
+use crate::words::put32;
+use crate::words::store16;
+use crate::words::store32;
+use crate::words::word16;
+use crate::words::word32;
+use flash::Erasing;
+use flash::Progress;
+use group::Built;
+use group::Tally;
+use group::ZeroLength;
+use group::judge::tally_number;
+use node::Ask;
+use node::Counts;
+use node::Gathering;
+use node::Given;
+use node::Node;
+use node::Pending;
+
+fn tally_of(x: u16) -> Tally
+    ensures { λ r. ⌜ r ≡ tallyOf x ⌝ }
+{
+    match x {
+        0 => Tally::Nothing,
+        1 => Tally::Zero(ZeroLength::Next),
+        2 => Tally::Zero(ZeroLength::Abort),
+        3 => Tally::Zero(ZeroLength::Error),
+        4 => Tally::Zero(ZeroLength::End),
+        5 => Tally::Whole,
+        _ => Tally::Mixed,
+    }
+}
+
+fn progress_of(erasing: Erasing) -> Progress
+    ensures { λ r. ⌜ r ≡ progressOf erasing ⌝ }
+{
+    match erasing {
+        Erasing::Nothing => Progress { sector: 0, done: 0 },
+        Erasing::Sector(progress) => progress,
+    }
+}
+
+fn erasing_of(progress: Progress) -> Erasing
+    ensures { λ r. ⌜ r ≡ erasingOf progress ⌝ }
+{
+    if progress.sector == 0 {
+        return Erasing::Nothing;
+    }
+    Erasing::Sector(progress)
+}
+
+fn wait_of(pending: Pending) -> Wait
+    ensures { λ r. ⌜ r ≡ waitOf pending ⌝ }
+{
+    match pending {
+        Pending::Nothing => Wait {
+            pending: 0,
+            link: 0,
+            slave: 0,
+            from: 0,
+            tally: 0,
+            set: 0,
+            at: 0,
+            words: 0,
+        },
+        Pending::Slave(ask) => Wait {
+            pending: 1,
+            link: ask.link,
+            slave: ask.slave,
+            from: 0,
+            tally: 0,
+            set: 0,
+            at: ask.at,
+            words: 0,
+        },
+        Pending::Group(ask, gathering) => {
+            let built = gathering.built;
+            let built_tally = built.tally;
+            let tally = tally_number(built_tally);
+            Wait {
+                pending: 2,
+                link: ask.link,
+                slave: ask.slave,
+                from: gathering.from,
+                tally,
+                set: gathering.set,
+                at: ask.at,
+                words: built.words,
+            }
+        }
+    }
+}
+
+fn pending_of(wait: Wait) -> Pending
+    ensures { λ r. ⌜ r ≡ pendingOf wait ⌝ }
+{
+    let ask = Ask {
+        link: wait.link,
+        slave: wait.slave,
+        at: wait.at,
+    };
+    if wait.pending == 1 {
+        return Pending::Slave(ask);
+    }
+    if wait.pending == 2 {
+        let built = Built {
+            words: wait.words,
+            tally: tally_of(wait.tally),
+        };
+        let gathering = Gathering {
+            set: wait.set,
+            from: wait.from,
+            built,
+        };
+        return Pending::Group(ask, gathering);
+    }
+    Pending::Nothing
+}
+
+fn put_first(given: Given, mode: u16, counts: Counts, bytes: &mut [u8])
+    requires { ⌜ length (now bytes) ≡ 172 ⌝ }
+    ensures { λ _. ⌜ now (bytes .exit) ≡ putAll 0 firstSizes (firstNumbers given mode counts) (now (bytes .entry)) ⌝ }
+{
+    put8(bytes, 0, given.kind as u64);
+    put8(bytes, 1, given.ports as u64);
+    put8(bytes, 2, given.subdetector as u64);
+    put8(bytes, 3, mode as u64);
+    put16(bytes, 4, given.program_version as u64);
+    put16(bytes, 6, given.subdetector_version as u64);
+    put16(bytes, 8, given.start_tests as u64);
+    put16(bytes, 10, counts.amswire as u64);
+    put16(bytes, 12, counts.flash as u64);
+}
+
+fn put_middle(given: Given, progress: Progress, wait: Wait, bytes: &mut [u8])
+    requires { ⌜ length (now bytes) ≡ 172 ⌝ }
+    ensures { λ _. ⌜ now (bytes .exit) ≡ putAll 14 middleSizes (middleNumbers given progress wait) (now (bytes .entry)) ⌝ }
+{
+    put8(bytes, 14, progress.sector as u64);
+    put8(bytes, 15, wait.pending as u64);
+    put32(bytes, 16, given.start_clock as u64);
+    put32(bytes, 20, given.flash_words as u64);
+    put32(bytes, 24, progress.done as u64);
+    put8(bytes, 28, wait.link as u64);
+    put8(bytes, 29, wait.slave as u64);
+    put8(bytes, 30, wait.from as u64);
+    put8(bytes, 31, wait.tally as u64);
+}
+
+fn put_last(wait: Wait, bytes: &mut [u8])
+    requires { ⌜ length (now bytes) ≡ 172 ⌝ }
+    ensures { λ _. ⌜ now (bytes .exit) ≡ putAll 32 lastSizes (lastNumbers wait) (now (bytes .entry)) ⌝ }
+{
+    put32(bytes, 32, wait.set as u64);
+    put32(bytes, 36, wait.at as u64);
+    put32(bytes, 40, wait.words as u64);
+}
+
+// Stores a state's numbers.
+fn put_numbers(node: Node, bytes: &mut [u8])
+    requires { ⌜ length (now bytes) ≡ 172 ⌝ }
+    ensures { λ _. ⌜ now (bytes .exit) ≡ laid (now (bytes .entry)) 0 (packed sizes (numbersOf node)) ⌝ }
+{
+    let given = node.given;
+    let counts = node.counts;
+    let erasing = node.erasing;
+    let pending = node.pending;
+    let progress = progress_of(erasing);
+    let wait = wait_of(pending);
+    put_first(given, node.mode, counts, bytes);
+    put_middle(given, progress, wait, bytes);
+    put_last(wait, bytes);
+}
+
+// Stores a state's bytes.
+pub fn encode(node: Node, bytes: &mut [u8])
+    requires { ⌜ length (now bytes) ≡ 172 ⌝ }
+    ensures { λ _. ⌜ now (bytes .exit) ≡ encodeOf node ⌝ }
+{
+    put_numbers(node, bytes);
+    let masks = node.masks;
+    store32(&masks, &mut bytes[44..108]);
+    let directory = node.directory;
+    store16(&directory, &mut bytes[108..172]);
+}
+
+fn masks_in(bytes: &[u8]) -> [u32; 16]
+    requires { ⌜ length (now bytes) ≡ 172 ⌝ }
+    ensures { λ r. ⌜ r ≡ wordsIn 4 16 (drop 44 (now (bytes .entry))) ⌝ }
+{
+    let mut words = [0u32; 16];
+    load32(&bytes[44..108], &mut words);
+    words
+}
+
+fn directory_in(bytes: &[u8]) -> [u16; 32]
+    requires { ⌜ length (now bytes) ≡ 172 ⌝ }
+    ensures { λ r. ⌜ r ≡ wordsIn 2 32 (drop 108 (now (bytes .entry))) ⌝ }
+{
+    let mut words = [0u16; 32];
+    load16(&bytes[108..172], &mut words);
+    words
+}
+
+fn given_in(bytes: &[u8]) -> Given
+    requires { ⌜ length (now bytes) ≡ 172 ⌝ }
+    ensures { λ r. ⌜ r ≡ givenIn (now (bytes .entry)) ⌝ }
+{
+    Given {
+        kind: byte(bytes, 0) as u16,
+        ports: byte(bytes, 1) as u16,
+        subdetector: byte(bytes, 2) as u16,
+        program_version: word16(bytes, 4),
+        subdetector_version: word16(bytes, 6),
+        start_tests: word16(bytes, 8),
+        start_clock: word32(bytes, 16),
+        flash_words: word32(bytes, 20) as usize,
+    }
+}
+
+fn progress_in(bytes: &[u8]) -> Progress
+    requires { ⌜ length (now bytes) ≡ 172 ⌝ }
+    ensures { λ r. ⌜ r ≡ progressIn (now (bytes .entry)) ⌝ }
+{
+    Progress {
+        sector: byte(bytes, 14) as usize,
+        done: word32(bytes, 24) as usize,
+    }
+}
+
+fn wait_in(bytes: &[u8]) -> Wait
+    requires { ⌜ length (now bytes) ≡ 172 ⌝ }
+    ensures { λ r. ⌜ r ≡ waitIn (now (bytes .entry)) ⌝ }
+{
+    Wait {
+        pending: byte(bytes, 15) as u16,
+        link: byte(bytes, 28) as u32,
+        slave: byte(bytes, 29) as u32,
+        from: byte(bytes, 30) as u32,
+        tally: byte(bytes, 31) as u16,
+        set: word32(bytes, 32),
+        at: word32(bytes, 36),
+        words: word32(bytes, 40) as usize,
+    }
+}
+
+// The node that bytes stand for.
+pub fn node_in(bytes: &[u8]) -> Node
+    requires { ⌜ length (now bytes) ≡ 172 ⌝ }
+    ensures { λ r. ⌜ r ≡ nodeIn (now (bytes .entry)) ⌝ }
+{
+    let masks = masks_in(bytes);
+    let directory = directory_in(bytes);
+    let given = given_in(bytes);
+    let erasing = erasing_of(progress_in(bytes));
+    let pending = pending_of(wait_in(bytes));
+    let counts = Counts {
+        amswire: word16(bytes, 10),
+        flash: word16(bytes, 12),
+    };
+    Node {
+        masks,
+        directory,
+        given,
+        mode: byte(bytes, 3) as u16,
+        counts,
+        erasing,
+        pending,
+    }
+}
+
+fn same(a: &[u8], b: &[u8]) -> bool
+    requires { ⌜ length (now a) ≡ length (now b) ⌝ }
+    ensures { λ r. ⌜ r ≡ alike (now (a .entry)) (now (b .entry)) ⌝ }
+{
+    let mut i = 0;
+    while i < a.len() {
+        if a[i] != b[i] {
+            return false;
+        }
+        i += 1;
+    }
+    true
+}
+
+// Whether bytes are those of a state. Their masks and directory are, whatever they are: only the numbers before them are held against
+// those of the node.
+pub fn is_state(bytes: &[u8]) -> bool
+    ensures { λ r. ⌜ r ≡ areState (now (bytes .entry)) ⌝ }
+{
+    if bytes.len() != 172 {
+        return false;
+    }
+    let node = node_in(bytes);
+    let mut again = [0u8; 172];
+    put_numbers(node, &mut again);
+    same(&again[..44], &bytes[..44]) & node::valid::state_ok(node)
+}
