@@ -1,5 +1,5 @@
--- What a call does, as values: its answer, what it changes of flash, memories, settings and the write that stands, the errors it counts. A command that does
--- not name a change does not make it. Assumes nothing.
+-- What a call does, as values: its answer, what it changes of flash, memories, settings and the write that stands, the errors it counts.
+-- A command that does not name a change does not make it. Assumes nothing.
 use Prim.Native.Nat.{ℕ, _+_}
 use mathlib.Core.Path.{_≡_}
 use mathlib.Core.Bool.{Bool, true, false}
@@ -127,6 +127,13 @@ areaAfter Join.Dropped area = area
 areaAfter (Join.Joined link at words) area = laid area at words
 areaAfter (Join.Ended at words) area = laid area at words
 
+-- The further runs of 02, which a request is lent: the area in which the packets of a file join (request 1).
+pub record Further : Type 0 where
+  pub area : List ℕ
+
+abbrev pub further : List ℕ → Further
+further area = record { area = area }
+
 abbrev pub furtherAfter : Join → Further → Further
 furtherAfter j x = further (areaAfter j (x .area))
 
@@ -167,13 +174,6 @@ sealedWords status ws = ws ++ trailer ws status
 
 abbrev pub answers : ℕ → List ℕ → Did
 answers status ws = did (replied 3 (length ws + 2)) (sealedWords status ws) Change.Kept Store.Kept Setup.Kept false
-
--- The further runs of 02, which a request is lent: the area in which the packets of a file join (request 1).
-pub record Further : Type 0 where
-  pub area : List ℕ
-
-abbrev pub further : List ℕ → Further
-further area = record { area = area }
 
 -- What is lent to a call.
 pub record Lent : Type 0 where
@@ -224,7 +224,8 @@ nodeAfter n flash e =
 abbrev pub applied : Node → Lent → Effect → Outcome
 applied n l e =
     outcome (turn (nodeAfter n (l .flash) e) (e .answer))
-    (lent (flashAfter (e .change) (n .erasing) (l .flash)) (memoriesAfter (e .store) (l .memories)) (furtherAfter (e .join) (l .further)) (e .reply))
+    (lent (flashAfter (e .change) (n .erasing) (l .flash)) (memoriesAfter (e .store) (l .memories)) (furtherAfter (e .join) (l .further))
+    (e .reply))
 
 -- An own command's outcome: its words are laid at the front of the reply buffer, and what is pending stays.
 abbrev pub owns : Node → Lent → Did → Effect

@@ -1,5 +1,5 @@
--- When a call is refused, and by what: 01 'Call refusals', and 8 of 02, request 1. Each call has a list of causes in the table's order, each where the call
--- has that input; it is refused by the first that holds. Assumes nothing.
+-- When a call is refused, and by what: 01 'Call refusals', and 8 of 02, request 1. Each call has a list of causes in the table's order,
+-- each where the call has that input; it is refused by the first that holds. Assumes nothing.
 use Prim.Native.Nat.{ℕ}
 use mathlib.Core.Bool.{Bool, true, false, _&&_, _||_, not}
 use mathlib.Core.List.{List, [], _∷_}

@@ -24,9 +24,22 @@ use group::ZeroLength;
 pub fn with_writing(node: Node, writing: Writing) -> Node
     ensures { λ r. ⌜ r ≡ withWriting node writing ⌝ }
 {
-    let mut next = node;
-    next.writing = writing;
-    next
+    let masks = node.masks;
+    let directory = node.directory;
+    let given = node.given;
+    let counts = node.counts;
+    let erasing = node.erasing;
+    let pending = node.pending;
+    Node {
+        masks,
+        directory,
+        given,
+        mode: node.mode,
+        counts,
+        erasing,
+        pending,
+        writing,
+    }
 }
 
 // NEXT: a link's write stands, with so many words joined.
@@ -40,11 +53,11 @@ pub fn ask_more(node: Node, link: u32, words: usize) -> Turn
 }
 
 // The same answer, with no write standing.
-pub fn end_writing(turn: Turn) -> Turn
-    ensures { λ r. ⌜ r ≡ record { node = withWriting (turn .node) Writing.Nothing; answer = turn .answer } ⌝ }
+pub fn end_writing(done: Turn) -> Turn
+    ensures { λ r. ⌜ r ≡ turn (withWriting (done .node) Writing.Nothing) (done .answer) ⌝ }
 {
-    let node = turn.node;
-    let answer = turn.answer;
+    let node = done.node;
+    let answer = done.answer;
     Turn {
         node: with_writing(node, Writing::Nothing),
         answer,

@@ -89,7 +89,7 @@ returns-6 c =
     let id = s .args .id in
     let other = c .before .match .rest in
     λ flash others. zero-replies (s .args .node) ZeroLength.Abort (s .args .reply .now) (c .says .ensures) flash (given s flash others .memories) others
-    ∙ ap (ownOutcome (s .args .node) (given s flash))
+    ∙ ap (ownOutcome (s .args .node) (given s flash others))
     (no _ (ne-eqb id 0x0F (other .0 .0 .0 .0 .1)) (no _ (ne-eqb id 0x10 (other .0 .0 .0 .1)) (no _ (ne-eqb id 0x50 (other .0 .0 .1)) (no _ (ne-eqb id 0x11 (other .0 .1)) (no _ (ne-eqb id 0x51 (other .1)) refl)))))
 
 pub memories-spec : {M : Type 1} → statement M
