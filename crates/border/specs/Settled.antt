@@ -7,12 +7,12 @@ use Rattle.lines.proofs as Lines
 
 -- The five entries, and the check sequence.
 pub record EntriesSettled : Type 0 where
-  pub start : Settles Logodwen.logodwen1_start.Kinds.ps Logodwen.logodwen1_start.Kinds.r Logodwen.logodwen1_start.Reads.Learnt
-  pub request : Settles Logodwen.logodwen1_request.Kinds.ps Logodwen.logodwen1_request.Kinds.r Logodwen.logodwen1_request.Reads.Learnt
-  pub reply : Settles Logodwen.logodwen1_reply.Kinds.ps Logodwen.logodwen1_reply.Kinds.r Logodwen.logodwen1_reply.Reads.Learnt
-  pub poll : Settles Logodwen.logodwen1_poll.Kinds.ps Logodwen.logodwen1_poll.Kinds.r Logodwen.logodwen1_poll.Reads.Learnt
-  pub erase : Settles Logodwen.logodwen1_erase.Kinds.ps Logodwen.logodwen1_erase.Kinds.r Logodwen.logodwen1_erase.Reads.Learnt
-  pub fcs : Settles Logodwen.sequence.logodwen1_fcs.Kinds.ps Logodwen.sequence.logodwen1_fcs.Kinds.r Logodwen.sequence.logodwen1_fcs.Reads.Learnt
+  pub start : Settles Logodwen.logodwen2_start.Kinds.ps Logodwen.logodwen2_start.Kinds.r Logodwen.logodwen2_start.Reads.Learnt
+  pub request : Settles Logodwen.logodwen2_request.Kinds.ps Logodwen.logodwen2_request.Kinds.r Logodwen.logodwen2_request.Reads.Learnt
+  pub reply : Settles Logodwen.logodwen2_reply.Kinds.ps Logodwen.logodwen2_reply.Kinds.r Logodwen.logodwen2_reply.Reads.Learnt
+  pub poll : Settles Logodwen.logodwen2_poll.Kinds.ps Logodwen.logodwen2_poll.Kinds.r Logodwen.logodwen2_poll.Reads.Learnt
+  pub erase : Settles Logodwen.logodwen2_erase.Kinds.ps Logodwen.logodwen2_erase.Kinds.r Logodwen.logodwen2_erase.Reads.Learnt
+  pub fcs : Settles Logodwen.sequence.logodwen2_fcs.Kinds.ps Logodwen.sequence.logodwen2_fcs.Kinds.r Logodwen.sequence.logodwen2_fcs.Reads.Learnt
 
 -- The reader of the bench's lines: what a line says, and each word of the buffer.
 pub record LinesSettled : Type 0 where

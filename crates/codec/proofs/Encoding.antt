@@ -1,21 +1,23 @@
--- What a writer leaves that stores the numbers of a state, then its masks, then its directory: the state's bytes. Assumes nothing.
+-- What a writer leaves that stores the numbers of a state, its masks, its directory and the write that stands: the state's bytes. Assumes
+-- nothing.
 use Prim.Native.Nat.{ℕ, _+_, _*_, _≤_}
 use native.Mathlib.Omega.{arith}
 use native.Mathlib.Nat.{add-zero}
 use mathlib.Core.List.{List, [], _∷_, _++_, append-assoc}
-use mathlib.Core.Bool.{Bool, _&&_}
+use mathlib.Core.Bool.{Bool, true, false, _&&_}
 use mathlib.Core.Path.{_≡_, refl, sym, ap, _∙_}
-use lib.ListN.{length, take, drop, length-append, length-drop, take-append-drop}
-use lib.Seq.{take-all, drop-drop, length-take-le}
+use lib.ListN.{length, take, drop, length-append, length-drop}
+use lib.Seq.{take-add, take-all, drop-drop, length-take-le}
 use lib.Dec.{eqb}
 use borrow.Rule.Slice.PartMut.{putMid}
 use Rattle.base.specs.Words.{part, laid, Below}
-use Rattle.base.proofs.Part.{below-drop}
-use Rattle.base.proofs.Laid.{length-laid, take-laid, laid-laid, laid-part, laid-whole}
+use Rattle.base.proofs.Part.{below-drop, length-part, part-split}
+use Rattle.base.proofs.Laid.{length-laid, take-laid, part-laid, part-laid-before, laid-laid, laid-part, laid-whole}
 use Rattle.node.specs.declared.Node.{Node}
+use Rattle.node.specs.declared.Writing.{Writing}
 use Rattle.codec.specs.Bytes.{wordsIn, bytesOf, storeWords}
 use Rattle.codec.specs.Places.{packed, total}
-use Rattle.codec.specs.StateBytes.{sizes, numbersOf, encodeOf, nodeIn, alike}
+use Rattle.codec.specs.StateBytes.{sizes, numbersOf, standingOf, writeSizes, writeNumbers, writeBytes, encodeOf, nodeIn, alike}
 use Rattle.codec.proofs.Runs.{length-bytes, bytes-words}
 use Rattle.codec.proofs.Alike.{alike-same}
 use Rattle.codec.proofs.Packing.{length-packed}
@@ -29,63 +31,100 @@ pub length-numbers : (n : Node) → length (packed sizes (numbersOf n)) ≡ 44
 unfolding total
 length-numbers n = length-packed sizes (numbersOf n) refl
 
-pub encoded : (n : Node) (bs : List ℕ) {b s t : List ℕ} → length bs ≡ 172 → length (n .masks) ≡ 16 → length (n .directory) ≡ 32
+pub length-write : (w : Writing) → length (writeBytes w) ≡ 8
+unfolding total
+length-write w = length-packed writeSizes (writeNumbers (standingOf w)) refl
+
+pub encoded : (n : Node) (bs : List ℕ) {b s t end : List ℕ} → length bs ≡ 180 → length (n .masks) ≡ 16 → length (n .directory) ≡ 32
     → b ≡ laid bs 0 (packed sizes (numbersOf n))
     → s ≡ storeWords 4 (n .masks) (part b 44 64)
     → t ≡ storeWords 2 (n .directory) (part (putMid 44 64 b s) 108 64)
-    → putMid 108 64 (putMid 44 64 b s) t ≡ encodeOf n
+    → end ≡ laid (putMid 108 64 (putMid 44 64 b s) t) 172 (writeBytes (n .writing))
+    → end ≡ encodeOf n
 unfolding encodeOf
-encoded n bs {b} {s} {t} long ms ds eb es et =
+encoded n bs {b} {s} {t} long ms ds eb es et ew =
     let p = packed sizes (numbersOf n) in
     let m = bytesOf 4 (n .masks) in
     let d = bytesOf 2 (n .directory) in
+    let w = writeBytes (n .writing) in
     let lp : length p ≡ 44 = length-numbers n in
     let lm : length m ≡ 64 = length-bytes 4 (n .masks) ∙ ap (_* 4) ms in
     let ld : length d ≡ 64 = length-bytes 2 (n .directory) ∙ ap (_* 2) ds in
+    let lw : length w ≡ 8 = length-write (n .writing) in
     let lpm : length (p ++ m) ≡ 108 = length-append p m ∙ omega arith in
-    let all : length (p ++ m ++ d) ≡ 172 = length-append (p ++ m) d ∙ omega arith in
-    let lb : length b ≡ 172 = ap length eb ∙ length-laid bs 0 p (omega arith) ∙ long in
+    let lpmd : length (p ++ m ++ d) ≡ 172 = length-append (p ++ m) d ∙ omega arith in
+    let all : length (p ++ m ++ d ++ w) ≡ 180 = length-append (p ++ m ++ d) w ∙ omega arith in
+    let lb : length b ≡ 180 = ap length eb ∙ length-laid bs 0 p (omega arith) ∙ long in
     let first : putMid 44 64 b s ≡ laid b 44 m = put-part b 44 64 m s (omega arith) lm es in
     let both : putMid 44 64 b s ≡ laid bs 0 (p ++ m) =
     first ∙ ap (λ (l : List ℕ). laid l 44 m) eb ∙ ap (λ (i : ℕ). laid (laid bs 0 p) i m) (omega arith) ∙ laid-laid bs 0 p m (omega arith) in
-    let lc : length (putMid 44 64 b s) ≡ 172 = ap length both ∙ length-laid bs 0 (p ++ m) (omega arith) ∙ long in
+    let lc : length (putMid 44 64 b s) ≡ 180 = ap length both ∙ length-laid bs 0 (p ++ m) (omega arith) ∙ long in
     let second : putMid 108 64 (putMid 44 64 b s) t ≡ laid (putMid 44 64 b s) 108 d = put-part (putMid 44 64 b s) 108 64 d t (omega arith) ld et in
-    second ∙ ap (λ (l : List ℕ). laid l 108 d) both ∙ ap (λ (i : ℕ). laid (laid bs 0 (p ++ m)) i d) (omega arith) ∙ laid-laid bs 0 (p ++ m) d (omega arith)
-    ∙ laid-whole bs (p ++ m ++ d) (all ∙ sym long) ∙ append-assoc p m d
+    let three : putMid 108 64 (putMid 44 64 b s) t ≡ laid bs 0 (p ++ m ++ d) =
+    second ∙ ap (λ (l : List ℕ). laid l 108 d) both ∙ ap (λ (i : ℕ). laid (laid bs 0 (p ++ m)) i d) (omega arith) ∙ laid-laid bs 0 (p ++ m) d (omega arith) in
+    ew ∙ ap (λ (l : List ℕ). laid l 172 w) three ∙ ap (λ (i : ℕ). laid (laid bs 0 (p ++ m ++ d)) i w) (omega arith) ∙ laid-laid bs 0 (p ++ m ++ d) w (omega arith)
+    ∙ laid-whole bs (p ++ m ++ d ++ w) (all ∙ sym long) ∙ append-assoc (p ++ m) d w ∙ append-assoc p m (d ++ w)
 
--- bytes that stand behind the numbers of a state are its masks and its directory, whatever they are
+-- bytes that stand between the numbers of a state are its masks and its directory, whatever they are
 
-alike-append : (a b c : List ℕ) → length a ≡ length b → alike (a ++ c) (b ++ c) ≡ alike a b
+alike-both : (a b c d : List ℕ) → length a ≡ length b → alike (a ++ c) (b ++ d) ≡ (alike a b && alike c d)
 unfolding alike
-alike-append [] [] c h = alike-same c
-alike-append [] (y ∷ b) c h = absurd (omega arith)
-alike-append (x ∷ a) [] c h = absurd (omega arith)
-alike-append (x ∷ a) (y ∷ b) c h = ap (λ (t : Bool). eqb x y && t) (alike-append a b c (omega arith))
+alike-both [] [] c d h = refl
+alike-both [] (y ∷ b) c d h = absurd (omega arith)
+alike-both (x ∷ a) [] c d h = absurd (omega arith)
+alike-both (x ∷ a) (y ∷ b) c d h = ap (λ (t : Bool). eqb x y && t) (alike-both a b c d (omega arith)) ∙ by (eqb x y)
+  where
+    by : (t : Bool) → (t && (alike a b && alike c d)) ≡ (t && alike a b && alike c d)
+    by true = refl
+    by false = refl
 
-behind : (bytes : List ℕ) → length bytes ≡ 172 → Below 256 bytes
-    → bytesOf 4 (wordsIn 4 16 (drop 44 bytes)) ++ bytesOf 2 (wordsIn 2 32 (drop 108 bytes)) ≡ drop 44 bytes
-behind bytes long b =
-    let l44 : length (drop 44 bytes) ≡ 128 = length-drop 44 bytes ∙ omega arith in
-    let l108 : length (drop 108 bytes) ≡ 64 = length-drop 108 bytes ∙ omega arith in
+alike-behind : (a c d : List ℕ) → alike (a ++ c) (a ++ d) ≡ alike c d
+alike-behind a c d = alike-both a a c d refl ∙ ap (λ (t : Bool). t && alike c d) (alike-same a)
+
+between : (bytes : List ℕ) → length bytes ≡ 180 → Below 256 bytes
+    → bytesOf 4 (wordsIn 4 16 (drop 44 bytes)) ++ bytesOf 2 (wordsIn 2 32 (drop 108 bytes)) ≡ part bytes 44 128
+between bytes long b =
+    let l44 : length (drop 44 bytes) ≡ 136 = length-drop 44 bytes ∙ omega arith in
+    let l108 : length (drop 108 bytes) ≡ 72 = length-drop 108 bytes ∙ omega arith in
     let m : bytesOf 4 (wordsIn 4 16 (drop 44 bytes)) ≡ take 64 (drop 44 bytes) = bytes-words 4 16 (drop 44 bytes) (omega arith) (below-drop 44 bytes b) in
-    let d : bytesOf 2 (wordsIn 2 32 (drop 108 bytes)) ≡ drop 64 (drop 44 bytes) =
-    bytes-words 2 32 (drop 108 bytes) (omega arith) (below-drop 108 bytes b) ∙ take-all 64 (drop 108 bytes) (omega arith) ∙ sym (drop-drop 64 44 bytes) in
-    (λ i. m i ++ d i) ∙ take-append-drop 64 (drop 44 bytes)
+    let d : bytesOf 2 (wordsIn 2 32 (drop 108 bytes)) ≡ take 64 (drop 64 (drop 44 bytes)) =
+    bytes-words 2 32 (drop 108 bytes) (omega arith) (below-drop 108 bytes b) ∙ ap (take 64) (sym (drop-drop 64 44 bytes)) in
+    (λ i. m i ++ d i) ∙ sym (take-add 64 64 (drop 44 bytes))
 
--- the numbers of a state, stored at the front of some bytes
-pub numbers-front : (n : Node) (bs : List ℕ) {after : List ℕ} → after ≡ laid bs 0 (packed sizes (numbersOf n)) → take 44 after ≡ packed sizes (numbersOf n)
-numbers-front n bs e = ap (take 44) e ∙ take-laid bs 0 (packed sizes (numbersOf n)) 44 (omega (arith, length-numbers n)) (omega arith)
+-- the numbers of a state stored at the front of some bytes, and the write that stands at their end
+module _ (n : Node) (bs : List ℕ) {b after : List ℕ} (long : length bs ≡ 180) (eb : b ≡ laid bs 0 (packed sizes (numbersOf n))) (ew : after ≡ laid b 172 (writeBytes (n .writing))) where
+  middle-long : length b ≡ 180
+  middle-long = ap length eb ∙ length-laid bs 0 (packed sizes (numbersOf n)) (omega (arith, length-numbers n)) ∙ long
 
-pub front-long : (n : Node) (bs : List ℕ) {after : List ℕ} → after ≡ laid bs 0 (packed sizes (numbersOf n)) → 44 ≡ length (take 44 after)
-front-long n bs e = sym (ap length (numbers-front n bs e) ∙ length-numbers n)
+  pub after-long : length after ≡ 180
+  after-long = ap length ew ∙ length-laid b 172 (writeBytes (n .writing)) (omega (arith, length-write (n .writing), middle-long)) ∙ middle-long
 
-pub front-alike : (bytes front : List ℕ) → length bytes ≡ 172 → Below 256 bytes → front ≡ packed sizes (numbersOf (nodeIn bytes))
-    → alike front (take 44 bytes) ≡ alike (encodeOf (nodeIn bytes)) bytes
+  pub numbers-front : take 44 after ≡ packed sizes (numbersOf n)
+  numbers-front =
+      ap (take 44) ew ∙ part-laid-before b 0 44 172 (writeBytes (n .writing)) (omega (arith, length-write (n .writing), middle-long)) (omega arith)
+      ∙ ap (take 44) eb ∙ take-laid bs 0 (packed sizes (numbersOf n)) 44 (omega (arith, length-numbers n)) (omega arith)
+
+  pub write-back : part after 172 8 ≡ writeBytes (n .writing)
+  write-back =
+      ap (λ (l : List ℕ). part l 172 8) ew ∙ part-laid b 172 (writeBytes (n .writing)) 8 (length-write (n .writing)) (omega (arith, middle-long))
+
+pub ends-alike : (bytes front back : List ℕ) → length bytes ≡ 180 → Below 256 bytes → front ≡ packed sizes (numbersOf (nodeIn bytes))
+    → back ≡ writeBytes (nodeIn bytes .writing)
+    → (alike front (take 44 bytes) && alike back (part bytes 172 8)) ≡ alike (encodeOf (nodeIn bytes)) bytes
 unfolding encodeOf nodeIn
-front-alike bytes front long b e =
+ends-alike bytes front back long b ef eb =
     let n = nodeIn bytes in
     let p : List ℕ = packed sizes (numbersOf n) in
+    let w : List ℕ = writeBytes (n .writing) in
+    let mid : List ℕ = part bytes 44 128 in
+    let last : List ℕ = part bytes 172 8 in
     let lt : length (take 44 bytes) ≡ 44 = length-take-le 44 bytes (omega arith) in
-    ap (λ (l : List ℕ). alike l (take 44 bytes)) e
-    ∙ sym (alike-append p (take 44 bytes) (drop 44 bytes) (length-numbers n ∙ sym lt))
-    ∙ (λ i. alike (p ++ sym (behind bytes long b) i) (take-append-drop 44 bytes i))
+    let l172 : length (drop 172 bytes) ≡ 8 = length-drop 172 bytes ∙ omega arith in
+    let whole : take 44 bytes ++ (mid ++ last) ≡ bytes =
+    ap (λ (l : List ℕ). take 44 bytes ++ (mid ++ l)) (take-all 8 (drop 172 bytes) (omega arith)) ∙ sym (part-split bytes 44 128) in
+    let inner : mid ++ w ≡ bytesOf 4 (n .masks) ++ (bytesOf 2 (n .directory) ++ w) =
+    ap (λ (l : List ℕ). l ++ w) (sym (between bytes long b)) ∙ append-assoc (bytesOf 4 (n .masks)) (bytesOf 2 (n .directory)) w in
+    (λ i. alike (ef i) (take 44 bytes) && alike (eb i) last)
+    ∙ ap (λ (t : Bool). alike p (take 44 bytes) && t) (sym (alike-behind mid w last))
+    ∙ sym (alike-both p (take 44 bytes) (mid ++ w) (mid ++ last) (length-numbers n ∙ sym lt))
+    ∙ (λ i. alike (p ++ inner i) (whole i))

@@ -239,6 +239,13 @@ bytes-drop k (suc n) (w ∷ ws) =
     let e : suc n * k ≡ length (digitsOf k w) + n * k = omega (arith, length-digits k w) in
     rw (e, drop-append-add, bytes-drop k n ws)
 
+-- the bytes of a run's words from one on are a part of its bytes
+pub bytes-from : (k s n : ℕ) (bs : List ℕ) → s ≤ n → n * k ≤ length bs → Below 256 bs → bytesOf k (drop s (wordsIn k n bs)) ≡ part bs (s * k) (n * k - s * k)
+bytes-from k s n bs h fits b =
+    let e : s * k + (n * k - s * k) ≡ n * k = omega (arith, mul-le-mul-right k h) in
+    bytes-drop k s (wordsIn k n bs) ∙ ap (drop (s * k)) (bytes-words k n bs fits b) ∙ ap (λ (m : ℕ). drop (s * k) (take m bs)) (sym e)
+    ∙ drop-take (s * k) (n * k - s * k) bs
+
 bytes-laid : (k : ℕ) (ws : List ℕ) (at : ℕ) (new : List ℕ) → bytesOf k (laid ws at new) ≡ laid (bytesOf k ws) (at * k) (bytesOf k new)
 unfolding laid
 bytes-laid k ws at new =

@@ -13,11 +13,12 @@ use Rattle.group.specs.Slaves.{hasSlave, above}
 use Rattle.group.specs.Tally.{tallyNumber}
 use Rattle.group.specs.declared.Tally.{Tally}
 use Rattle.group.specs.declared.ZeroLength.{ZeroLength}
-use Rattle.node.specs.Valid.{sizeOk, kindOk, portsOk, givenOk, erasingOk, askOk, gatheringOk, pendingOk}
+use Rattle.node.specs.Valid.{sizeOk, kindOk, portsOk, givenOk, erasingOk, askOk, gatheringOk, pendingOk, writingOk}
 use Rattle.node.specs.declared.Ask.{Ask}
 use Rattle.node.specs.declared.Given.{Given}
 use Rattle.node.specs.declared.Pending.{Pending}
-use Rattle.codec.specs.StateBytes.{progressOf, waitOf}
+use Rattle.node.specs.declared.Writing.{Writing}
+use Rattle.codec.specs.StateBytes.{progressOf, waitOf, standingOf}
 
 -- one of two numbers is at most what both are
 pub one-of : (x a b m : ℕ) → a ≤ m → b ≤ m → (eqb x a || eqb x b) ≡ true → x ≤ m
@@ -114,3 +115,14 @@ wait-small ports (Pending.Group a g) b h =
       set = ltb-true (g .set) 16777216 (and-right member short (and-left (member && short) room three));
       words = omega arith;
     }
+
+pub record WriteSmall (w : Writing) : Type 0 where
+  pub write : standingOf w .write ≤ 1
+  pub link : standingOf w .link ≤ 4
+  pub words : standingOf w .words ≤ 32768
+
+pub write-small : (ports : ℕ) (w : Writing) → ports ≤ 4 → writingOk ports w ≡ true → WriteSmall w
+write-small ports Writing.Nothing b h = record { write = omega arith; link = omega arith; words = omega arith }
+write-small ports (Writing.File j) b h =
+    let l = ltb-true (j .link) ports (and-left (ltb (j .link) ports) (leb (j .words) 32768) h) in
+    record { write = omega arith; link = omega arith; words = leb-true (j .words) 32768 (and-right (ltb (j .link) ports) (leb (j .words) 32768) h) }

@@ -21,16 +21,17 @@ use Rattle.node.specs.State.{node, counts}
 use Rattle.node.specs.Valid.{stateOk, erasingOk}
 use Rattle.node.specs.declared.Node.{Node}
 use Rattle.node.specs.declared.Pending.{Pending}
+use Rattle.node.specs.declared.Writing.{Writing}
 use Rattle.node.proofs.Ranges.{and-both, ranges-tell, mask-below}
 use Rattle.codec.specs.Bytes.{wordsIn, wordsOf, bytesOf}
 use Rattle.codec.specs.Places.{packed, numbersIn, Fit}
-use Rattle.codec.specs.StateBytes.{tallyOf, progressOf, erasingOf, wait, waitOf, pendingOf, sizes, numbersOf, encodeOf, nodeIn, alike, areState}
+use Rattle.codec.specs.StateBytes.{tallyOf, progressOf, erasingOf, wait, waitOf, pendingOf, standing, standingOf, writingOf, sizes, numbersOf, writeSizes, writeNumbers, writeBytes, encodeOf, nodeIn, alike, areState}
 use Rattle.codec.specs.Kept.{Typed, DecodedEncoded, EncodedDecoded, WordsBack, BytesBack}
 use Rattle.codec.proofs.Runs.{length-bytes, words-bytes, store-words}
 use Rattle.codec.proofs.Alike.{alike-tells, alike-same}
 use Rattle.codec.proofs.Packing.{numbers-packed}
-use Rattle.codec.proofs.Encoding.{length-numbers}
-use Rattle.codec.proofs.Small.{given-small, sector-from, progress-small, wait-small}
+use Rattle.codec.proofs.Encoding.{length-numbers, length-write}
+use Rattle.codec.proofs.Small.{given-small, sector-from, progress-small, wait-small, write-small}
 
 -- the cases
 
@@ -49,6 +50,10 @@ pending-back (Pending.Slave a) = refl
 pending-back (Pending.Group a g) =
     ap (λ (t : Tally). Pending.Group a (record { set = g .set; from = g .from; built = record { words = g .built .words; tally = t } })) (tally-back (g .built .tally))
 
+writing-back : (w : Writing) → writingOf (standingOf w) ≡ w
+writing-back Writing.Nothing = refl
+writing-back (Writing.File j) = refl
+
 erasing-back : (words : ℕ) (e : Erasing) → erasingOk words e ≡ true → erasingOf (progressOf e) ≡ e
 erasing-back words Erasing.Nothing h = refl
 erasing-back words (Erasing.Sector p) h =
@@ -56,9 +61,9 @@ erasing-back words (Erasing.Sector p) h =
     let some : p .sector ≡ 0 → ⊥ = λ e. omega arith in
     sym (no _ (ne-eqb (p .sector) 0 some) refl)
 
--- the node of numbers, masks and directory
-abbrev nodeFrom : List ℕ → List ℕ → List ℕ → Node
-nodeFrom xs masks directory =
+-- the node of numbers, masks, directory and the numbers of the write that stands
+abbrev nodeFrom : List ℕ → List ℕ → List ℕ → List ℕ → Node
+nodeFrom xs masks directory ys =
     node masks directory
     (record {
       kind = getD xs 0 0;
@@ -72,8 +77,9 @@ nodeFrom xs masks directory =
     })
     (getD xs 3 0) (counts (getD xs 7 0) (getD xs 8 0)) (erasingOf (progress (getD xs 9 0) (getD xs 13 0)))
     (pendingOf (wait (getD xs 10 0) (getD xs 14 0) (getD xs 15 0) (getD xs 16 0) (getD xs 17 0) (getD xs 18 0) (getD xs 19 0) (getD xs 20 0)))
+    (writingOf (standing (getD ys 0 0) (getD ys 1 0) (getD ys 3 0)))
 
-node-from : (bytes : List ℕ) → nodeIn bytes ≡ nodeFrom (numbersIn 0 sizes bytes) (wordsIn 4 16 (drop 44 bytes)) (wordsIn 2 32 (drop 108 bytes))
+node-from : (bytes : List ℕ) → nodeIn bytes ≡ nodeFrom (numbersIn 0 sizes bytes) (wordsIn 4 16 (drop 44 bytes)) (wordsIn 2 32 (drop 108 bytes)) (numbersIn 172 writeSizes bytes)
 unfolding nodeIn numbersIn
 node-from bytes = refl
 
@@ -91,6 +97,14 @@ fits n ok t =
     let m = leb-true (n .mode) 3 (r .mode) in
     (omega (arith, g .kind), (omega (arith, g .ports), (omega (arith, g .subdetector), (omega (arith, m), (omega (arith, t .program), (omega (arith, t .version), (omega (arith, t .tests), (omega (arith, t .amswire), (omega (arith, t .flash), (omega (arith, p .0), (omega (arith, w .pending), (omega (arith, t .clock), (omega (arith, g .size), (omega (arith, p .1), (omega (arith, w .link), (omega (arith, w .slave), (omega (arith, w .from), (omega (arith, w .tally), (omega (arith, w .set), (omega (arith, t .asked), (omega (arith, w .words), tt)))))))))))))))))))))
 
+write-fits : (n : Node) → stateOk n ≡ true → Fit writeSizes (writeNumbers (standingOf (n .writing)))
+unfolding Fit
+write-fits n ok =
+    let r = ranges-tell n ok in
+    let g = given-small (n .given) (r .given) in
+    let w = write-small (n .given .ports) (n .writing) (g .ports) (r .writing) in
+    (omega (arith, w .write), (omega (arith, w .link), (omega arith, (omega (arith, w .words), tt))))
+
 node-back : (n : Node) → stateOk n ≡ true → Typed n → nodeIn (encodeOf n) ≡ n
 unfolding encodeOf
 node-back n ok t =
@@ -98,40 +112,51 @@ node-back n ok t =
     let p = packed sizes (numbersOf n) in
     let ms = bytesOf 4 (n .masks) in
     let ds = bytesOf 2 (n .directory) in
+    let w = writeBytes (n .writing) in
     let lp : length p ≡ 44 = length-numbers n in
     let lm : length ms ≡ 64 = length-bytes 4 (n .masks) ∙ ap (_* 4) (t .masks) in
+    let ld : length ds ≡ 64 = length-bytes 2 (n .directory) ∙ ap (_* 2) (t .directory) in
     let lpm : length (p ++ ms) ≡ 108 = length-append p ms ∙ omega arith in
-    let numbers : numbersIn 0 sizes (p ++ (ms ++ ds)) ≡ numbersOf n = numbers-packed sizes (numbersOf n) [] (ms ++ ds) 0 refl (fits n ok t) in
+    let lpmd : length (p ++ ms ++ ds) ≡ 172 = length-append (p ++ ms) ds ∙ omega arith in
+    let two : p ++ (ms ++ (ds ++ w)) ≡ (p ++ ms) ++ (ds ++ w) = sym (append-assoc p ms (ds ++ w)) in
+    let three : p ++ (ms ++ (ds ++ w)) ≡ (p ++ ms ++ ds) ++ (w ++ []) =
+    two ∙ sym (append-assoc (p ++ ms) ds w) ∙ ap (λ (l : List ℕ). (p ++ ms ++ ds) ++ l) (sym (append-nil w)) in
+    let numbers : numbersIn 0 sizes (p ++ (ms ++ (ds ++ w))) ≡ numbersOf n = numbers-packed sizes (numbersOf n) [] (ms ++ (ds ++ w)) 0 refl (fits n ok t) in
     let below : Below (256 ^ 4) (n .masks) = λ i. omega (arith, mask-below (n .masks) i (r .masks)) in
-    let masks : wordsIn 4 16 (drop 44 (p ++ (ms ++ ds))) ≡ n .masks =
-    ap (wordsIn 4 16) (drop-at p (ms ++ ds) 44 lp) ∙ words-back 4 16 (n .masks) ds (t .masks) below in
-    let directory : wordsIn 2 32 (drop 108 (p ++ (ms ++ ds))) ≡ n .directory =
-    ap (λ (l : List ℕ). wordsIn 2 32 (drop 108 l)) (sym (append-assoc p ms ds)) ∙ ap (wordsIn 2 32) (drop-at (p ++ ms) ds 108 lpm ∙ sym (append-nil ds))
-    ∙ words-back 2 32 (n .directory) [] (t .directory) (t .entries) in
-    node-from (p ++ (ms ++ ds))
-    ∙ (λ i. nodeFrom (numbers i) (masks i) (directory i))
-    ∙ (λ i. node (n .masks) (n .directory) (n .given) (n .mode) (n .counts) (erasing-back (n .given .«flash_words») (n .erasing) (r .erasing) i) (pending-back (n .pending) i))
+    let masks : wordsIn 4 16 (drop 44 (p ++ (ms ++ (ds ++ w)))) ≡ n .masks =
+    ap (wordsIn 4 16) (drop-at p (ms ++ (ds ++ w)) 44 lp) ∙ words-back 4 16 (n .masks) (ds ++ w) (t .masks) below in
+    let directory : wordsIn 2 32 (drop 108 (p ++ (ms ++ (ds ++ w)))) ≡ n .directory =
+    ap (λ (l : List ℕ). wordsIn 2 32 (drop 108 l)) two ∙ ap (wordsIn 2 32) (drop-at (p ++ ms) (ds ++ w) 108 lpm)
+    ∙ words-back 2 32 (n .directory) w (t .directory) (t .entries) in
+    let write : numbersIn 172 writeSizes (p ++ (ms ++ (ds ++ w))) ≡ writeNumbers (standingOf (n .writing)) =
+    ap (numbersIn 172 writeSizes) three ∙ numbers-packed writeSizes (writeNumbers (standingOf (n .writing))) (p ++ ms ++ ds) [] 172 lpmd (write-fits n ok) in
+    node-from (p ++ (ms ++ (ds ++ w)))
+    ∙ (λ i. nodeFrom (numbers i) (masks i) (directory i) (write i))
+    ∙ (λ i. node (n .masks) (n .directory) (n .given) (n .mode) (n .counts) (erasing-back (n .given .«flash_words») (n .erasing) (r .erasing) i) (pending-back (n .pending) i) (writing-back (n .writing) i))
 
-length-encoded : (n : Node) → Typed n → length (encodeOf n) ≡ 172
+length-encoded : (n : Node) → Typed n → length (encodeOf n) ≡ 180
 unfolding encodeOf
 length-encoded n t =
-    let lm = length-bytes 4 (n .masks) in
-    let ld = length-bytes 2 (n .directory) in
-    let a = length-append (bytesOf 4 (n .masks)) (bytesOf 2 (n .directory)) in
-    let b = length-append (packed sizes (numbersOf n)) (bytesOf 4 (n .masks) ++ bytesOf 2 (n .directory)) in
-    omega (arith, t .masks, t .directory, length-numbers n)
+    let ms = bytesOf 4 (n .masks) in
+    let ds = bytesOf 2 (n .directory) in
+    let w = writeBytes (n .writing) in
+    let lm : length ms ≡ 64 = length-bytes 4 (n .masks) ∙ ap (_* 4) (t .masks) in
+    let ld : length ds ≡ 64 = length-bytes 2 (n .directory) ∙ ap (_* 2) (t .directory) in
+    let a : length (ds ++ w) ≡ 72 = length-append ds w ∙ omega (arith, length-write (n .writing)) in
+    let b : length (ms ++ (ds ++ w)) ≡ 136 = length-append ms (ds ++ w) ∙ omega arith in
+    length-append (packed sizes (numbersOf n)) (ms ++ (ds ++ w)) ∙ omega (arith, length-numbers n)
 
 pub decoded-encoded : DecodedEncoded
 unfolding areState
 decoded-encoded n ok t =
     let back : nodeIn (encodeOf n) ≡ n = node-back n ok t in
     let same : alike (encodeOf (nodeIn (encodeOf n))) (encodeOf n) ≡ true = ap (λ (m : Node). alike (encodeOf m) (encodeOf n)) back ∙ alike-same (encodeOf n) in
-    (and-both (eq-eqb (length (encodeOf n)) 172 (length-encoded n t)) (and-both same (ap stateOk back ∙ ok)), back)
+    (and-both (eq-eqb (length (encodeOf n)) 180 (length-encoded n t)) (and-both same (ap stateOk back ∙ ok)), back)
 
 pub encoded-decoded : EncodedDecoded
 unfolding areState
 encoded-decoded bytes h =
-    let rest = and-right (eqb (length bytes) 172) (alike (encodeOf (nodeIn bytes)) bytes && stateOk (nodeIn bytes)) h in
+    let rest = and-right (eqb (length bytes) 180) (alike (encodeOf (nodeIn bytes)) bytes && stateOk (nodeIn bytes)) h in
     alike-tells (encodeOf (nodeIn bytes)) bytes (and-left (alike (encodeOf (nodeIn bytes)) bytes) (stateOk (nodeIn bytes)) rest)
 
 pub words-read : (k : ℕ) → 0 < k → WordsBack k

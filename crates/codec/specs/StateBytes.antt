@@ -1,5 +1,5 @@
--- The state bytes: the 172 bytes by which a host keeps a node's state. Numbers stand low byte first, and what a case does not use
--- is 0. 01 'Covered' and 'Call refusals', row 5. Assumes nothing.
+-- The state bytes: the 180 bytes by which a host keeps a node's state. Numbers stand low byte first, and what a case does not use
+-- is 0. 01 'Covered' and 'Call refusals', row 5; the last eight are 02's, request 1. Assumes nothing.
 use Prim.Native.Nat.{ℕ}
 use mathlib.Core.Bool.{Bool, true, false, _&&_}
 use mathlib.Core.List.{List, [], _∷_, _++_}
@@ -13,15 +13,17 @@ use Rattle.group.specs.Fragment.{built}
 use Rattle.group.specs.Tally.{tallyNumber}
 use Rattle.group.specs.declared.Tally.{Tally}
 use Rattle.group.specs.declared.ZeroLength.{ZeroLength}
-use Rattle.node.specs.State.{node, counts}
+use Rattle.node.specs.State.{node, counts, joining}
 use Rattle.node.specs.Slaves.{ask, gathering}
 use Rattle.node.specs.Valid.{stateOk}
 use Rattle.node.specs.declared.Counts.{Counts}
 use Rattle.node.specs.declared.Given.{Given}
 use Rattle.node.specs.declared.Node.{Node}
 use Rattle.node.specs.declared.Pending.{Pending}
+use Rattle.node.specs.declared.Writing.{Writing}
 use Rattle.codec.specs.Bytes.{numberAt, wordsIn, bytesOf}
 use Rattle.codec.specs.Places.{packed}
+use Rattle.codec.specs.declared.Standing.{Standing}
 use Rattle.codec.specs.declared.Wait.{Wait}
 
 -- The tally of a number: 0 none yet, 1 all NEXT, 2 all ABORT, 3 all ERROR, 4 all END, 5 all code 0 with DAT, 6 mixed.
@@ -59,6 +61,17 @@ pendingOf w =
     (Pending.Group (ask (w .link) (w .slave) (w .at)) (gathering (w .set) (w .from) (built (w .words) (tallyOf (w .tally)))))
     Pending.Nothing)
 
+-- The write that stands: 0 none, 1 one; its link, and its words joined.
+abbrev pub standing : ℕ → ℕ → ℕ → Standing
+standing write link words = record { write = write; link = link; words = words }
+
+abbrev pub standingOf : Writing → Standing
+standingOf Writing.Nothing = standing 0 0 0
+standingOf (Writing.File j) = standing 1 (j .link) (j .words)
+
+abbrev pub writingOf : Standing → Writing
+writingOf s = pick (eqb (s .write) 1) (Writing.File (joining (s .link) (s .words))) Writing.Nothing
+
 -- The numbers of a state and their sizes in bytes: at 0, kind, ports, sub-detector, mode, both versions, start tests, AMSWire errors,
 -- FLASH errors ..
 abbrev pub firstSizes : List ℕ
@@ -91,9 +104,19 @@ numbersOf n =
     firstNumbers (n .given) (n .mode) (n .counts)
     ++ (middleNumbers (n .given) (progressOf (n .erasing)) (waitOf (n .pending)) ++ lastNumbers (waitOf (n .pending)))
 
--- The bytes of a state: its numbers; at 44 the masks, four bytes each; at 108 the directory's words.
+-- At 172, whether a write stands, its link, two bytes that are always 0, and its words joined.
+abbrev pub writeSizes : List ℕ
+writeSizes = 1 ∷ 1 ∷ 2 ∷ 4 ∷ []
+
+abbrev pub writeNumbers : Standing → List ℕ
+writeNumbers s = s .write ∷ s .link ∷ 0 ∷ s .words ∷ []
+
+abbrev pub writeBytes : Writing → List ℕ
+writeBytes w = packed writeSizes (writeNumbers (standingOf w))
+
+-- The bytes of a state: its numbers; at 44 the masks, four bytes each; at 108 the directory's words; at 172 the write that stands.
 unfoldable pub encodeOf : Node → List ℕ
-encodeOf n = packed sizes (numbersOf n) ++ (bytesOf 4 (n .masks) ++ bytesOf 2 (n .directory))
+encodeOf n = packed sizes (numbersOf n) ++ (bytesOf 4 (n .masks) ++ (bytesOf 2 (n .directory) ++ writeBytes (n .writing)))
 
 -- The node that bytes stand for.
 abbrev pub portsIn : List ℕ → ℕ
@@ -123,10 +146,14 @@ waitIn bytes =
     wait (numberAt 1 15 bytes) (numberAt 1 28 bytes) (numberAt 1 29 bytes) (numberAt 1 30 bytes) (numberAt 1 31 bytes) (numberAt 4 32 bytes)
     (numberAt 4 36 bytes) (numberAt 4 40 bytes)
 
+abbrev pub standingIn : List ℕ → Standing
+standingIn bytes = standing (numberAt 1 172 bytes) (numberAt 1 173 bytes) (numberAt 4 176 bytes)
+
 unfoldable pub nodeIn : List ℕ → Node
 nodeIn bytes =
     node (wordsIn 4 16 (drop 44 bytes)) (wordsIn 2 32 (drop 108 bytes)) (givenIn bytes) (numberAt 1 3 bytes)
     (counts (numberAt 2 10 bytes) (numberAt 2 12 bytes)) (erasingOf (progressIn bytes)) (pendingOf (waitIn bytes))
+    (writingOf (standingIn bytes))
 
 -- Two runs of bytes are the same.
 unfoldable pub alike : List ℕ → List ℕ → Bool
@@ -135,6 +162,6 @@ alike [] (y ∷ ys) = false
 alike (x ∷ xs) [] = false
 alike (x ∷ xs) (y ∷ ys) = eqb x y && alike xs ys
 
--- Bytes are those of a state: they are 172, they are the very bytes of the node that they stand for, and its state is one of 01's.
+-- Bytes are those of a state: they are 180, they are the very bytes of the node that they stand for, and its state is one of 01's and 02's.
 unfoldable pub areState : List ℕ → Bool
-areState bytes = eqb (length bytes) 172 && (alike (encodeOf (nodeIn bytes)) bytes && stateOk (nodeIn bytes))
+areState bytes = eqb (length bytes) 180 && (alike (encodeOf (nodeIn bytes)) bytes && stateOk (nodeIn bytes))

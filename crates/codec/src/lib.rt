@@ -14,3 +14,10 @@ pub struct Wait {
     pub at: u32,
     pub words: usize,
 }
+
+// The write that stands, as the numbers in the state bytes: 0 none, 1 one; what the case does not use is 0.
+pub struct Standing {
+    pub write: u16,
+    pub link: u32,
+    pub words: usize,
+}

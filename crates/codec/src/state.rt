@@ -1,10 +1,11 @@
-// The state bytes: a node's state to its 172 bytes and back.
+// The state bytes: a node's state to its 180 bytes and back.
 ghost use mathlib.Core.Path.{_≡_};
 ghost use lib.ListN.{length, drop};
 ghost use Rattle.codec.specs.Bytes.{wordsIn};
 ghost use Rattle.codec.specs.Places.{putAll, packed};
 ghost use Rattle.base.specs.Words.{laid};
-ghost use Rattle.codec.specs.StateBytes.{tallyOf, progressOf, erasingOf, waitOf, pendingOf, firstSizes, firstNumbers, middleSizes, middleNumbers, lastSizes, lastNumbers, sizes, numbersOf, encodeOf, givenIn, progressIn, waitIn, nodeIn, alike, areState};
+ghost use Rattle.codec.specs.StateBytes.{tallyOf, progressOf, erasingOf, waitOf, pendingOf, standingOf, writingOf, firstSizes, firstNumbers, middleSizes, middleNumbers, lastSizes, lastNumbers, sizes, numbersOf, writeBytes, encodeOf, givenIn, progressIn, waitIn, standingIn, nodeIn, alike, areState};
+use crate::Standing;
 use crate::Wait;
 use crate::words::byte;
 use crate::words::load16;
@@ -26,8 +27,10 @@ use node::Ask;
 use node::Counts;
 use node::Gathering;
 use node::Given;
+use node::Joining;
 use node::Node;
 use node::Pending;
+use node::Writing;
 
 fn tally_of(x: u16) -> Tally
     ensures { λ r. ⌜ r ≡ tallyOf x ⌝ }
@@ -129,8 +132,37 @@ fn pending_of(wait: Wait) -> Pending
     Pending::Nothing
 }
 
+fn standing_of(writing: Writing) -> Standing
+    ensures { λ r. ⌜ r ≡ standingOf writing ⌝ }
+{
+    match writing {
+        Writing::Nothing => Standing {
+            write: 0,
+            link: 0,
+            words: 0,
+        },
+        Writing::File(joining) => Standing {
+            write: 1,
+            link: joining.link,
+            words: joining.words,
+        },
+    }
+}
+
+fn writing_of(standing: Standing) -> Writing
+    ensures { λ r. ⌜ r ≡ writingOf standing ⌝ }
+{
+    if standing.write == 1 {
+        return Writing::File(Joining {
+            link: standing.link,
+            words: standing.words,
+        });
+    }
+    Writing::Nothing
+}
+
 fn put_first(given: Given, mode: u16, counts: Counts, bytes: &mut [u8])
-    requires { ⌜ length (now bytes) ≡ 172 ⌝ }
+    requires { ⌜ length (now bytes) ≡ 180 ⌝ }
     ensures { λ _. ⌜ now (bytes .exit) ≡ putAll 0 firstSizes (firstNumbers given mode counts) (now (bytes .entry)) ⌝ }
 {
     put8(bytes, 0, given.kind as u64);
@@ -145,7 +177,7 @@ fn put_first(given: Given, mode: u16, counts: Counts, bytes: &mut [u8])
 }
 
 fn put_middle(given: Given, progress: Progress, wait: Wait, bytes: &mut [u8])
-    requires { ⌜ length (now bytes) ≡ 172 ⌝ }
+    requires { ⌜ length (now bytes) ≡ 180 ⌝ }
     ensures { λ _. ⌜ now (bytes .exit) ≡ putAll 14 middleSizes (middleNumbers given progress wait) (now (bytes .entry)) ⌝ }
 {
     put8(bytes, 14, progress.sector as u64);
@@ -160,7 +192,7 @@ fn put_middle(given: Given, progress: Progress, wait: Wait, bytes: &mut [u8])
 }
 
 fn put_last(wait: Wait, bytes: &mut [u8])
-    requires { ⌜ length (now bytes) ≡ 172 ⌝ }
+    requires { ⌜ length (now bytes) ≡ 180 ⌝ }
     ensures { λ _. ⌜ now (bytes .exit) ≡ putAll 32 lastSizes (lastNumbers wait) (now (bytes .entry)) ⌝ }
 {
     put32(bytes, 32, wait.set as u64);
@@ -170,7 +202,7 @@ fn put_last(wait: Wait, bytes: &mut [u8])
 
 // Stores a state's numbers.
 fn put_numbers(node: Node, bytes: &mut [u8])
-    requires { ⌜ length (now bytes) ≡ 172 ⌝ }
+    requires { ⌜ length (now bytes) ≡ 180 ⌝ }
     ensures { λ _. ⌜ now (bytes .exit) ≡ laid (now (bytes .entry)) 0 (packed sizes (numbersOf node)) ⌝ }
 {
     let given = node.given;
@@ -184,9 +216,21 @@ fn put_numbers(node: Node, bytes: &mut [u8])
     put_last(wait, bytes);
 }
 
+// Stores the write that stands.
+fn put_writing(writing: Writing, bytes: &mut [u8])
+    requires { ⌜ length (now bytes) ≡ 180 ⌝ }
+    ensures { λ _. ⌜ now (bytes .exit) ≡ laid (now (bytes .entry)) 172 (writeBytes writing) ⌝ }
+{
+    let standing = standing_of(writing);
+    put8(bytes, 172, standing.write as u64);
+    put8(bytes, 173, standing.link as u64);
+    put16(bytes, 174, 0);
+    put32(bytes, 176, standing.words as u64);
+}
+
 // Stores a state's bytes.
 pub fn encode(node: Node, bytes: &mut [u8])
-    requires { ⌜ length (now bytes) ≡ 172 ⌝ }
+    requires { ⌜ length (now bytes) ≡ 180 ⌝ }
     ensures { λ _. ⌜ now (bytes .exit) ≡ encodeOf node ⌝ }
 {
     put_numbers(node, bytes);
@@ -194,10 +238,12 @@ pub fn encode(node: Node, bytes: &mut [u8])
     store32(&masks, &mut bytes[44..108]);
     let directory = node.directory;
     store16(&directory, &mut bytes[108..172]);
+    let writing = node.writing;
+    put_writing(writing, bytes);
 }
 
 fn masks_in(bytes: &[u8]) -> [u32; 16]
-    requires { ⌜ length (now bytes) ≡ 172 ⌝ }
+    requires { ⌜ length (now bytes) ≡ 180 ⌝ }
     ensures { λ r. ⌜ r ≡ wordsIn 4 16 (drop 44 (now (bytes .entry))) ⌝ }
 {
     let mut words = [0u32; 16];
@@ -206,7 +252,7 @@ fn masks_in(bytes: &[u8]) -> [u32; 16]
 }
 
 fn directory_in(bytes: &[u8]) -> [u16; 32]
-    requires { ⌜ length (now bytes) ≡ 172 ⌝ }
+    requires { ⌜ length (now bytes) ≡ 180 ⌝ }
     ensures { λ r. ⌜ r ≡ wordsIn 2 32 (drop 108 (now (bytes .entry))) ⌝ }
 {
     let mut words = [0u16; 32];
@@ -215,7 +261,7 @@ fn directory_in(bytes: &[u8]) -> [u16; 32]
 }
 
 fn given_in(bytes: &[u8]) -> Given
-    requires { ⌜ length (now bytes) ≡ 172 ⌝ }
+    requires { ⌜ length (now bytes) ≡ 180 ⌝ }
     ensures { λ r. ⌜ r ≡ givenIn (now (bytes .entry)) ⌝ }
 {
     Given {
@@ -231,7 +277,7 @@ fn given_in(bytes: &[u8]) -> Given
 }
 
 fn progress_in(bytes: &[u8]) -> Progress
-    requires { ⌜ length (now bytes) ≡ 172 ⌝ }
+    requires { ⌜ length (now bytes) ≡ 180 ⌝ }
     ensures { λ r. ⌜ r ≡ progressIn (now (bytes .entry)) ⌝ }
 {
     Progress {
@@ -241,7 +287,7 @@ fn progress_in(bytes: &[u8]) -> Progress
 }
 
 fn wait_in(bytes: &[u8]) -> Wait
-    requires { ⌜ length (now bytes) ≡ 172 ⌝ }
+    requires { ⌜ length (now bytes) ≡ 180 ⌝ }
     ensures { λ r. ⌜ r ≡ waitIn (now (bytes .entry)) ⌝ }
 {
     Wait {
@@ -256,9 +302,20 @@ fn wait_in(bytes: &[u8]) -> Wait
     }
 }
 
+fn standing_in(bytes: &[u8]) -> Standing
+    requires { ⌜ length (now bytes) ≡ 180 ⌝ }
+    ensures { λ r. ⌜ r ≡ standingIn (now (bytes .entry)) ⌝ }
+{
+    Standing {
+        write: byte(bytes, 172) as u16,
+        link: byte(bytes, 173) as u32,
+        words: word32(bytes, 176) as usize,
+    }
+}
+
 // The node that bytes stand for.
 pub fn node_in(bytes: &[u8]) -> Node
-    requires { ⌜ length (now bytes) ≡ 172 ⌝ }
+    requires { ⌜ length (now bytes) ≡ 180 ⌝ }
     ensures { λ r. ⌜ r ≡ nodeIn (now (bytes .entry)) ⌝ }
 {
     let masks = masks_in(bytes);
@@ -266,6 +323,7 @@ pub fn node_in(bytes: &[u8]) -> Node
     let given = given_in(bytes);
     let erasing = erasing_of(progress_in(bytes));
     let pending = pending_of(wait_in(bytes));
+    let writing = writing_of(standing_in(bytes));
     let counts = Counts {
         amswire: word16(bytes, 10),
         flash: word16(bytes, 12),
@@ -278,6 +336,7 @@ pub fn node_in(bytes: &[u8]) -> Node
         counts,
         erasing,
         pending,
+        writing,
     }
 }
 
@@ -295,16 +354,20 @@ fn same(a: &[u8], b: &[u8]) -> bool
     true
 }
 
-// Whether bytes are those of a state. Their masks and directory are, whatever they are: only the numbers before them are held against
-// those of the node.
+// Whether bytes are those of a state. Their masks and directory are, whatever they are: only the numbers before and behind them are held
+// against those of the node.
 pub fn is_state(bytes: &[u8]) -> bool
     ensures { λ r. ⌜ r ≡ areState (now (bytes .entry)) ⌝ }
 {
-    if bytes.len() != 172 {
+    if bytes.len() != 180 {
         return false;
     }
     let node = node_in(bytes);
-    let mut again = [0u8; 172];
+    let mut again = [0u8; 180];
+    let writing = node.writing;
     put_numbers(node, &mut again);
-    same(&again[..44], &bytes[..44]) & node::valid::state_ok(node)
+    put_writing(writing, &mut again);
+    same(&again[..44], &bytes[..44])
+        & same(&again[172..180], &bytes[172..180])
+        & node::valid::state_ok(node)
 }

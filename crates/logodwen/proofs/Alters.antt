@@ -20,7 +20,7 @@ use Rattle.group.specs.Ending.{zeroReply}
 use Rattle.group.specs.declared.ZeroLength.{ZeroLength}
 use Rattle.memory.specs.Segment.{memories}
 use Rattle.node.specs.State.{turn, withFlash}
-use Rattle.node.specs.Effect.{Change, flashAfter, erasingNext, directoryAfter, Did, says, changes, Lent, lent, Outcome, outcome, ownOutcome, Changes}
+use Rattle.node.specs.Effect.{Change, flashAfter, erasingNext, directoryAfter, Did, says, changes, further, Lent, lent, Outcome, outcome, ownOutcome, Changes}
 use Rattle.node.specs.Files.{isErasing, unlessErasing}
 use Rattle.node.specs.Own.{filesOf, ownOf}
 use Rattle.node.specs.declared.Answer.{Answer}
@@ -31,7 +31,7 @@ use Rattle.node.specs.declared.Verdict.{Verdict}
 use Rattle.node.proofs.Outcomes.{ends}
 use Rattle.node.proofs.Commands.{ends-changed, changes-as, served, unserved}
 use Rattle.codec.specs.Bytes.{wordsOf, storeWords}
-use Rattle.logodwen.specs.Entry.{memoryWords, replyWords, runWords, inBytes}
+use Rattle.logodwen.specs.Entry.{memoryWords, furtherWords, replyWords, runWords, inBytes}
 use Rattle.logodwen.specs.Touch.{Alters, filingOf, isFiling}
 use Rattle.codec.proofs.Runs.{drop-take, length-words-of}
 use Rattle.logodwen.proofs.InSector.{stored-read}
@@ -45,7 +45,7 @@ alters-kept n flash b e = record { words = wordsOf 2 flash; changed = e; stored 
 
 pub alters-says : (n : Node) (z : ZeroLength) (flash : List ℕ) {d : Did} {r : Turn} → Below 256 flash → r ≡ turn n (Answer.Reply (zeroReply z)) → says z ≡ d
     → Alters n d flash r flash
-alters-says n z flash b e h = alters-kept n flash b (λ m reply. ends n z e h (lent (wordsOf 2 flash) m reply))
+alters-says n z flash b e h = alters-kept n flash b (λ m x reply. ends n z e h (lent (wordsOf 2 flash) m x reply))
 
 -- by another name
 pub alters-as : (n : Node) (flash : List ℕ) {d d′ : Did} {r : Turn} {end : List ℕ} → Alters n d flash r end → d ≡ d′ → Alters n d′ flash r end
@@ -98,11 +98,11 @@ module _ (n : Node) (packet : List ℕ) (wanted : ℕ) (d : Did) {b : Bool} (e :
 
 -- as the entry has it
 pub alters-left : (n : Node) (d : Did) (l : Lent) {r : Turn} {end : List ℕ} → Lends l → Alters n d (l .flash) r end
-    → outcome r (lent end (l .memories) (l .reply)) ≡ inBytes (ownOutcome n (runWords l) d) l
+    → outcome r (lent end (l .memories) (l .further) (l .reply)) ≡ inBytes (ownOutcome n (runWords l) d) l
 alters-left n d l {r} b a =
-    ap (λ (f : List ℕ). outcome r (lent f (l .memories) (l .reply))) (a .stored)
-    ∙ sym (λ i. outcome r (lent (storeWords 2 (a .words) (l .flash)) (memories (bytes-kept 4 (l .memories .pm) (b .pm) i) (bytes-kept 2 (l .memories .dm) (b .dm) i) (bytes-kept 2 (l .memories .io) (b .io) i)) (reply-kept (l .reply) (b .buffer) (b .reply) i)))
-    ∙ ap (λ (o : Outcome). inBytes o l) (a .changed (memoryWords (l .memories)) (replyWords (l .reply)))
+    ap (λ (f : List ℕ). outcome r (lent f (l .memories) (l .further) (l .reply))) (a .stored)
+    ∙ sym (λ i. outcome r (lent (storeWords 2 (a .words) (l .flash)) (memories (bytes-kept 4 (l .memories .pm) (b .pm) i) (bytes-kept 2 (l .memories .dm) (b .dm) i) (bytes-kept 2 (l .memories .io) (b .io) i)) (further (bytes-kept 2 (l .further .area) (b .area) i)) (reply-kept (l .reply) (b .buffer) (b .reply) i)))
+    ∙ ap (λ (o : Outcome). inBytes o l) (a .changed (memoryWords (l .memories)) (furtherWords (l .further)) (replyWords (l .reply)))
 
 own-filing : (id : ℕ) (n : Node) (clock link : ℕ) (packet : List ℕ) (l : Lent) → isFiling id ≡ true → ownOf id n clock link packet l ≡ filingOf id n (l .flash) packet
 unfolding ownOf filesOf
@@ -120,7 +120,7 @@ own-filing id n clock link packet l h = by (eqb id 0x45) (eqb id 0x47) (eqb id 0
 pub filing-request : (n : Node) (clock link bc : ℕ) (errors : Bool) (packet : List ℕ) (l : Lent) → Lends l → verdictIn n clock link bc errors packet l ≡ Verdict.Fine
     → (id : ℕ) → routeIn n clock link bc errors packet l ≡ Route.Own id → isFiling id ≡ true → {r : Turn} {end : List ℕ}
     → Alters n (filingOf id n (wordsOf 2 (l .flash)) (wordsOf 2 packet)) (l .flash) r end
-    → outcome r (lent end (l .memories) (l .reply)) ≡ inBytes (asked n clock link bc errors packet l) l
+    → outcome r (lent end (l .memories) (l .further) (l .reply)) ≡ inBytes (asked n clock link bc errors packet l) l
 filing-request n clock link bc errors packet l b v id e h a =
     alters-left n (filingOf id n (wordsOf 2 (l .flash)) (wordsOf 2 packet)) l b a
     ∙ ap (λ (o : Outcome). inBytes o l)

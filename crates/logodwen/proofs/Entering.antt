@@ -35,11 +35,11 @@ pub entered-refused : (v : Verdict) (state : List ℕ) (runs : Lent) (o : Outcom
 entered-refused v state runs o r e numbered =
     ap (λ (n : ℕ). answered n state runs) numbered ∙ sym (ap (λ (w : Verdict). entered w state runs o) e)
 
--- bytes of a state are 172
-pub state-long : (bytes : List ℕ) → areState bytes ≡ true → length bytes ≡ 172
+-- bytes of a state are 180
+pub state-long : (bytes : List ℕ) → areState bytes ≡ true → length bytes ≡ 180
 unfolding areState
 state-long bytes h =
-    eqb-true (length bytes) 172 (and-left (eqb (length bytes) 172) (alike (encodeOf (nodeIn bytes)) bytes && stateOk (nodeIn bytes)) h)
+    eqb-true (length bytes) 180 (and-left (eqb (length bytes) 180) (alike (encodeOf (nodeIn bytes)) bytes && stateOk (nodeIn bytes)) h)
 
 -- where the verdict is fine no cause holds
 
@@ -50,23 +50,25 @@ fine-then false r v e = (refl, e)
 bench-size : (state : List ℕ) (flash : ℕ) → (not (eqb flash 32768) || not (keptOk state flash)) ≡ false → flash ≡ 32768
 bench-size state flash h = eqb-true flash 32768 (not-false (eqb flash 32768) (or-neither (not (eqb flash 32768)) (not (keptOk state flash)) h .0))
 
-pub record RequestFine (state : List ℕ) (flash pm dm io reply : ℕ) : Type 0 where
+pub record RequestFine (state : List ℕ) (flash pm dm io area reply : ℕ) : Type 0 where
   pub bench : flash ≡ 32768
   pub buffer : 12288 ≤ reply
   pub pm-short : pm ≤ 8192
   pub dm-short : dm ≤ 8192
   pub io-short : io ≤ 4096
+  pub room : 32768 ≤ area
   pub bytes : areState state ≡ true
 
-pub request-fine : (link packet : ℕ) (state : List ℕ) (flash pm dm io reply : ℕ) → requestCheck link packet state flash pm dm io reply ≡ Verdict.Fine
-    → RequestFine state flash pm dm io reply
+pub request-fine : (link packet : ℕ) (state : List ℕ) (flash pm dm io area reply : ℕ) → requestCheck link packet state flash pm dm io area reply ≡ Verdict.Fine
+    → RequestFine state flash pm dm io area reply
 unfolding requestCheck
-request-fine link packet state flash pm dm io reply h =
+request-fine link packet state flash pm dm io area reply h =
     let a = fine-then (not (eqb flash 32768) || not (keptOk state flash)) _ _ h in
     let b = fine-then (ltb reply 12288) _ _ (a .1) in
     let c = fine-then (ltb 8192 pm || ltb 8192 dm || ltb 4096 io) _ _ (b .1) in
-    let d = fine-then (not (linkOk state link)) _ _ (c .1) in
-    let e = fine-then (not (areState state)) _ _ (d .1) in
+    let d = fine-then (ltb area 32768) _ _ (c .1) in
+    let e = fine-then (not (linkOk state link)) _ _ (d .1) in
+    let f = fine-then (not (areState state)) _ _ (e .1) in
     let m = or-neither (ltb 8192 pm || ltb 8192 dm) (ltb 4096 io) (c .0) in
     let k = or-neither (ltb 8192 pm) (ltb 8192 dm) (m .0) in
     record {
@@ -75,7 +77,8 @@ request-fine link packet state flash pm dm io reply h =
       pm-short = ltb-false 8192 pm (k .0);
       dm-short = ltb-false 8192 dm (k .1);
       io-short = ltb-false 4096 io (m .1);
-      bytes = not-false (areState state) (e .0);
+      room = ltb-false area 32768 (d .0);
+      bytes = not-false (areState state) (f .0);
     }
 
 pub record ReplyFine (packet : ℕ) (state : List ℕ) (reply : ℕ) : Type 0 where

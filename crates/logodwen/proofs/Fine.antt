@@ -1,6 +1,6 @@
 -- An entry that is not refused makes a call that is not refused: where the lent bytes pass the border's causes, the state that they stand
 -- for and the lengths pass the node's. Assumes nothing.
-use Prim.Native.Nat.{ℕ}
+use Prim.Native.Nat.{ℕ, _≤_}
 use native.Mathlib.Omega.{arith}
 use mathlib.Core.Path.{_≡_, refl, sym, ap, _∙_}
 use mathlib.Core.Bool.{Bool, true, false, _&&_, _||_, not}
@@ -11,7 +11,7 @@ use borrow.Author.Tests.{ltb-true, ltb-false, le-ltb, lt-leb, eqb-true, eq-eqb, 
 use Rattle.base.specs.Pick.{pick}
 use Rattle.base.proofs.Pick.{no, and-right}
 use Rattle.node.specs.Valid.{sizeOk, stateOk}
-use Rattle.node.specs.Refusals.{Cause, firstOf, flashCause, replyCause, memoryCause, linkCause, stateCause, busyCause, requestVerdict, eraseVerdict}
+use Rattle.node.specs.Refusals.{Cause, firstOf, flashCause, replyCause, memoryCause, areaCause, linkCause, stateCause, busyCause, requestVerdict, eraseVerdict}
 use Rattle.node.specs.declared.Verdict.{Verdict}
 use Rattle.node.proofs.Verdicts.{NoneHolds, fine-tells, or-neither}
 use Rattle.codec.specs.StateBytes.{sizeIn, portsIn, encodeOf, nodeIn, alike, areState}
@@ -28,11 +28,11 @@ pub state-sound : (state : List ℕ) → areState state ≡ true → stateOk (no
 unfolding areState
 state-sound state h =
     let same = alike (encodeOf (nodeIn state)) state in
-    and-right same (stateOk (nodeIn state)) (and-right (eqb (length state) 172) (same && stateOk (nodeIn state)) h)
+    and-right same (stateOk (nodeIn state)) (and-right (eqb (length state) 180) (same && stateOk (nodeIn state)) h)
 
 -- what is read off the state bytes as they are is what their node keeps
-where-long : (state : List ℕ) (t : Bool) → areState state ≡ true → pick (eqb (length state) 172) t true ≡ true → t ≡ true
-where-long state t h e = sym (ap (λ (b : Bool). pick b t true) (eq-eqb (length state) 172 (state-long state h))) ∙ e
+where-long : (state : List ℕ) (t : Bool) → areState state ≡ true → pick (eqb (length state) 180) t true ≡ true → t ≡ true
+where-long state t h e = sym (ap (λ (b : Bool). pick b t true) (eq-eqb (length state) 180 (state-long state h))) ∙ e
 
 -- cause by cause
 
@@ -65,20 +65,23 @@ link-no state link s h =
     where-long state (ltb link (portsIn state)) (not-false (areState state) s) (not-false (linkOk state link) h) in
     lt-leb (portsIn state) link (ltb-true link (portsIn state) below)
 
--- a request, and erase progress
-
-pub request-verdict : (link packet : ℕ) (state : List ℕ) (flash pm dm io reply : ℕ) → requestCheck link packet state flash pm dm io reply ≡ Verdict.Fine
-    → requestVerdict (nodeIn state) link packet flash pm dm io 12288 ≡ Verdict.Fine
+-- a request, whatever area is lent that is long enough
+pub request-verdict : (link packet : ℕ) (state : List ℕ) (flash pm dm io area reply : ℕ) → requestCheck link packet state flash pm dm io area reply ≡ Verdict.Fine
+    → (room : ℕ) → 32768 ≤ room → requestVerdict (nodeIn state) link packet flash pm dm io room 12288 ≡ Verdict.Fine
 unfolding requestCheck requestVerdict
-request-verdict link packet state flash pm dm io reply h =
+request-verdict link packet state flash pm dm io area reply h room long =
     let n = nodeIn state in
     let none =
     fine-tells
-    (benchCause state flash ∷ replyCause reply ∷ memoriesCause pm dm io ∷ portCause state link ∷ bytesCause state ∷ busyCause n packet ∷ [])
+    (benchCause state flash ∷ replyCause reply ∷ memoriesCause pm dm io ∷ areaCause area ∷ portCause state link ∷ bytesCause state
+    ∷ busyCause n packet ∷ [])
     h in
-    let s = none .1 .1 .1 .1 .0 in
-    none-refuses (flashCause n flash ∷ replyCause 12288 ∷ memoryCause pm dm io ∷ linkCause n link ∷ stateCause n ∷ busyCause n packet ∷ [])
-    (flash-no state flash s (none .0), (refl, (memory-no pm dm io (none .1 .1 .0), (link-no state link s (none .1 .1 .1 .0), (state-no state s, (none .1 .1 .1 .1 .1 .0, tt))))))
+    let s = none .1 .1 .1 .1 .1 .0 in
+    none-refuses
+    (flashCause n flash ∷ replyCause 12288 ∷ memoryCause pm dm io ∷ areaCause room ∷ linkCause n link ∷ stateCause n ∷ busyCause n packet ∷ [])
+    (flash-no state flash s (none .0), (refl, (memory-no pm dm io (none .1 .1 .0), (le-ltb room 32768 long, (link-no state link s (none .1 .1 .1 .1 .0), (state-no state s, (none .1 .1 .1 .1 .1 .1 .0, tt)))))))
+
+-- erase progress
 
 pub erase-verdict : (state : List ℕ) (flash : ℕ) → eraseCheck state flash ≡ Verdict.Fine → flash ≡ 32768 → eraseVerdict (nodeIn state) 32768 ≡ Verdict.Fine
 unfolding eraseCheck eraseVerdict

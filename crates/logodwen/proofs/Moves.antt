@@ -40,7 +40,7 @@ use Rattle.memory.proofs.Pairs.{after-next, answer-laid, length-answer-even, be
 use Rattle.memory.proofs.Command.{readable-tells, performable-tells, length-read-answer, length-perform-answer, sealed-laid, words-pm}
 use Rattle.node.specs.State.{turn}
 use Rattle.node.specs.Settings.{statusIn}
-use Rattle.node.specs.Effect.{Change, Store, Did, says, answers, memoriesAfter, sealedWords, Lent, lent, Outcome, outcome, effect, applied, ownOutcome, nodeAfter, Said, said, told, Stores}
+use Rattle.node.specs.Effect.{Change, Store, Did, says, answers, memoriesAfter, sealedWords, further, Lent, lent, Outcome, outcome, Join, effect, applied, ownOutcome, nodeAfter, Said, said, told, Stores}
 use Rattle.node.specs.Memories.{dataRoom, memoryReadOf, memoryWriteOf, withStore, performIoOf}
 use Rattle.node.specs.Files.{isErasing, seen, namedBy, loadBy, loadAt, loadOf}
 use Rattle.node.specs.Own.{filesOf, memoriesOf, onMemories, ownOf}
@@ -120,18 +120,18 @@ pub record MemoriesBelow (m : Memories) : Type 0 where
 
 pub moves-left : (n : Node) (d : Did) (l : Lent) {r : Turn} {m : Memories} {reply : List ℕ} → Lends l → MemoriesBelow m → d .change ≡ Change.Kept
     → Moves n d (l .memories) (l .reply) r m reply
-    → outcome r (lent (l .flash) m reply) ≡ inBytes (ownOutcome n (runWords l) d) l
+    → outcome r (lent (l .flash) m (l .further) reply) ≡ inBytes (ownOutcome n (runWords l) d) l
 moves-left n d l {r} {m} {reply} b low kept q =
-    (λ i. outcome (q .turned i) (lent (l .flash) m (q .stored i)))
-    ∙ ap (λ (c : Change). outcome (turned c) (lent (l .flash) m (storeWords 2 (d .words) (l .reply)))) kept
-    ∙ sym (λ i. outcome (turned Change.Kept) (lent (bytes-kept 2 (l .flash) (b .flash) i) (left i) (reply-front (l .reply) (d .words) (b .buffer) (q .short) (b .reply) i)))
+    (λ i. outcome (q .turned i) (lent (l .flash) m (l .further) (q .stored i)))
+    ∙ ap (λ (c : Change). outcome (turned c) (lent (l .flash) m (l .further) (storeWords 2 (d .words) (l .reply)))) kept
+    ∙ sym (λ i. outcome (turned Change.Kept) (lent (bytes-kept 2 (l .flash) (b .flash) i) (left i) (further (bytes-kept 2 (l .further .area) (b .area) i)) (reply-front (l .reply) (d .words) (b .buffer) (q .short) (b .reply) i)))
     ∙ sym (λ i. inBytes (owned (kept i)) l)
   where
     turned : Change → Turn
-    turned c = turn (nodeAfter n [] (effect (Answer.Reply (d .reply)) c (d .store) (d .setup) false (d .fault) (n .pending) [])) (Answer.Reply (d .reply))
+    turned c = turn (nodeAfter n [] (effect (Answer.Reply (d .reply)) c (d .store) (d .setup) Join.Kept false (d .fault) (n .pending) [])) (Answer.Reply (d .reply))
 
     owned : Change → Outcome
-    owned c = applied n (runWords l) (effect (Answer.Reply (d .reply)) c (d .store) (d .setup) false (d .fault) (n .pending) (laid (replyWords (l .reply)) 0 (d .words)))
+    owned c = applied n (runWords l) (effect (Answer.Reply (d .reply)) c (d .store) (d .setup) Join.Kept false (d .fault) (n .pending) (laid (replyWords (l .reply)) 0 (d .words)))
 
     left : memoriesLeft (memoriesAfter (d .store) (memoryWords (l .memories))) (l .memories) ≡ m
     left =
@@ -156,8 +156,8 @@ pub stores-moves : (n : Node) (d : Did) (m m′ : Memories) (reply : List ℕ) {
 unfolding bytesOf
 stores-moves n d m m′ reply none e rest =
     record {
-      turned = ap (λ (o : Outcome). o .turn) (e [] []);
-      moved = ap (λ (o : Outcome). o .after .memories) (e [] []);
+      turned = ap (λ (o : Outcome). o .turn) (e [] (further []) []);
+      moved = ap (λ (o : Outcome). o .after .memories) (e [] (further []) []);
       rest = rest;
       short = omega (arith, ap length none);
       stored = laid-none reply 0 ∙ sym (ap (λ (ws : List ℕ). storeWords 2 ws reply) none);
@@ -468,15 +468,15 @@ takes id h a b = by (eqb id 0x0F) (eqb id 0x50) (eqb id 0x51) (sym (λ i. eqb id
 
 -- the whole request
 
-pub own-memories : (id : ℕ) (n : Node) (clock link : ℕ) (packet : List ℕ) (l : Lent) → onMemories id ≡ true → ownOf id n clock link packet l ≡ memoriesOf id n (lent [] (l .memories) []) packet
+pub own-memories : (id : ℕ) (n : Node) (clock link : ℕ) (packet : List ℕ) (l : Lent) → onMemories id ≡ true → ownOf id n clock link packet l ≡ memoriesOf id n (lent [] (l .memories) (further []) []) packet
 unfolding ownOf memoriesOf
 own-memories id n clock link packet l h = by (eqb id 0x0F) (eqb id 0x10) (eqb id 0x50) (eqb id 0x11) (eqb id 0x51) refl refl refl refl refl h
   where
-    at : {x : ℕ} → id ≡ x → ownOf x n clock link packet l ≡ memoriesOf x n (lent [] (l .memories) []) packet → ownOf id n clock link packet l ≡ memoriesOf id n (lent [] (l .memories) []) packet
-    at e q = ap (λ (i : ℕ). ownOf i n clock link packet l) e ∙ q ∙ sym (ap (λ (i : ℕ). memoriesOf i n (lent [] (l .memories) []) packet) e)
+    at : {x : ℕ} → id ≡ x → ownOf x n clock link packet l ≡ memoriesOf x n (lent [] (l .memories) (further []) []) packet → ownOf id n clock link packet l ≡ memoriesOf id n (lent [] (l .memories) (further []) []) packet
+    at e q = ap (λ (i : ℕ). ownOf i n clock link packet l) e ∙ q ∙ sym (ap (λ (i : ℕ). memoriesOf i n (lent [] (l .memories) (further []) []) packet) e)
 
     by : (a b c d e : Bool) → eqb id 0x0F ≡ a → eqb id 0x10 ≡ b → eqb id 0x50 ≡ c → eqb id 0x11 ≡ d → eqb id 0x51 ≡ e → (a || b || c || d || e) ≡ true
-        → ownOf id n clock link packet l ≡ memoriesOf id n (lent [] (l .memories) []) packet
+        → ownOf id n clock link packet l ≡ memoriesOf id n (lent [] (l .memories) (further []) []) packet
     by true b c d e p q r s t g = at (eqb-true id 0x0F p) refl
     by false true c d e p q r s t g = at (eqb-true id 0x10 q) refl
     by false false true d e p q r s t g = at (eqb-true id 0x50 r) refl
@@ -527,7 +527,7 @@ load-kept n flash m packet =
 pub moves-request : (n : Node) (clock link bc : ℕ) (errors : Bool) (packet : List ℕ) (l : Lent) → Lends l → verdictIn n clock link bc errors packet l ≡ Verdict.Fine
     → (id : ℕ) → routeIn n clock link bc errors packet l ≡ Route.Own id → (d : Did) {r : Turn} {m : Memories} {reply : List ℕ}
     → ownOf id n clock link (wordsOf 2 packet) (runWords l) ≡ d → Kept d → MemoriesBelow m → Moves n d (l .memories) (l .reply) r m reply
-    → outcome r (lent (l .flash) m reply) ≡ inBytes (asked n clock link bc errors packet l) l
+    → outcome r (lent (l .flash) m (l .further) reply) ≡ inBytes (asked n clock link bc errors packet l) l
 moves-request n clock link bc errors packet l b v id e d own kept low q =
     moves-left n d l b low kept q
     ∙ ap (λ (o : Outcome). inBytes o l) (ap (ownOutcome n (runWords l)) (sym own) ∙ sym (taken-in n clock link bc errors packet l b v e))

@@ -73,7 +73,7 @@ own-file id n clock link packet l h = by (eqb id 0x05) (eqb id 0x06) refl refl h
 pub file-request : (n : Node) (clock link bc : ℕ) (errors : Bool) (packet : List ℕ) (l : Lent) → Lends l → verdictIn n clock link bc errors packet l ≡ Verdict.Fine
     → (id : ℕ) → routeIn n clock link bc errors packet l ≡ Route.Own id → isFile id ≡ true → {r : Turn} {end : List ℕ}
     → Quiet n (fileOf id n (wordsOf 2 (l .flash)) (wordsOf 2 packet)) (l .reply) r end
-    → outcome r (lent (l .flash) (l .memories) end) ≡ inBytes (asked n clock link bc errors packet l) l
+    → outcome r (lent (l .flash) (l .memories) (l .further) end) ≡ inBytes (asked n clock link bc errors packet l) l
 file-request n clock link bc errors packet l b v id e h q =
     quiet-left n (fileOf id n (wordsOf 2 (l .flash)) (wordsOf 2 packet)) l b (file-of-plain id n (wordsOf 2 (l .flash)) (wordsOf 2 packet)) q
     ∙ ap (λ (o : Outcome). inBytes o l)

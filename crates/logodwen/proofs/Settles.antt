@@ -101,7 +101,7 @@ quiet-as n id clock link before {r = r} {after = after} e q = subst (λ (x : Lis
 pub quiet-request : (n : Node) (clock link bc : ℕ) (errors : Bool) (packet : List ℕ) (l : Lent) → Lends l → verdictIn n clock link bc errors packet l ≡ Verdict.Fine
     → (id : ℕ) → routeIn n clock link bc errors packet l ≡ Route.Own id → isQuiet id ≡ true → {r : Turn} {end : List ℕ}
     → Quiet n (quietOf id n clock link (wordsOf 2 packet)) (l .reply) r end
-    → outcome r (lent (l .flash) (l .memories) end) ≡ inBytes (asked n clock link bc errors packet l) l
+    → outcome r (lent (l .flash) (l .memories) (l .further) end) ≡ inBytes (asked n clock link bc errors packet l) l
 quiet-request n clock link bc errors packet l b v id e h q =
     quiet-left n (quietOf id n clock link (wordsOf 2 packet)) l b (quiet-plain n (wordsOf 2 packet) id clock link) q
     ∙ ap (λ (o : Outcome). inBytes o l)

@@ -1,7 +1,7 @@
 -- A request by its verdict and its route, off the lengths of what is lent and the packet's first two words. Assumes nothing.
 use Prim.Native.Nat.{ℕ, _-_, _/_, _≤_, _<_}
 use mathlib.Core.Path.{_≡_, refl, sym, ap, _∙_}
-use mathlib.Core.Bool.{Bool, true, false, false≢true}
+use mathlib.Core.Bool.{Bool, true, false}
 use mathlib.Core.List.{List}
 use native.Mathlib.Omega.{arith}
 use native.Mathlib.Decide.{decLe}
@@ -15,6 +15,7 @@ use Rattle.node.specs.declared.Node.{Node}
 use Rattle.node.specs.declared.Route.{Route}
 use Rattle.node.specs.declared.Turn.{Turn}
 use Rattle.node.specs.declared.Verdict.{Verdict}
+use Rattle.node.proofs.Passing.{isPassed, passes}
 use Rattle.codec.specs.Bytes.{wordsOf}
 use Rattle.logodwen.specs.Entry.{replyWords, runWords, inBytes}
 use Rattle.codec.proofs.Runs.{length-words-of}
@@ -25,7 +26,7 @@ use Rattle.logodwen.proofs.Touch.{Lends, length-reply, runs-kept}
 module _ (n : Node) (clock link bc : ℕ) (errors : Bool) (packet : List ℕ) (l : Lent) where
   -- the verdict, by the lengths in bytes
   abbrev pub verdictIn : Verdict
-  verdictIn = requestVerdict n link (length packet / 2) (length (l .flash) / 2) (length (l .memories .pm) / 4) (length (l .memories .dm) / 2) (length (l .memories .io) / 2) 12288
+  verdictIn = requestVerdict n link (length packet / 2) (length (l .flash) / 2) (length (l .memories .pm) / 4) (length (l .memories .dm) / 2) (length (l .memories .io) / 2) (length (l .further .area) / 2) 12288
 
   abbrev pub routeIn : Route
   routeIn = routeOf n link bc errors (wordsOf 2 packet)
@@ -34,9 +35,9 @@ module _ (n : Node) (clock link bc : ℕ) (errors : Bool) (packet : List ℕ) (l
   asked = requestOf n clock link bc errors (wordsOf 2 packet) (runWords l)
 
   verdict-in : Lends l
-      → verdictIn ≡ requestVerdict n link (length (wordsOf 2 packet)) (length (wordsOf 2 (l .flash))) (length (wordsOf 4 (l .memories .pm))) (length (wordsOf 2 (l .memories .dm))) (length (wordsOf 2 (l .memories .io))) (length (replyWords (l .reply)))
+      → verdictIn ≡ requestVerdict n link (length (wordsOf 2 packet)) (length (wordsOf 2 (l .flash))) (length (wordsOf 4 (l .memories .pm))) (length (wordsOf 2 (l .memories .dm))) (length (wordsOf 2 (l .memories .io))) (length (wordsOf 2 (l .further .area))) (length (replyWords (l .reply)))
   verdict-in b =
-      sym (λ i. requestVerdict n link (length-words-of 2 packet i) (length-words-of 2 (l .flash) i) (length-words-of 4 (l .memories .pm) i) (length-words-of 2 (l .memories .dm) i) (length-words-of 2 (l .memories .io) i) (length-reply (l .reply) (b .buffer) i))
+      sym (λ i. requestVerdict n link (length-words-of 2 packet i) (length-words-of 2 (l .flash) i) (length-words-of 4 (l .memories .pm) i) (length-words-of 2 (l .memories .dm) i) (length-words-of 2 (l .memories .io) i) (length-words-of 2 (l .further .area) i) (length-reply (l .reply) (b .buffer) i))
 
   pub route-in : routeBy n link bc errors (length packet / 2) (getD (wordsOf 2 packet) 0 0) (getD (wordsOf 2 packet) 1 0) ≡ routeIn
   unfolding routeOf
@@ -52,29 +53,11 @@ module _ (n : Node) (clock link bc : ℕ) (errors : Bool) (packet : List ℕ) (l
       judged-in b ∙ ap (λ (x : Verdict). judged x n (runWords l) (routed routeIn n clock link (wordsOf 2 packet) (runWords l))) v
       ∙ ap (λ (x : Route). applied n (runWords l) (routed x n clock link (wordsOf 2 packet) (runWords l))) e
 
-  -- no command of the node's own: nothing is touched
-  abbrev pub passes : Route → Bool
-  passes Route.Wrong = true
-  passes Route.Unserved = true
-  passes Route.Dropped = true
-  passes (Route.Slave a) = true
-  passes (Route.Group a set) = true
-  passes (Route.Own id) = false
-
-  passed : (r : Route) → passes r ≡ true → outcome (passedBy r n clock link) (runWords l) ≡ applied n (runWords l) (routed r n clock link (wordsOf 2 packet) (runWords l))
-  passed Route.Wrong h = refl
-  passed Route.Unserved h = refl
-  passed Route.Dropped h = refl
-  passed (Route.Slave a) h = refl
-  passed (Route.Group a set) h = refl
-  passed (Route.Own id) h = absurd (false≢true h)
-
-  pub passed-left : Lends l → verdictIn ≡ Verdict.Fine → {route r : Route} {t : Turn} → route ≡ routeIn → route ≡ r → passes r ≡ true → t ≡ passedBy route n clock link
+  -- no command of the node's own, and no packet that joins: nothing is touched
+  pub passed-left : Lends l → verdictIn ≡ Verdict.Fine → {route r : Route} {t : Turn} → route ≡ routeIn → route ≡ r → isPassed r ≡ true → t ≡ passedBy route n clock link
       → outcome t l ≡ inBytes asked l
-  passed-left b v {route} {r} {t} e f p m =
-      ap (λ (x : Turn). outcome x l) (m ∙ ap (λ (x : Route). passedBy x n clock link) f)
-      ∙ runs-kept (passedBy r n clock link) l b
-      ∙ ap (λ (o : Outcome). inBytes o l) (passed r p ∙ sym (taken-in b v (sym e ∙ f)))
+  passed-left b v {t = t} e f p m =
+      runs-kept t l b ∙ ap (λ (o : Outcome). inBytes o l) (passes n clock link (wordsOf 2 packet) (runWords l) f p m ∙ sym (taken-in b v (sym e)))
 
   -- an own command has a word, and no more than 8,192
   long-route : 8192 < length (wordsOf 2 packet) → (t : Bool) → routeOf n link bc t (wordsOf 2 packet) ≡ Route.Wrong

@@ -1,6 +1,6 @@
 -- The five entries of the C border: what each answers, and the bytes that it leaves in every run that it is lent. An entry is refused
--- by the first cause that holds, and then every byte stays; or it is the node's call on the words of the lent bytes. 01 'Covered'.
--- Assumes nothing.
+-- by the first cause that holds, and then every byte stays; or it is the node's call on the words of the lent bytes. 01 'Covered',
+-- and 02, request 1, which lends a request the area. Assumes nothing.
 use Prim.Native.Nat.{ℕ, _/_}
 use mathlib.Core.Bool.{Bool, not}
 use mathlib.Core.List.{List, []}
@@ -8,7 +8,7 @@ use lib.ListN.{length, take}
 use lib.Dec.{eqb}
 use Rattle.memory.specs.Segment.{Memories, memories}
 use Rattle.node.specs.State.{refusalNumber}
-use Rattle.node.specs.Effect.{Lent, lent, Outcome, outcome}
+use Rattle.node.specs.Effect.{Further, further, Lent, lent, Outcome, outcome}
 use Rattle.node.specs.Calls.{startOf, requestOf, replyOf, pollOf, eraseOf, lentReply, lentFlash}
 use Rattle.node.specs.declared.Verdict.{Verdict}
 use Rattle.codec.specs.Bytes.{wordsOf, storeWords}
@@ -32,17 +32,25 @@ memoryWords m = memories (wordsOf 4 (m .pm)) (wordsOf 2 (m .dm)) (wordsOf 2 (m .
 abbrev pub memoriesLeft : Memories → Memories → Memories
 memoriesLeft m before = memories (storeWords 4 (m .pm) (before .pm)) (storeWords 2 (m .dm) (before .dm)) (storeWords 2 (m .io) (before .io))
 
+-- The words of the further runs, and the words stored back.
+abbrev pub furtherWords : Further → Further
+furtherWords x = further (wordsOf 2 (x .area))
+
+abbrev pub furtherLeft : Further → Further → Further
+furtherLeft x before = further (storeWords 2 (x .area) (before .area))
+
 -- Of a reply buffer the node is lent the first 12,288 words: the rest stays.
 abbrev pub replyWords : List ℕ → List ℕ
 replyWords reply = wordsOf 2 (take 24576 reply)
 
 -- The words of the runs, and the words stored back.
 abbrev pub runWords : Lent → Lent
-runWords l = lent (wordsOf 2 (l .flash)) (memoryWords (l .memories)) (replyWords (l .reply))
+runWords l = lent (wordsOf 2 (l .flash)) (memoryWords (l .memories)) (furtherWords (l .further)) (replyWords (l .reply))
 
 abbrev pub runsLeft : Lent → Lent → Lent
 runsLeft l before =
-    lent (storeWords 2 (l .flash) (before .flash)) (memoriesLeft (l .memories) (before .memories)) (storeWords 2 (l .reply) (before .reply))
+    lent (storeWords 2 (l .flash) (before .flash)) (memoriesLeft (l .memories) (before .memories)) (furtherLeft (l .further) (before .further))
+    (storeWords 2 (l .reply) (before .reply))
 
 -- What a call comes to, with the runs in bytes.
 abbrev pub inBytes : Outcome → Lent → Outcome
@@ -72,7 +80,7 @@ unfoldable pub requestEntry : ℕ → ℕ → ℕ → ℕ → List ℕ → List 
 requestEntry clock link bc errors packet state runs =
     entered
     (requestCheck link (length packet / 2) state (length (runs .flash) / 2) (length (runs .memories .pm) / 4)
-    (length (runs .memories .dm) / 2) (length (runs .memories .io) / 2) (length (runs .reply) / 2))
+    (length (runs .memories .dm) / 2) (length (runs .memories .io) / 2) (length (runs .further .area) / 2) (length (runs .reply) / 2))
     state runs (requestOf (nodeIn state) clock link bc (isSet errors) (wordsOf 2 packet) (runWords runs))
 
 -- A slave's reply.

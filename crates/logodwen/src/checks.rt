@@ -11,7 +11,7 @@ use node::Verdict;
 fn kept_ok(state: &[u8], flash: usize) -> bool
     ensures { λ r. ⌜ r ≡ keptOk (now (state .entry)) flash ⌝ }
 {
-    if state.len() != 172 {
+    if state.len() != 180 {
         return true;
     }
     flash == word32(state, 20) as usize
@@ -20,7 +20,7 @@ fn kept_ok(state: &[u8], flash: usize) -> bool
 fn link_ok(state: &[u8], link: u32) -> bool
     ensures { λ r. ⌜ r ≡ linkOk (now (state .entry)) link ⌝ }
 {
-    if state.len() != 172 {
+    if state.len() != 180 {
         return true;
     }
     link < byte(state, 1) as u32
@@ -34,9 +34,10 @@ pub fn request_check(
     pm: usize,
     dm: usize,
     io: usize,
+    area: usize,
     reply: usize,
 ) -> Verdict
-    ensures { λ r. ⌜ r ≡ requestCheck link packet (now (state .entry)) flash pm dm io reply ⌝ }
+    ensures { λ r. ⌜ r ≡ requestCheck link packet (now (state .entry)) flash pm dm io area reply ⌝ }
 {
     if (flash != 32768) | !kept_ok(state, flash) {
         return Verdict::No(Refusal::FlashSize);
@@ -46,6 +47,9 @@ pub fn request_check(
     }
     if (8192 < pm) | (8192 < dm) | (4096 < io) {
         return Verdict::No(Refusal::MemorySize);
+    }
+    if area < 32768 {
+        return Verdict::No(Refusal::AreaSize);
     }
     if !link_ok(state, link) {
         return Verdict::No(Refusal::Number);

@@ -92,7 +92,15 @@ fn write_at(node: Node, flash: &mut [u8], found: Found, file: &[u16]) -> Turn
     }
 }
 
-// File Write, 45.
+// Write of a file, wherever its words came from, while nothing is erasing.
+pub fn write_words(node: Node, flash: &mut [u8], file: &[u16]) -> Turn
+    requires { ⌜ length (now flash) / 2 ≡ 32768 ⌝ }
+    ensures { λ r. ⌜ Alters node (writeAt (now (file .entry)) (placedFor node (wordsOf 2 (now (flash .entry))) (now (file .entry)))) (now (flash .entry)) r (now (flash .exit)) ⌝ }
+{
+    write_at(node, flash, placed_for(node, flash, file), file)
+}
+
+// File Write, 45, in one packet.
 fn file_write(node: Node, packet: &[u8], flash: &mut [u8]) -> Turn
     requires { ⌜ (length (now flash) / 2 ≡ 32768) × (1 ≤ length (now packet) / 2) × (length (now packet) / 2 ≤ 8192) ⌝ }
     ensures { λ r. ⌜ Alters node (writeOf node (wordsOf 2 (now (flash .entry))) (wordsOf 2 (now (packet .entry)))) (now (flash .entry)) r (now (flash .exit)) ⌝ }
@@ -103,8 +111,7 @@ fn file_write(node: Node, packet: &[u8], flash: &mut [u8]) -> Turn
     }
     let mut words = room_8192();
     let count = load16(packet, &mut words);
-    let file = &words[1..count];
-    write_at(node, flash, placed_for(node, flash, file), file)
+    write_words(node, flash, &words[1..count])
 }
 
 // The start of a sector's erasure.

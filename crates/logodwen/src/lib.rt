@@ -4,7 +4,7 @@
 ghost use mathlib.Core.Path.{_≡_};
 ghost use mathlib.Core.List.{[]};
 ghost use Rattle.memory.specs.Segment.{memories};
-ghost use Rattle.node.specs.Effect.{lent};
+ghost use Rattle.node.specs.Effect.{further, lent};
 ghost use Rattle.node.specs.Calls.{lentReply, lentFlash};
 ghost use Rattle.logodwen.specs.Entry.{answered, startEntry, requestEntry, replyEntry, pollEntry, eraseEntry};
 use crate::answers::answer_number;
@@ -29,6 +29,7 @@ mod files;
 mod filing;
 mod load;
 mod memories;
+mod packets;
 mod requests;
 mod rooms;
 mod sectors;
@@ -40,7 +41,7 @@ mod stretches;
 
 // Start on a flash: the refusal's number, 0 for done.
 #[no_mangle]
-pub extern "C" fn logodwen1_start(
+pub extern "C" fn logodwen2_start(
     kind: u32,
     ports: u32,
     subdetector: u32,
@@ -59,7 +60,7 @@ pub extern "C" fn logodwen1_start(
     if !((1 <= ports) & (ports <= 4)) | !((kind == 1) | (kind == 2)) | (7 < subdetector) {
         return 4;
     }
-    if state.len() != 172 {
+    if state.len() != 180 {
         return 5;
     }
     let turn = on_start(
@@ -79,7 +80,7 @@ pub extern "C" fn logodwen1_start(
 
 // A request from a link.
 #[no_mangle]
-pub extern "C" fn logodwen1_request(
+pub extern "C" fn logodwen2_request(
     clock: u32,
     link: u32,
     bc: u32,
@@ -90,9 +91,10 @@ pub extern "C" fn logodwen1_request(
     pm: &mut [u8],
     dm: &mut [u8],
     io: &mut [u8],
+    area: &mut [u8],
     reply: &mut [u8],
 ) -> u64
-    ensures { λ r. ⌜ answered r (now (state .exit)) (lent (now (flash .exit)) (memories (now (pm .exit)) (now (dm .exit)) (now (io .exit))) (now (reply .exit))) ≡ requestEntry clock link bc «receive_error» (now (packet .entry)) (now (state .entry)) (lent (now (flash .entry)) (memories (now (pm .entry)) (now (dm .entry)) (now (io .entry))) (now (reply .entry))) ⌝ }
+    ensures { λ r. ⌜ answered r (now (state .exit)) (lent (now (flash .exit)) (memories (now (pm .exit)) (now (dm .exit)) (now (io .exit))) (further (now (area .exit))) (now (reply .exit))) ≡ requestEntry clock link bc «receive_error» (now (packet .entry)) (now (state .entry)) (lent (now (flash .entry)) (memories (now (pm .entry)) (now (dm .entry)) (now (io .entry))) (further (now (area .entry))) (now (reply .entry))) ⌝ }
 {
     let verdict = request_check(
         link,
@@ -102,6 +104,7 @@ pub extern "C" fn logodwen1_request(
         pm.len() / 4,
         dm.len() / 2,
         io.len() / 2,
+        area.len() / 2,
         reply.len() / 2,
     );
     match verdict {
@@ -119,6 +122,7 @@ pub extern "C" fn logodwen1_request(
                 pm,
                 dm,
                 io,
+                area,
                 reply,
             );
             let next = turn.node;
@@ -132,7 +136,7 @@ pub extern "C" fn logodwen1_request(
 
 // A slave's reply.
 #[no_mangle]
-pub extern "C" fn logodwen1_reply(
+pub extern "C" fn logodwen2_reply(
     clock: u32,
     slave: u32,
     bc: u32,
@@ -172,7 +176,7 @@ pub extern "C" fn logodwen1_reply(
 
 // A poll, while a request waits for a slave.
 #[no_mangle]
-pub extern "C" fn logodwen1_poll(clock: u32, state: &mut [u8], reply: &mut [u8]) -> u64
+pub extern "C" fn logodwen2_poll(clock: u32, state: &mut [u8], reply: &mut [u8]) -> u64
     ensures { λ r. ⌜ answered r (now (state .exit)) (lentReply (now (reply .exit))) ≡ pollEntry clock (now (state .entry)) (now (reply .entry)) ⌝ }
 {
     let verdict = poll_check(state, reply.len() / 2);
@@ -191,7 +195,7 @@ pub extern "C" fn logodwen1_poll(clock: u32, state: &mut [u8], reply: &mut [u8])
 
 // Erase progress.
 #[no_mangle]
-pub extern "C" fn logodwen1_erase(budget: u64, state: &mut [u8], flash: &mut [u8]) -> u64
+pub extern "C" fn logodwen2_erase(budget: u64, state: &mut [u8], flash: &mut [u8]) -> u64
     ensures { λ r. ⌜ answered r (now (state .exit)) (lentFlash (now (flash .exit))) ≡ eraseEntry budget (now (state .entry)) (now (flash .entry)) ⌝ }
 {
     let verdict = erase_check(state, flash.len() / 2);

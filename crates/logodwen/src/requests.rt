@@ -1,9 +1,11 @@
 // A request: what it is, off the packet's length and first two words, and the runs that its command touches.
 ghost use mathlib.Core.Path.{_≡_};
-ghost use Prim.Native.Nat.{_/_, _≤_};
+ghost use mathlib.Core.List.{List};
+ghost use Prim.Native.Nat.{ℕ, _/_, _≤_};
 ghost use lib.ListN.{length};
+ghost use Rattle.base.specs.Words.{Below};
 ghost use Rattle.memory.specs.Segment.{memories};
-ghost use Rattle.node.specs.Effect.{lent, outcome};
+ghost use Rattle.node.specs.Effect.{further, lent, outcome};
 ghost use Rattle.node.specs.Refusals.{requestVerdict};
 ghost use Rattle.node.specs.Route.{routeOf};
 ghost use Rattle.node.specs.declared.Route.{Route};
@@ -16,6 +18,8 @@ use crate::files::on_file;
 use crate::filing::on_filing;
 use crate::load::on_load;
 use crate::memories::on_memories;
+use crate::packets::on_join;
+use crate::packets::on_last;
 use crate::settings::on_settings;
 use codec::words::packet_word;
 use node::Node;
@@ -35,7 +39,7 @@ fn needs_flash(id: u16) -> bool
     (id == 0x05) | (id == 0x45) | (id == 0x06) | (id == 0x46) | (id == 0x47) | (id == 0x48)
 }
 
-// An own command: on the runs that it touches.
+// An own command: on the runs that it touches, whatever area is lent beside.
 fn on_own(
     node: Node,
     id: u16,
@@ -51,9 +55,9 @@ fn on_own(
     reply: &mut [u8],
 ) -> Turn
     requires { ⌜ (length (now flash) / 2 ≡ 32768) × (12288 ≤ length (now reply) / 2) × (length (now pm) / 4 ≤ 8192) × (length (now dm) / 2 ≤ 8192) × (length (now io) / 2 ≤ 4096) ⌝ }
-    requires { ⌜ requestVerdict node link (length (now packet) / 2) (length (now flash) / 2) (length (now pm) / 4) (length (now dm) / 2) (length (now io) / 2) 12288 ≡ Verdict.Fine ⌝ }
+    requires { ⌜ ((area : ℕ) → 32768 ≤ area → requestVerdict node link (length (now packet) / 2) (length (now flash) / 2) (length (now pm) / 4) (length (now dm) / 2) (length (now io) / 2) area 12288 ≡ Verdict.Fine) ⌝ }
     requires { ⌜ routeOf node link bc errors (wordsOf 2 (now packet)) ≡ Route.Own id ⌝ }
-    ensures { λ r. ⌜ outcome r (lent (now (flash .exit)) (memories (now (pm .exit)) (now (dm .exit)) (now (io .exit))) (now (reply .exit))) ≡ inBytes (requestOf node clock link bc errors (wordsOf 2 (now (packet .entry))) (runWords (lent (now (flash .entry)) (memories (now (pm .entry)) (now (dm .entry)) (now (io .entry))) (now (reply .entry))))) (lent (now (flash .entry)) (memories (now (pm .entry)) (now (dm .entry)) (now (io .entry))) (now (reply .entry))) ⌝ }
+    ensures { λ r. ⌜ ((area : List ℕ) → 32768 ≤ length area / 2 → Below 256 area → outcome r (lent (now (flash .exit)) (memories (now (pm .exit)) (now (dm .exit)) (now (io .exit))) (further area) (now (reply .exit))) ≡ inBytes (requestOf node clock link bc errors (wordsOf 2 (now (packet .entry))) (runWords (lent (now (flash .entry)) (memories (now (pm .entry)) (now (dm .entry)) (now (io .entry))) (further area) (now (reply .entry))))) (lent (now (flash .entry)) (memories (now (pm .entry)) (now (dm .entry)) (now (io .entry))) (further area) (now (reply .entry)))) ⌝ }
 {
     if !(needs_memories(id) | needs_flash(id)) {
         return on_settings(node, id, clock, link, packet, reply);
@@ -82,11 +86,12 @@ pub fn on_request(
     pm: &mut [u8],
     dm: &mut [u8],
     io: &mut [u8],
+    area: &mut [u8],
     reply: &mut [u8],
 ) -> Turn
-    requires { ⌜ (length (now flash) / 2 ≡ 32768) × (12288 ≤ length (now reply) / 2) × (length (now pm) / 4 ≤ 8192) × (length (now dm) / 2 ≤ 8192) × (length (now io) / 2 ≤ 4096) ⌝ }
-    requires { ⌜ requestVerdict node link (length (now packet) / 2) (length (now flash) / 2) (length (now pm) / 4) (length (now dm) / 2) (length (now io) / 2) 12288 ≡ Verdict.Fine ⌝ }
-    ensures { λ r. ⌜ outcome r (lent (now (flash .exit)) (memories (now (pm .exit)) (now (dm .exit)) (now (io .exit))) (now (reply .exit))) ≡ inBytes (requestOf node clock link bc errors (wordsOf 2 (now (packet .entry))) (runWords (lent (now (flash .entry)) (memories (now (pm .entry)) (now (dm .entry)) (now (io .entry))) (now (reply .entry))))) (lent (now (flash .entry)) (memories (now (pm .entry)) (now (dm .entry)) (now (io .entry))) (now (reply .entry))) ⌝ }
+    requires { ⌜ (length (now flash) / 2 ≡ 32768) × (12288 ≤ length (now reply) / 2) × (length (now pm) / 4 ≤ 8192) × (length (now dm) / 2 ≤ 8192) × (length (now io) / 2 ≤ 4096) × (32768 ≤ length (now area) / 2) ⌝ }
+    requires { ⌜ ((area : ℕ) → 32768 ≤ area → requestVerdict node link (length (now packet) / 2) (length (now flash) / 2) (length (now pm) / 4) (length (now dm) / 2) (length (now io) / 2) area 12288 ≡ Verdict.Fine) ⌝ }
+    ensures { λ r. ⌜ outcome r (lent (now (flash .exit)) (memories (now (pm .exit)) (now (dm .exit)) (now (io .exit))) (further (now (area .exit))) (now (reply .exit))) ≡ inBytes (requestOf node clock link bc errors (wordsOf 2 (now (packet .entry))) (runWords (lent (now (flash .entry)) (memories (now (pm .entry)) (now (dm .entry)) (now (io .entry))) (further (now (area .entry))) (now (reply .entry))))) (lent (now (flash .entry)) (memories (now (pm .entry)) (now (dm .entry)) (now (io .entry))) (further (now (area .entry))) (now (reply .entry))) ⌝ }
 {
     let route = node::routing::route_by(
         node,
@@ -99,8 +104,12 @@ pub fn on_request(
     );
     match route {
         Route::Wrong => node::requests::pass_by(node, route, clock, link),
+        Route::Broken => node::requests::pass_by(node, route, clock, link),
         Route::Unserved => node::requests::pass_by(node, route, clock, link),
+        Route::Overlong => node::requests::pass_by(node, route, clock, link),
         Route::Dropped => node::requests::pass_by(node, route, clock, link),
+        Route::Join(from, at) => on_join(node, link, from, at, packet, area),
+        Route::Last(at) => on_last(node, at, packet, flash, area),
         Route::Slave(_) => node::requests::pass_by(node, route, clock, link),
         Route::Group(_, _) => node::requests::pass_by(node, route, clock, link),
         Route::Own(id) => on_own(

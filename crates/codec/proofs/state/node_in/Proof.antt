@@ -1,6 +1,6 @@
 -- `codec::state::node_in` meets its contract. Assumes nothing.
 use mathlib.Core.Path.{ap, _∙_}
-use Rattle.codec.specs.StateBytes.{erasingOf, pendingOf, nodeIn}
+use Rattle.codec.specs.StateBytes.{erasingOf, pendingOf, writingOf, nodeIn}
 use Rattle.node.specs.State.{node, counts}
 use borrow.Author.Needs.{needs}
 use Rattle.codec.proofs.state.node_in.Statement.{statement}
@@ -27,6 +27,12 @@ wait-in-requires c κs = search needs
 pending-of-requires : tie.Need-pending-of-requires
 pending-of-requires c κs = search needs
 
+standing-in-requires : tie.Need-standing-in-requires
+standing-in-requires c κs = search needs
+
+writing-of-requires : tie.Need-writing-of-requires
+writing-of-requires c κs = search needs
+
 word16-requires : tie.Need-word16-requires
 word16-requires c κs = search needs
 
@@ -36,12 +42,12 @@ word16-requires-2 c κs = search needs
 byte-requires : tie.Need-byte-requires
 byte-requires c κs = search needs
 
-cast-t10 : tie.Need-cast-t10
-cast-t10 c = search needs
+cast-t12 : tie.Need-cast-t12
+cast-t12 c = search needs
 
 returns : tie.Need-returns
 unfolding nodeIn
-returns c = λ i. node ((c .before .before .before .before .before .before .before .before .before .masks-in .ensures) i) ((c .before .before .before .before .before .before .before .before .directory-in .ensures) i) ((c .before .before .before .before .before .before .before .given-in .ensures) i) ((c .byte .ensures) i) (counts ((c .before .before .word16 .ensures) i) ((c .before .word162 .ensures) i)) ((c .before .before .before .before .before .erasing-of .ensures ∙ ap erasingOf (c .before .before .before .before .before .before .progress-in .ensures)) i) ((c .before .before .before .pending-of .ensures ∙ ap pendingOf (c .before .before .before .before .wait-in .ensures)) i)
+returns c = λ i. node ((c .before .before .before .before .before .before .before .before .before .before .before .masks-in .ensures) i) ((c .before .before .before .before .before .before .before .before .before .before .directory-in .ensures) i) ((c .before .before .before .before .before .before .before .before .before .given-in .ensures) i) ((c .byte .ensures) i) (counts ((c .before .before .word16 .ensures) i) ((c .before .word162 .ensures) i)) ((c .before .before .before .before .before .before .before .erasing-of .ensures ∙ ap erasingOf (c .before .before .before .before .before .before .before .before .progress-in .ensures)) i) ((c .before .before .before .before .before .pending-of .ensures ∙ ap pendingOf (c .before .before .before .before .before .before .wait-in .ensures)) i) ((c .before .before .before .writing-of .ensures ∙ ap writingOf (c .before .before .before .before .standing-in .ensures)) i)
 
 pub node-in-spec : {M : Type 1} → statement M
 node-in-spec =
@@ -54,8 +60,10 @@ node-in-spec =
     erasing-of-requires
     wait-in-requires
     pending-of-requires
+    standing-in-requires
+    writing-of-requires
     word16-requires
     word16-requires-2
     byte-requires
-    cast-t10
+    cast-t12
     returns)

@@ -38,7 +38,7 @@ returns : tie.Need-returns
 returns c = let a = c .before .before .before .before .before .before .before .before .before .args in
     let m = memoryWords (bytes (c .before .before .before .before .before .before .before .before .before)) in
     λ reply. stores-moves (a .node) (does (c .before .before .before .before .before .before .before .before .before)) (bytes (c .before .before .before .before .before .before .before .before .before)) (bytes (c .before .before .before .before .before .before .before .before .before)) reply (load-none (a .words .now) m (status (c .before .before .before .before .before .before .before .before .before)))
-    (λ flash words. c .abort-faulty .ensures (lent flash m words) ∙ ap (ownOutcome (a .node) (lent flash m words)) (load-faulty (a .words .now) m (status (c .before .before .before .before .before .before .before .before .before)) (faulty (c .before .before .before .before .before .before .before .before .before) (c .before .before .before .status-in .ensures) (c .before .before .is-faulty .ensures) (c .before .if1 .taken))))
+    (λ flash x words. c .abort-faulty .ensures (lent flash m x words) ∙ ap (ownOutcome (a .node) (lent flash m x words)) (load-faulty (a .words .now) m (status (c .before .before .before .before .before .before .before .before .before)) (faulty (c .before .before .before .before .before .before .before .before .before) (c .before .before .before .status-in .ensures) (c .before .before .is-faulty .ensures) (c .before .if1 .taken))))
     (memories-rest-none (bytes (c .before .before .before .before .before .before .before .before .before)))
 
 load-file-requires : tie.Need-load-file-requires

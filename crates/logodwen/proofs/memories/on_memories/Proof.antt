@@ -5,7 +5,7 @@ use native.Mathlib.Omega.{arith}
 use Rattle.image.specs.declared.Memory.{Memory}
 use Rattle.memory.specs.Segment.{Memories, memories}
 use Rattle.node.specs.Settings.{statusIn}
-use Rattle.node.specs.Effect.{Lent, lent}
+use Rattle.node.specs.Effect.{further, Lent, lent}
 use Rattle.node.specs.Memories.{memoryReadOf}
 use Rattle.codec.specs.Bytes.{wordsOf}
 use Rattle.logodwen.specs.Entry.{memoryWords}
@@ -19,7 +19,7 @@ abbrev held : tie.Start → Memories
 held s = memories (s .args .pm .now) (s .args .dm .now) (s .args .io .now)
 
 abbrev given : tie.Start → Lent
-given s = lent [] (memoryWords (held s)) []
+given s = lent [] (memoryWords (held s)) (further []) []
 
 pm-read-requires : tie.Need-pm-read-requires
 pm-read-requires c κs = c .before .before .before .before .before .before .before .before .pre .0 .2

@@ -6,7 +6,7 @@ use native.Mathlib.Omega.{arith}
 use lib.ListN.{length}
 use Rattle.base.proofs.Part.{length-part}
 use Rattle.memory.specs.Segment.{Memories, memories}
-use Rattle.node.specs.Effect.{Lent, lent}
+use Rattle.node.specs.Effect.{further, Lent, lent}
 use Rattle.logodwen.specs.Entry.{memoryWords}
 use Rattle.logodwen.proofs.Moves.{moves-is, by-perform, by-pm-write, by-dm-write}
 use borrow.Author.Needs.{needs}
@@ -18,7 +18,7 @@ abbrev held : tie.Start → Memories
 held s = memories (s .args .pm .now) (s .args .dm .now) (s .args .io .now)
 
 abbrev given : tie.Start → Lent
-given s = lent [] (memoryWords (held s)) []
+given s = lent [] (memoryWords (held s)) (further []) []
 
 sub-perform : tie.Need-sub-perform
 sub-perform c = search needs

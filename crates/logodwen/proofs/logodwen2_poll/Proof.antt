@@ -1,4 +1,4 @@
--- `logodwen::logodwen1_poll` meets its contract. Assumes nothing.
+-- `logodwen::logodwen2_poll` meets its contract. Assumes nothing.
 use mathlib.Core.Path.{sym, ap, _∙_}
 use Prim.Native.Nat.{_/_}
 use lib.ListN.{length}
@@ -9,8 +9,8 @@ use Rattle.logodwen.specs.Entry.{replyWords, inBytes, pollEntry}
 use Rattle.node.specs.Calls.{pollOf, lentReply}
 use Rattle.node.specs.declared.Node.{Node}
 use borrow.Author.Needs.{needs}
-use Rattle.logodwen.proofs.logodwen1_poll.Statement.{statement}
-use Rattle.logodwen.proofs.logodwen1_poll.Tie as tie
+use Rattle.logodwen.proofs.logodwen2_poll.Statement.{statement}
+use Rattle.logodwen.proofs.logodwen2_poll.Tie as tie
 
 poll-check-requires : tie.Need-poll-check-requires
 poll-check-requires c κs = search needs
@@ -56,8 +56,8 @@ returns-2 : tie.Need-returns-2
 unfolding pollEntry
 returns-2 c = entered-refused (pollCheck (c .before .before .before .before .before .before .before .before .args .state .now) (length (c .before .before .before .before .before .before .before .before .args .reply .now) / 2)) (c .before .before .before .before .before .before .before .before .args .state .now) (lentReply (c .before .before .before .before .before .before .before .before .args .reply .now)) (pollOf (nodeIn (c .before .before .before .before .before .before .before .before .args .state .now)) (c .before .before .before .before .before .before .before .before .args .clock) (replyWords (c .before .before .before .before .before .before .before .before .args .reply .now))) (c .before .before .verdict .given .0 .0) (sym (c .before .before .before .before .poll-check .ensures) ∙ c .before .before .verdict .given .1) (c .refusal-number .ensures)
 
-pub logodwen1-poll-spec : {M : Type 1} → statement M
-logodwen1-poll-spec =
+pub logodwen2-poll-spec : {M : Type 1} → statement M
+logodwen2-poll-spec =
     tie.close
     (tie.spec
     poll-check-requires

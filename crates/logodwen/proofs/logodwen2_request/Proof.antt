@@ -1,4 +1,4 @@
--- `logodwen::logodwen1_request` meets its contract. Assumes nothing.
+-- `logodwen::logodwen2_request` meets its contract. Assumes nothing.
 use mathlib.Core.Path.{sym, ap, _∙_}
 use Prim.Native.Nat.{_/_}
 use lib.ListN.{length}
@@ -14,8 +14,8 @@ use Rattle.node.specs.declared.Node.{Node}
 use Rattle.memory.specs.Segment.{memories}
 use Rattle.node.specs.Effect.{lent}
 use borrow.Author.Needs.{needs}
-use Rattle.logodwen.proofs.logodwen1_request.Statement.{statement}
-use Rattle.logodwen.proofs.logodwen1_request.Tie as tie
+use Rattle.logodwen.proofs.logodwen2_request.Statement.{statement}
+use Rattle.logodwen.proofs.logodwen2_request.Tie as tie
 
 request-check-requires : tie.Need-request-check-requires
 request-check-requires c κs = search needs
@@ -80,8 +80,8 @@ returns-2 : tie.Need-returns-2
 unfolding requestEntry
 returns-2 c = entered-refused (requestCheck (c .before .before .before .before .before .before .before .before .before .before .before .before .before .args .link) (length (c .before .before .before .before .before .before .before .before .before .before .before .before .before .args .packet .now) / 2) (c .before .before .before .before .before .before .before .before .before .before .before .before .before .args .state .now) (length (c .before .before .before .before .before .before .before .before .before .before .before .before .before .args .flash .now) / 2) (length (c .before .before .before .before .before .before .before .before .before .before .before .before .before .args .pm .now) / 4) (length (c .before .before .before .before .before .before .before .before .before .before .before .before .before .args .dm .now) / 2) (length (c .before .before .before .before .before .before .before .before .before .before .before .before .before .args .io .now) / 2) (length (c .before .before .before .before .before .before .before .before .before .before .before .before .before .args .reply .now) / 2)) (c .before .before .before .before .before .before .before .before .before .before .before .before .before .args .state .now) (lent (c .before .before .before .before .before .before .before .before .before .before .before .before .before .args .flash .now) (memories (c .before .before .before .before .before .before .before .before .before .before .before .before .before .args .pm .now) (c .before .before .before .before .before .before .before .before .before .before .before .before .before .args .dm .now) (c .before .before .before .before .before .before .before .before .before .before .before .before .before .args .io .now)) (c .before .before .before .before .before .before .before .before .before .before .before .before .before .args .reply .now)) (requestOf (nodeIn (c .before .before .before .before .before .before .before .before .before .before .before .before .before .args .state .now)) (c .before .before .before .before .before .before .before .before .before .before .before .before .before .args .clock) (c .before .before .before .before .before .before .before .before .before .before .before .before .before .args .link) (c .before .before .before .before .before .before .before .before .before .before .before .before .before .args .bc) (isSet (c .before .before .before .before .before .before .before .before .before .before .before .before .before .args .receive-error)) (wordsOf 2 (c .before .before .before .before .before .before .before .before .before .before .before .before .before .args .packet .now)) (runWords (lent (c .before .before .before .before .before .before .before .before .before .before .before .before .before .args .flash .now) (memories (c .before .before .before .before .before .before .before .before .before .before .before .before .before .args .pm .now) (c .before .before .before .before .before .before .before .before .before .before .before .before .before .args .dm .now) (c .before .before .before .before .before .before .before .before .before .before .before .before .before .args .io .now)) (c .before .before .before .before .before .before .before .before .before .before .before .before .before .args .reply .now)))) (c .before .before .verdict .given .0 .0) (sym (c .before .before .before .before .request-check .ensures) ∙ c .before .before .verdict .given .1) (c .refusal-number .ensures)
 
-pub logodwen1-request-spec : {M : Type 1} → statement M
-logodwen1-request-spec =
+pub logodwen2-request-spec : {M : Type 1} → statement M
+logodwen2-request-spec =
     tie.close
     (tie.spec
     request-check-requires
