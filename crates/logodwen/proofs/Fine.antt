@@ -11,11 +11,11 @@ use borrow.Author.Tests.{ltb-true, ltb-false, le-ltb, lt-leb, eqb-true, eq-eqb, 
 use Rattle.base.specs.Pick.{pick}
 use Rattle.base.proofs.Pick.{no, and-right}
 use Rattle.node.specs.Valid.{sizeOk, stateOk}
-use Rattle.node.specs.Refusals.{Cause, firstOf, flashCause, replyCause, memoryCause, areaCause, linkCause, stateCause, busyCause, requestVerdict, eraseVerdict}
+use Rattle.node.specs.Refusals.{Cause, firstOf, flashCause, replyCause, memoryCause, areaCause, linkCause, slaveCause, stateCause, busyCause, pollCause, unaskedCause, requestVerdict, replyVerdict, pollVerdict, eraseVerdict}
 use Rattle.node.specs.declared.Verdict.{Verdict}
 use Rattle.node.proofs.Verdicts.{NoneHolds, fine-tells, or-neither}
 use Rattle.codec.specs.StateBytes.{sizeIn, portsIn, encodeOf, nodeIn, alike, areState}
-use Rattle.logodwen.specs.Causes.{keptOk, linkOk, benchCause, memoriesCause, portCause, bytesCause, requestCheck, eraseCheck}
+use Rattle.logodwen.specs.Causes.{keptOk, linkOk, benchCause, memoriesCause, lengthCause, portCause, bytesCause, requestCheck, replyCheck, pollCheck, eraseCheck}
 use Rattle.logodwen.proofs.Entering.{state-long}
 
 -- where no cause holds, none refuses
@@ -65,7 +65,8 @@ link-no state link s h =
     where-long state (ltb link (portsIn state)) (not-false (areState state) s) (not-false (linkOk state link) h) in
     lt-leb (portsIn state) link (ltb-true link (portsIn state) below)
 
--- a request, whatever area is lent that is long enough
+-- each call; a request, whatever area is lent that is long enough
+
 pub request-verdict : (link packet : ℕ) (state : List ℕ) (flash pm dm io area reply : ℕ) → requestCheck link packet state flash pm dm io area reply ≡ Verdict.Fine
     → (room : ℕ) → 32768 ≤ room → requestVerdict (nodeIn state) link packet flash pm dm io room 12288 ≡ Verdict.Fine
 unfolding requestCheck requestVerdict
@@ -82,6 +83,21 @@ request-verdict link packet state flash pm dm io area reply h room long =
     (flash-no state flash s (none .0), (refl, (memory-no pm dm io (none .1 .1 .0), (le-ltb room 32768 long, (link-no state link s (none .1 .1 .1 .1 .0), (state-no state s, (none .1 .1 .1 .1 .1 .1 .0, tt)))))))
 
 -- erase progress
+
+pub reply-verdict : (slave packet : ℕ) (state : List ℕ) (reply : ℕ) → replyCheck slave packet state reply ≡ Verdict.Fine → replyVerdict (nodeIn state) slave 12288 ≡ Verdict.Fine
+unfolding replyCheck replyVerdict
+reply-verdict slave packet state reply h =
+    let n = nodeIn state in
+    let none = fine-tells (replyCause reply ∷ lengthCause packet ∷ slaveCause slave ∷ bytesCause state ∷ unaskedCause n slave ∷ []) h in
+    none-refuses (replyCause 12288 ∷ slaveCause slave ∷ stateCause n ∷ unaskedCause n slave ∷ [])
+    (refl, (none .1 .1 .0, (state-no state (none .1 .1 .1 .0), (none .1 .1 .1 .1 .0, tt))))
+
+pub poll-verdict : (state : List ℕ) (reply : ℕ) → pollCheck state reply ≡ Verdict.Fine → pollVerdict (nodeIn state) 12288 ≡ Verdict.Fine
+unfolding pollCheck pollVerdict
+poll-verdict state reply h =
+    let n = nodeIn state in
+    let none = fine-tells (replyCause reply ∷ bytesCause state ∷ pollCause n ∷ []) h in
+    none-refuses (replyCause 12288 ∷ stateCause n ∷ pollCause n ∷ []) (refl, (state-no state (none .1 .0), (none .1 .1 .0, tt)))
 
 pub erase-verdict : (state : List ℕ) (flash : ℕ) → eraseCheck state flash ≡ Verdict.Fine → flash ≡ 32768 → eraseVerdict (nodeIn state) 32768 ≡ Verdict.Fine
 unfolding eraseCheck eraseVerdict

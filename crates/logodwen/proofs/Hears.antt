@@ -5,18 +5,17 @@ use mathlib.Core.Path.{_≡_, refl, sym, ap, subst, _∙_}
 use mathlib.Core.Bool.{Bool, true, false}
 use mathlib.Core.List.{List, [], _∷_, _++_}
 use native.Mathlib.Omega.{arith}
-use native.Mathlib.Nat.{mul-div-cancel}
-use lib.ListN.{length, take, drop, take-append-drop}
-use lib.Seq.{length-take-le, drop-drop}
+use lib.ListN.{length, take}
+use lib.Seq.{length-take-le}
 use lib.Dec.{leb}
 use borrow.Author.Tests.{le-leb, leb-true, le-ltb}
 use Rattle.base.specs.Pick.{pick}
-use Rattle.base.specs.Words.{part, laid, Below}
+use Rattle.base.specs.Words.{laid, Below}
 use Rattle.base.proofs.Pick.{yes, no}
-use Rattle.base.proofs.Part.{length-part, below-take}
+use Rattle.base.proofs.Part.{below-take}
 use Rattle.base.proofs.Laid.{take-laid}
 use Rattle.fcs.specs.Fcs.{fcsOf, fcsFrom}
-use Rattle.fcs.proofs.Runs.{from-append, fcs-append}
+use Rattle.fcs.proofs.Runs.{fcs-append}
 use Rattle.group.specs.Kind.{Answer, kindOf}
 use Rattle.group.specs.Tally.{tallied}
 use Rattle.group.specs.Time.{isLate}
@@ -30,37 +29,19 @@ use Rattle.group.specs.declared.Reply.{Reply}
 use Rattle.group.specs.declared.Tally.{Tally}
 use Rattle.group.specs.declared.ZeroLength.{ZeroLength}
 use Rattle.group.proofs.Behind.{length-framed, taken-by}
-use Rattle.node.specs.State.{turn}
 use Rattle.node.specs.Effect.{Effect, Outcome, outcome, applied, only}
 use Rattle.node.specs.Slaves.{askedAt, pollEffect, hears, silent}
 use Rattle.node.specs.Calls.{judged, lentReply}
 use Rattle.node.specs.declared.Answer as node
 use Rattle.node.specs.declared.Node.{Node}
-use Rattle.node.specs.declared.Refusal.{Refusal}
 use Rattle.node.specs.declared.Turn.{Turn}
 use Rattle.node.specs.declared.Verdict.{Verdict}
-use Rattle.codec.specs.Bytes.{wordsOf, bytesOf, storeWords, Loaded}
+use Rattle.codec.specs.Bytes.{wordsOf, bytesOf, storeWords}
 use Rattle.logodwen.specs.Entry.{replyWords, inBytes}
 use Rattle.logodwen.specs.Held.{Rest, bufferWords}
-use Rattle.codec.proofs.Runs.{length-words, loaded-front, part-words}
+use Rattle.codec.proofs.Runs.{length-words, part-words}
 use Rattle.logodwen.proofs.Touch.{reply-words}
 use Rattle.logodwen.proofs.Held.{words-laid, rest-laid, rest-none, rest-left}
-
--- the FCS of words in bytes: a turn over k words of them
-pub fcs-turn : (bytes room : List ℕ) (sum i k : ℕ) {sum′ from to m : ℕ} {room′ : List ℕ} → i + k ≤ length bytes / 2 → from ≡ i * 2 → to ≡ (i + k) * 2
-    → Loaded 2 (take (to - from) (drop from bytes)) room room′ m → sum′ ≡ fcsFrom sum (take k room′)
-    → fcsFrom sum′ (drop (i + k) (wordsOf 2 bytes)) ≡ fcsFrom sum (drop i (wordsOf 2 bytes))
-unfolding wordsOf
-fcs-turn bytes room sum i k {sum′} {from} {to} {m} {room′} fits f t l s =
-    let W = wordsOf 2 bytes in
-    let wide : to - from ≡ k * 2 = omega arith in
-    let cut : take (to - from) (drop from bytes) ≡ part bytes (i * 2) (k * 2) = (λ j. take (wide j) (drop (f j) bytes)) in
-    let long : length (part bytes (i * 2) (k * 2)) ≡ k * 2 = length-part bytes (i * 2) (k * 2) (omega arith) in
-    let many : m ≡ k = l .count ∙ ap (λ (x : List ℕ). length x / 2) cut ∙ ap (λ (x : ℕ). x / 2) long ∙ mul-div-cancel k (omega arith) in
-    let words : take k room′ ≡ part W i k = ap (λ (x : ℕ). take x room′) (sym many) ∙ loaded-front l ∙ ap (wordsOf 2) cut ∙ part-words i k (length bytes / 2) bytes fits (omega arith) in
-    let rest : part W i k ++ drop (i + k) W ≡ drop i W = ap (λ (x : List ℕ). part W i k ++ x) (sym (drop-drop k i W)) ∙ take-append-drop k (drop i W) in
-    ap (λ (x : ℕ). fcsFrom x (drop (i + k) W)) (s ∙ ap (fcsFrom sum) words)
-    ∙ sym (from-append sum (part W i k) (drop (i + k) W)) ∙ ap (fcsFrom sum) rest
 
 -- a fragment made at the front of a room
 
@@ -212,10 +193,3 @@ module _ (n : Node) (reply : List ℕ) (buffer : 12288 ≤ length reply / 2) (of
   taken-left reply′ fine low rest e =
       reply-left reply reply′ buffer low rest
       (e ∙ sym (ap (λ (v : Verdict). judged v n (lentReply (bufferWords reply)) (does (bufferWords reply))) fine) ∙ sym verdict-there)
-
-  pub refused-left : (why : Refusal) {r : Turn} → of 12288 ≡ Verdict.No why → Below 256 reply → r ≡ turn n (node.Answer.Refused why)
-      → outcome r (lentReply reply) ≡ inBytes (judged (of (length (replyWords reply))) n (lentReply (replyWords reply)) (does (replyWords reply))) (lentReply reply)
-  refused-left why no-fine low e =
-      reply-left reply reply buffer low (rest-none 2 12288 reply)
-      (ap (λ (t : Turn). outcome t (lentReply (bufferWords reply))) e
-      ∙ sym (ap (λ (v : Verdict). judged v n (lentReply (bufferWords reply)) (does (bufferWords reply))) no-fine) ∙ sym verdict-there)

@@ -14,26 +14,16 @@ use Rattle.node.specs.Refusals.{pollVerdict}
 use Rattle.node.specs.Calls.{judged, pollOf, lentReply}
 use Rattle.node.specs.declared.Answer.{Answer}
 use Rattle.node.specs.declared.Node.{Node}
-use Rattle.node.specs.declared.Turn.{Turn}
 use Rattle.node.specs.declared.Verdict.{Verdict}
 use Rattle.codec.specs.Bytes.{bytesOf}
 use Rattle.logodwen.specs.Entry.{replyWords, inBytes}
-use Rattle.logodwen.specs.Touch.{waitsBy}
 use Rattle.logodwen.proofs.Touch.{length-reply, reply-kept}
 
--- a poll before the timeout
-
-pub poll-waits : (n : Node) (clock : ℕ) (reply : List ℕ) {t : Turn} → isLate clock (askedAt (n .pending)) ≡ false → 12288 ≤ length reply / 2 → Below 256 reply
-    → t ≡ waitsBy (pollVerdict n 12288) n → outcome t (lentReply reply) ≡ inBytes (pollOf n clock (replyWords reply)) (lentReply reply)
+pub poll-waits : (n : Node) (clock : ℕ) (reply : List ℕ) → isLate clock (askedAt (n .pending)) ≡ false → 12288 ≤ length reply / 2 → Below 256 reply → pollVerdict n 12288 ≡ Verdict.Fine
+    → outcome (turn n Answer.Waiting) (lentReply reply) ≡ inBytes (pollOf n clock (replyWords reply)) (lentReply reply)
 unfolding pollOf pollEffect laid bytesOf
-poll-waits n clock reply {t} early h b e =
-    ap (λ (x : Turn). outcome x (lentReply reply)) e
-    ∙ by (pollVerdict n 12288)
-    ∙ (λ i. inBytes (judged (pollVerdict n (sym (length-reply reply h) i)) n (lentReply words) (pick (sym early i) (hears (n .pending) n clock silent [] words) (only Answer.Waiting (n .pending) words))) (lentReply reply))
-  where
-    words : List ℕ
-    words = replyWords reply
-
-    by : (v : Verdict) → outcome (waitsBy v n) (lentReply reply) ≡ inBytes (judged v n (lentReply (replyWords reply)) (only Answer.Waiting (n .pending) (replyWords reply))) (lentReply reply)
-    by Verdict.Fine = ap (λ (x : List ℕ). outcome (turn n Answer.Waiting) (lentReply x)) (sym (reply-kept reply h b))
-    by (Verdict.No r) = ap (λ (x : List ℕ). outcome (turn n (Answer.Refused r)) (lentReply x)) (sym (reply-kept reply h b))
+poll-waits n clock reply early h b fine =
+    let words = replyWords reply in
+    let verdict = sym (ap (pollVerdict n) (length-reply reply h) ∙ fine) in
+    ap (λ (x : List ℕ). outcome (turn n Answer.Waiting) (lentReply x)) (sym (reply-kept reply h b))
+    ∙ (λ i. inBytes (judged (verdict i) n (lentReply words) (pick (sym early i) (hears (n .pending) n clock silent [] words) (only Answer.Waiting (n .pending) words))) (lentReply reply))

@@ -1,13 +1,9 @@
 // What a call answers, as one number, and how many words of the reply buffer it has laid.
 ghost use mathlib.Core.Path.{_≡_};
-ghost use Rattle.node.specs.State.{turn};
 ghost use Rattle.node.specs.declared.Answer.{Answer};
 ghost use Rattle.logodwen.specs.Number.{fields, answerNumber};
 ghost use Rattle.logodwen.specs.Touch.{repliedWords};
 use node::Answer;
-use node::Node;
-use node::Refusal;
-use node::Turn;
 use node::refusals::refusal_number;
 
 fn done(kind: u64, who: u64, from: u64, words: u64) -> u64
@@ -41,15 +37,5 @@ pub fn answer_words(answer: Answer) -> usize
         Answer::Ask(_) => 0,
         Answer::Waiting => 0,
         Answer::Erased(_) => 0,
-    }
-}
-
-// A refused call: the same node.
-pub fn refuse(node: Node, refusal: Refusal) -> Turn
-    ensures { λ r. ⌜ r ≡ turn node (Answer.Refused refusal) ⌝ }
-{
-    Turn {
-        node,
-        answer: Answer::Refused(refusal),
     }
 }

@@ -3,23 +3,19 @@
 ghost use mathlib.Core.Path.{_≡_};
 ghost use Prim.Native.Nat.{_+_, _/_, _≤_, _<_};
 ghost use lib.ListN.{length};
-ghost use Rattle.fcs.specs.Fcs.{fcsOf};
 ghost use Rattle.group.specs.Kind.{answer};
 ghost use Rattle.group.specs.Fragment.{assembly, taken};
 ghost use Rattle.group.specs.Ending.{sent, sealed, endOf};
 ghost use Rattle.group.specs.Single.{passedOn};
 ghost use Rattle.node.specs.Effect.{outcome, applied};
-ghost use mathlib.Core.Bool.{true};
 ghost use mathlib.Core.List.{[]};
-ghost use Rattle.group.specs.Time.{isLate};
-ghost use Rattle.node.specs.Slaves.{silent, goesOn, hears, askedAt, replyEffect};
-ghost use Rattle.node.specs.Refusals.{pollVerdict};
+ghost use Rattle.node.specs.Slaves.{silent, goesOn, hears, replyEffect};
+ghost use Rattle.node.specs.Refusals.{replyVerdict, pollVerdict};
 ghost use Rattle.node.specs.Calls.{lentReply, replyOf, pollOf};
+ghost use Rattle.node.specs.declared.Verdict.{Verdict};
 ghost use Rattle.codec.specs.Bytes.{wordsOf};
 ghost use Rattle.logodwen.specs.Entry.{replyWords, inBytes};
-ghost use Rattle.logodwen.specs.Touch.{waitsBy};
 ghost use Rattle.logodwen.specs.Held.{Rest, bufferWords};
-use crate::answers::refuse;
 use crate::rooms::room_5;
 use crate::rooms::room_64;
 use crate::rooms::room_69;
@@ -28,7 +24,6 @@ use crate::rooms::room_1029;
 use crate::rooms::room_12288;
 use crate::rooms::room_12293;
 use crate::rooms::room_32768;
-use base::least;
 use codec::words::load16;
 use codec::words::store_at16;
 use codec::words::store16;
@@ -46,26 +41,6 @@ use node::Gathering;
 use node::Node;
 use node::Pending;
 use node::Turn;
-use node::Verdict;
-
-// The FCS of words in bytes: so many at a time are taken out.
-fn fcs16(bytes: &[u8]) -> u16
-    ensures { λ r. ⌜ r ≡ fcsOf (wordsOf 2 (now (bytes .entry))) ⌝ }
-{
-    let n = bytes.len() / 2;
-    let mut room = room_64();
-    let mut sum: u16 = 0xFFFF;
-    let mut i = 0;
-    while i < n {
-        let k = least(n - i, 64);
-        let from = i * 2;
-        let to = (i + k) * 2;
-        load16(&bytes[from..to], &mut room);
-        sum = fcs::fcs_from(sum, &room[..k]);
-        i += k;
-    }
-    sum
-}
 
 // A slave's answer taken into the assembly, with `left` slaves yet to ask. Its fragment is made in a room, and stored.
 fn take_in(
@@ -112,7 +87,7 @@ fn seal_in(reply: &mut [u8], w: usize, status: u16) -> Reply
         return zero_reply(ZeroLength::Abort);
     }
     let at = w * 2;
-    let sum = fcs16(&reply[..at]);
+    let sum = fcs::fcs_bytes(&reply[..at]);
     let last = [status];
     let trailer = [status, fcs::fcs_from(sum, &last)];
     store_at16(&trailer, reply, w);
@@ -307,13 +282,10 @@ pub fn on_reply(
     reply: &mut [u8],
 ) -> Turn
     requires { ⌜ (length (now packet) / 2 ≤ 32768) × (12288 ≤ length (now reply) / 2) ⌝ }
+    requires { ⌜ replyVerdict node slave 12288 ≡ Verdict.Fine ⌝ }
     ensures { λ r. ⌜ outcome r (lentReply (now (reply .exit))) ≡ inBytes (replyOf node clock slave bc errors status address (wordsOf 2 (now (packet .entry))) (replyWords (now (reply .entry)))) (lentReply (now (reply .entry))) ⌝ }
 {
-    let verdict = node::refusals::reply_verdict(node, slave, 12288);
-    match verdict {
-        Verdict::Fine => reply_taken(node, clock, errors, status, address, bc, packet, reply),
-        Verdict::No(refusal) => refuse(node, refusal),
-    }
+    reply_taken(node, clock, errors, status, address, bc, packet, reply)
 }
 
 // A poll after the timeout, taken: what is heard of the slave is that it is late.
@@ -333,39 +305,18 @@ fn poll_taken(node: Node, clock: u32, reply: &mut [u8]) -> Turn
     hear_in(node, clock, heard, &nothing, &mut room, reply)
 }
 
-fn poll_late(node: Node, clock: u32, reply: &mut [u8]) -> Turn
-    requires { ⌜ 12288 ≤ length (now reply) / 2 ⌝ }
-    requires { ⌜ isLate clock (askedAt (node .pending)) ≡ true ⌝ }
-    ensures { λ r. ⌜ outcome r (lentReply (now (reply .exit))) ≡ inBytes (pollOf node clock (replyWords (now (reply .entry)))) (lentReply (now (reply .entry))) ⌝ }
-{
-    let verdict = node::refusals::poll_verdict(node, 12288);
-    match verdict {
-        Verdict::Fine => poll_taken(node, clock, reply),
-        Verdict::No(refusal) => refuse(node, refusal),
-    }
-}
-
-// A poll before it: nothing that is lent has a part in it.
-fn poll_early(node: Node) -> Turn
-    ensures { λ r. ⌜ r ≡ waitsBy (pollVerdict node 12288) node ⌝ }
-{
-    let verdict = node::refusals::poll_verdict(node, 12288);
-    match verdict {
-        Verdict::Fine => Turn {
-            node,
-            answer: Answer::Waiting,
-        },
-        Verdict::No(refusal) => refuse(node, refusal),
-    }
-}
-
+// A poll: before the timeout nothing that is lent has a part in it.
 pub fn on_poll(node: Node, clock: u32, reply: &mut [u8]) -> Turn
     requires { ⌜ 12288 ≤ length (now reply) / 2 ⌝ }
+    requires { ⌜ pollVerdict node 12288 ≡ Verdict.Fine ⌝ }
     ensures { λ r. ⌜ outcome r (lentReply (now (reply .exit))) ≡ inBytes (pollOf node clock (replyWords (now (reply .entry)))) (lentReply (now (reply .entry))) ⌝ }
 {
     let pending = node.pending;
     if group::slaves::is_late(clock, node::slaves::asked_at(pending)) {
-        return poll_late(node, clock, reply);
+        return poll_taken(node, clock, reply);
     }
-    poll_early(node)
+    Turn {
+        node,
+        answer: Answer::Waiting,
+    }
 }

@@ -4,8 +4,10 @@ use Prim.Native.Nat.{_/_}
 use lib.ListN.{length}
 use Rattle.codec.specs.StateBytes.{nodeIn}
 use Rattle.logodwen.proofs.Entering.{entered-fine, entered-refused, state-long, poll-fine}
+use Rattle.logodwen.proofs.Fine.{poll-verdict}
 use Rattle.logodwen.specs.Causes.{pollCheck}
 use Rattle.logodwen.specs.Entry.{replyWords, inBytes, pollEntry}
+use Rattle.node.specs.Refusals.{pollVerdict}
 use Rattle.node.specs.Calls.{pollOf, lentReply}
 use Rattle.node.specs.declared.Node.{Node}
 use borrow.Author.Needs.{needs}
@@ -22,7 +24,10 @@ node-in-requires : tie.Need-node-in-requires
 node-in-requires c κs = state-long (c .before .before .before .before .before .before .before .args .state .now) ((poll-fine (c .before .before .before .before .before .before .before .args .state .now) (length (c .before .before .before .before .before .before .before .args .reply .now) / 2) (sym (c .before .before .before .poll-check .ensures) ∙ c .before .enum-told .given .1)) .1)
 
 on-poll-requires : tie.Need-on-poll-requires
-on-poll-requires c κs = (poll-fine (c .before .before .before .before .before .before .before .before .before .args .state .now) (length (c .before .before .before .before .before .before .before .before .before .args .reply .now) / 2) (sym (c .before .before .before .before .before .poll-check .ensures) ∙ c .before .before .before .enum-told .given .1)) .0
+on-poll-requires c κs =
+    let a = c .before .before .before .before .before .before .before .before .before .args in
+    let check = sym (c .before .before .before .before .before .poll-check .ensures) ∙ c .before .before .before .enum-told .given .1 in
+    (poll-fine (a .state .now) (length (a .reply .now) / 2) check .0, ap (λ (n : Node). pollVerdict n 12288) (c .before .node-in .ensures) ∙ poll-verdict (a .state .now) (length (a .reply .now) / 2) check)
 
 encode-requires : tie.Need-encode-requires
 encode-requires c κs = state-long (c .before .before .before .before .before .before .before .before .before .before .before .before .before .before .args .state .now) ((poll-fine (c .before .before .before .before .before .before .before .before .before .before .before .before .before .before .args .state .now) (length (c .before .before .before .before .before .before .before .before .before .before .before .before .before .before .args .reply .now) / 2) (sym (c .before .before .before .before .before .before .before .before .before .before .poll-check .ensures) ∙ c .before .before .before .before .before .before .before .before .enum-told .given .1)) .1)

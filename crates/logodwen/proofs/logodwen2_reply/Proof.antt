@@ -5,8 +5,10 @@ use lib.ListN.{length}
 use Rattle.codec.specs.Bytes.{wordsOf}
 use Rattle.codec.specs.StateBytes.{nodeIn}
 use Rattle.logodwen.proofs.Entering.{entered-fine, entered-refused, state-long, reply-fine}
+use Rattle.logodwen.proofs.Fine.{reply-verdict}
 use Rattle.logodwen.specs.Causes.{replyCheck}
 use Rattle.logodwen.specs.Entry.{replyWords, inBytes, isSet, replyEntry}
+use Rattle.node.specs.Refusals.{replyVerdict}
 use Rattle.node.specs.Calls.{replyOf, lentReply}
 use Rattle.node.specs.declared.Node.{Node}
 use borrow.Author.Needs.{needs}
@@ -23,7 +25,11 @@ node-in-requires : tie.Need-node-in-requires
 node-in-requires c κs = state-long (c .before .before .before .before .before .before .before .before .args .state .now) ((reply-fine (c .before .before .before .before .before .before .before .before .args .slave) (length (c .before .before .before .before .before .before .before .before .args .packet .now) / 2) (c .before .before .before .before .before .before .before .before .args .state .now) (length (c .before .before .before .before .before .before .before .before .args .reply .now) / 2) (sym (c .before .before .before .reply-check .ensures) ∙ c .before .enum-told .given .1)) .bytes)
 
 on-reply-requires : tie.Need-on-reply-requires
-on-reply-requires c κs = ((reply-fine (c .before .before .before .before .before .before .before .before .before .before .args .slave) (length (c .before .before .before .before .before .before .before .before .before .before .args .packet .now) / 2) (c .before .before .before .before .before .before .before .before .before .before .args .state .now) (length (c .before .before .before .before .before .before .before .before .before .before .args .reply .now) / 2) (sym (c .before .before .before .before .before .reply-check .ensures) ∙ c .before .before .before .enum-told .given .1)) .short, (reply-fine (c .before .before .before .before .before .before .before .before .before .before .args .slave) (length (c .before .before .before .before .before .before .before .before .before .before .args .packet .now) / 2) (c .before .before .before .before .before .before .before .before .before .before .args .state .now) (length (c .before .before .before .before .before .before .before .before .before .before .args .reply .now) / 2) (sym (c .before .before .before .before .before .reply-check .ensures) ∙ c .before .before .before .enum-told .given .1)) .buffer)
+on-reply-requires c κs =
+    let a = c .before .before .before .before .before .before .before .before .before .before .args in
+    let check = sym (c .before .before .before .before .before .reply-check .ensures) ∙ c .before .before .before .enum-told .given .1 in
+    let fine = reply-fine (a .slave) (length (a .packet .now) / 2) (a .state .now) (length (a .reply .now) / 2) check in
+    ((fine .short, fine .buffer), ap (λ (n : Node). replyVerdict n (a .slave) 12288) (c .before .node-in .ensures) ∙ reply-verdict (a .slave) (length (a .packet .now) / 2) (a .state .now) (length (a .reply .now) / 2) check)
 
 encode-requires : tie.Need-encode-requires
 encode-requires c κs = state-long (c .before .before .before .before .before .before .before .before .before .before .before .before .before .before .before .args .state .now) ((reply-fine (c .before .before .before .before .before .before .before .before .before .before .before .before .before .before .before .args .slave) (length (c .before .before .before .before .before .before .before .before .before .before .before .before .before .before .before .args .packet .now) / 2) (c .before .before .before .before .before .before .before .before .before .before .before .before .before .before .before .args .state .now) (length (c .before .before .before .before .before .before .before .before .before .before .before .before .before .before .before .args .reply .now) / 2) (sym (c .before .before .before .before .before .before .before .before .before .before .reply-check .ensures) ∙ c .before .before .before .before .before .before .before .before .enum-told .given .1)) .bytes)

@@ -1,11 +1,26 @@
 -- `logodwen::slaves::on_poll` meets its contract, by whether the slave is late. Assumes nothing.
+use Prim.Native.Nat.{ℕ}
 use mathlib.Core.Path.{_≡_, sym, ap, _∙_}
+use mathlib.Core.List.{List}
 use native.Mathlib.Omega.{arith}
 use Rattle.group.specs.Time.{isLate}
+use Rattle.node.specs.Effect.{Effect}
+use Rattle.node.specs.Slaves.{pollEffect}
+use Rattle.node.specs.Refusals.{pollVerdict}
+use Rattle.node.specs.Calls.{pollOf}
+use Rattle.node.specs.declared.Verdict.{Verdict}
+use Rattle.logodwen.proofs.Hears.{polled, taken-left}
 use Rattle.logodwen.proofs.Waits.{poll-waits}
 use borrow.Author.Needs.{needs}
 use Rattle.logodwen.proofs.slaves.on_poll.Statement.{statement}
 use Rattle.logodwen.proofs.slaves.on_poll.Tie as tie
+
+-- the verdict by the buffer's length, and what is done with its words
+abbrev of : tie.Start → ℕ → Verdict
+of s n = pollVerdict (s .args .node) n
+
+abbrev does : tie.Start → List ℕ → Effect
+does s reply = pollEffect (s .args .node) (s .args .clock) reply
 
 asked-at-requires : tie.Need-asked-at-requires
 asked-at-requires c κs = search needs
@@ -13,21 +28,27 @@ asked-at-requires c κs = search needs
 is-late-requires : tie.Need-is-late-requires
 is-late-requires c κs = search needs
 
-poll-late-requires : tie.Need-poll-late-requires
-poll-late-requires c κs = (c .before .before .before .before .before .pre, ap (isLate (c .before .before .before .before .before .args .clock)) (sym (c .before .before .before .asked-at .ensures)) ∙ sym (c .before .before .is-late .ensures) ∙ c .before .if1 .taken)
+poll-taken-requires : tie.Need-poll-taken-requires
+poll-taken-requires c κs = search needs
 
 same-length : tie.Need-same-length
 same-length c = search needs
 
 returns : tie.Need-returns
-returns c = search needs
-
-poll-early-requires : tie.Need-poll-early-requires
-poll-early-requires c κs = search needs
+unfolding pollOf
+returns c =
+    let s = c .before .before .before .before .before .before .before .before in
+    let asked = c .before .before .before .before .before .before .asked-at .ensures in
+    let late = ap (isLate (s .args .clock)) (sym asked) ∙ sym (c .before .before .before .before .before .is-late .ensures) ∙ c .before .before .before .before .if1 .taken in
+    let e = c .before .before .poll-taken .ensures in
+    taken-left (s .args .node) (s .args .reply .now) (s .pre .0) (of s) (does s) _ (s .pre .1) (λ i. omega (arith, c .slice-known2 .given i)) (e .1)
+    (e .0 ∙ polled (s .args .node) (s .args .clock) (s .args .reply .now) late)
 
 returns-2 : tie.Need-returns-2
-returns-2 c = let a = c .before .before .before .before .before .args in
-    poll-waits (a .node) (a .clock) (a .reply .now) (ap (isLate (a .clock)) (sym (c .before .before .before .asked-at .ensures)) ∙ sym (c .before .before .is-late .ensures) ∙ c .before .if1 .left) (c .before .before .before .before .before .pre) (λ i. omega (arith, c .before .before .before .before .slice-known .given i)) (c .poll-early .ensures)
+returns-2 c =
+    let s = c .before .before .before .before in
+    let early = ap (isLate (s .args .clock)) (sym (c .before .before .asked-at .ensures)) ∙ sym (c .before .is-late .ensures) ∙ c .if1 .left in
+    poll-waits (s .args .node) (s .args .clock) (s .args .reply .now) early (s .pre .0) (λ i. omega (arith, c .before .before .before .slice-known .given i)) (s .pre .1)
 
 pub on-poll-spec : {M : Type 1} → statement M
 on-poll-spec =
@@ -35,8 +56,7 @@ on-poll-spec =
     (tie.spec
     asked-at-requires
     is-late-requires
-    poll-late-requires
+    poll-taken-requires
     same-length
     returns
-    poll-early-requires
     returns-2)
