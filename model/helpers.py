@@ -235,7 +235,7 @@ def status_lines():
         versions, tests, subdetector = words(2), word(), chance.randrange(8)
         image = [0xFFFF] * 32768
         state, _ = node.start(kind, ports, subdetector, *versions, tests, clock, image)
-        lent = node.Lent(image, {PM: [], DM: [], IO: []}, [0] * 12288)
+        lent = node.Lent(image, {PM: [], DM: [], IO: []}, [0] * 32768, [0] * 12288)
         for _ in range(chance.randrange(3)):
             state, _ = node.request(state, lent, clock, 0, 3, 1, [])
         ticks, link = chance.getrandbits(32), chance.randrange(ports)
