@@ -16,7 +16,7 @@ static const double SHORT = 4.00, LONG = 1.30;
 /* Everything that a call is lent. */
 static struct {
     uint8_t state[LOGODWEN_STATE_BYTES], flash[LOGODWEN_FLASH_BYTES], pm[LOGODWEN_PM_BYTES], dm[LOGODWEN_DM_BYTES],
-        io[LOGODWEN_IO_BYTES], reply[LOGODWEN_REPLY_BYTES];
+        io[LOGODWEN_IO_BYTES], area[LOGODWEN_AREA_BYTES], reply[LOGODWEN_REPLY_BYTES];
 } lent, first, after; /* as it stands, as a turn begins, and as the proved call left it */
 
 static uint64_t answered;
@@ -26,10 +26,10 @@ static uint8_t *state = lent.state; /* the state that is lent: that one, or one 
 static void request(bool plain, const uint8_t *packet, size_t words) {
     answered = plain ? model_request(0, 0, LOGODWEN_BC_WHOLE, 0, packet, 2 * words, state, sizeof lent.state, lent.flash,
                                      sizeof lent.flash, lent.pm, sizeof lent.pm, lent.dm, sizeof lent.dm, lent.io, sizeof lent.io,
-                                     lent.reply, sizeof lent.reply)
+                                     lent.area, sizeof lent.area, lent.reply, sizeof lent.reply)
                      : logodwen_request(0, 0, LOGODWEN_BC_WHOLE, 0, packet, 2 * words, state, sizeof lent.state, lent.flash,
                                         sizeof lent.flash, lent.pm, sizeof lent.pm, lent.dm, sizeof lent.dm, lent.io, sizeof lent.io,
-                                        lent.reply, sizeof lent.reply);
+                                        lent.area, sizeof lent.area, lent.reply, sizeof lent.reply);
 }
 
 static void reply(bool plain, unsigned slave, const uint8_t *packet, size_t words) {

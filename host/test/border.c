@@ -20,12 +20,12 @@ static void check(int holds, const char *text, int line) {
 
 /* Runs. */
 
-enum { STATE, FLASH, PM, DM, IO, REPLY, PACKET, RUNS };
+enum { STATE, FLASH, PM, DM, IO, AREA, REPLY, PACKET, RUNS };
 enum { GUARD = 64 };
-static const char *const names[RUNS] = {"state", "flash", "pm", "dm", "io", "reply", "packet"};
+static const char *const names[RUNS] = {"state", "flash", "pm", "dm", "io", "area", "reply", "packet"};
 static const size_t rooms[RUNS] = {LOGODWEN_STATE_BYTES + 8,      LOGODWEN_FLASH_BYTES + 8, LOGODWEN_PM_BYTES + 16,
-                                   LOGODWEN_DM_BYTES + 8,         LOGODWEN_IO_BYTES + 8,    LOGODWEN_REPLY_BYTES + 8,
-                                   LOGODWEN_SLAVE_REPLY_BYTES + 8};
+                                   LOGODWEN_DM_BYTES + 8,         LOGODWEN_IO_BYTES + 8,    LOGODWEN_AREA_BYTES + 8,
+                                   LOGODWEN_REPLY_BYTES + 8,      LOGODWEN_SLAVE_REPLY_BYTES + 8};
 static uint8_t *blocks[RUNS], *runs[RUNS], *copies[RUNS]; /* a block holds guard bytes, a run, guard bytes */
 static size_t lengths[RUNS];
 
@@ -49,7 +49,7 @@ static void lay_out(size_t shift) {
     }
     memset(runs[STATE], 0, rooms[STATE]);
     memset(runs[FLASH], 0xFF, rooms[FLASH]);
-    static const size_t usual[RUNS] = {LOGODWEN_STATE_BYTES, LOGODWEN_FLASH_BYTES, 256, 128, 128, LOGODWEN_REPLY_BYTES, 0};
+    static const size_t usual[RUNS] = {LOGODWEN_STATE_BYTES, LOGODWEN_FLASH_BYTES, 256, 128, 128, LOGODWEN_AREA_BYTES, LOGODWEN_REPLY_BYTES, 0};
     memcpy(lengths, usual, sizeof lengths);
 }
 
@@ -95,7 +95,7 @@ static uint64_t request_at(uint32_t now, uint32_t link, uint32_t bc, uint32_t er
     remember();
     uint64_t answered = logodwen_request(now, link, bc, error, lent(PACKET), lengths[PACKET], lent(STATE), lengths[STATE],
                                          lent(FLASH), lengths[FLASH], lent(PM), lengths[PM], lent(DM), lengths[DM], lent(IO),
-                                         lengths[IO], lent(REPLY), lengths[REPLY]);
+                                         lengths[IO], lent(AREA), lengths[AREA], lent(REPLY), lengths[REPLY]);
     look_round(logodwen_refusal(answered), line);
     return answered;
 }
@@ -411,7 +411,7 @@ static void test_texts(void) {
     CHECK(strcmp(logodwen_reply_text(with_words(1)), "DATA") == 0 && strcmp(logodwen_reply_text(5), "not a reply") == 0);
     for (unsigned refusal = 1; refusal <= 7; refusal++)
         CHECK((unsigned)(logodwen_refusal_text(refusal)[0] - '0') == refusal);
-    CHECK(strcmp(logodwen_refusal_text(0), "done") == 0 && strcmp(logodwen_refusal_text(8), "not a refusal") == 0);
+    CHECK(strcmp(logodwen_refusal_text(0), "done") == 0 && strcmp(logodwen_refusal_text(9), "not a refusal") == 0);
     CHECK(logodwen_slave(ask(23, 2)) == 23 && logodwen_from(ask(23, 2)) == 2 && logodwen_answer(ask(23, 2)) == LOGODWEN_ASK);
     CHECK(logodwen_bc(ask(2, 1)) == LOGODWEN_NONE && logodwen_words(ask(2, 1)) == 0);
     CHECK(logodwen_slave(zero_length(2)) == LOGODWEN_NONE && logodwen_from(with_words(3)) == LOGODWEN_NONE);
@@ -419,7 +419,7 @@ static void test_texts(void) {
         CHECK(logodwen_bc(other) == LOGODWEN_NONE && logodwen_slave((uint64_t)LOGODWEN_WAITING << 8) == LOGODWEN_NONE
               && logodwen_from(other << 32) == LOGODWEN_NONE);
     static const uint8_t text[8] = {0x32, 0x31, 0x34, 0x33, 0x36, 0x35, 0x38, 0x37};
-    CHECK(logodwen_fcs(text, 4) == 0xA12B && logodwen_fcs(NULL, 0) == 0xFFFF && logodwen1_fcs(text, 7) == logodwen_fcs(text, 3));
+    CHECK(logodwen_fcs(text, 4) == 0xA12B && logodwen_fcs(NULL, 0) == 0xFFFF && logodwen2_fcs(text, 7) == logodwen_fcs(text, 3));
 }
 
 int main(void) {

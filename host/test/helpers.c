@@ -350,7 +350,7 @@ static void try_sequence(unsigned long turn) {
     for (size_t i = 0; i <= 2 * words; i++)
         bytes[i] = (uint8_t)any();
     uint16_t expected = model_fcs(bytes, words);
-    if (logodwen_fcs(bytes, words) != expected || logodwen1_fcs(bytes, 2 * words + 1) != expected)
+    if (logodwen_fcs(bytes, words) != expected || logodwen2_fcs(bytes, 2 * words + 1) != expected)
         differs("a check sequence", turn);
     if (logodwen_is_sealed(bytes, words) != (words >= 2 && model_fcs(bytes, words - 1) == word_at(bytes, words - 1)))
         differs("whether a reply is sealed", turn);
