@@ -34,13 +34,14 @@ static uint32_t wild(void) {
 enum { STATE_RUN, FLASH_RUN, PM_RUN, DM_RUN, IO_RUN, AREA_RUN, REPLY_RUN, RUNS };
 enum { GUARD = 16 };
 static const char *const run_names[RUNS] = {"state", "flash", "pm", "dm", "io", "area", "reply"};
-static const size_t room[RUNS] = {LOGODWEN_STATE_BYTES + 8, LOGODWEN_FLASH_BYTES + 8, LOGODWEN_PM_BYTES + 8,   LOGODWEN_DM_BYTES + 8,
-                                  LOGODWEN_IO_BYTES + 8,    LOGODWEN_AREA_BYTES + 8,  LOGODWEN_REPLY_BYTES + 8};
+static const size_t room[RUNS] = {LOGODWEN_STATE_BYTES + 8, LOGODWEN_FLASH_BYTES + 8, LOGODWEN_PM_BYTES + 8,
+                                  LOGODWEN_DM_BYTES + 8,    LOGODWEN_IO_BYTES + 8,    LOGODWEN_AREA_BYTES + 8,
+                                  LOGODWEN_REPLY_BYTES + 8};
 static uint8_t *library[RUNS], *model[RUNS]; /* two worlds */
 static size_t lent_bytes[RUNS];
 
-static const size_t usual_bytes[RUNS] = {
-    LOGODWEN_STATE_BYTES, LOGODWEN_FLASH_BYTES, 0, 0, 0, LOGODWEN_AREA_BYTES, LOGODWEN_REPLY_BYTES};
+static const size_t usual_bytes[RUNS] = {LOGODWEN_STATE_BYTES, LOGODWEN_FLASH_BYTES, 0, 0, 0,
+                                         LOGODWEN_AREA_BYTES,  LOGODWEN_REPLY_BYTES};
 
 /* Where a length of 0 is lent, sometimes as NULL. */
 static uint8_t *lend(uint8_t *const *world, int run) { return lent_bytes[run] == 0 ? NULL : world[run]; }
@@ -92,8 +93,8 @@ static const int start_runs[] = {STATE_RUN, -1}, slave_runs[] = {STATE_RUN, REPL
                  erase_runs[] = {STATE_RUN, FLASH_RUN, -1},
                  all_runs[] = {STATE_RUN, FLASH_RUN, PM_RUN, DM_RUN, IO_RUN, AREA_RUN, REPLY_RUN, -1};
 
-/* A File Write in several packets that stands, as the state says it, and how many requests of each kind acted on one: by 02, request 1,
-   and by what came of it. The last two kinds, which leave it alone, count as none. */
+/* A File Write in several packets that stands, as the state says it, and how many requests of each kind acted on one: by 02,
+   request 1, and by what came of it. The last two kinds, which leave it alone, count as none. */
 
 struct standing {
     bool stands, pending;
@@ -103,8 +104,9 @@ struct standing {
 static struct standing standing(void) {
     const uint8_t *state = model[STATE_RUN];
     bool is_state = lent_bytes[STATE_RUN] == LOGODWEN_STATE_BYTES;
-    return (struct standing){is_state && state[LOGODWEN_AT_WRITE] == 1, state[LOGODWEN_AT_PENDING] != 0, state[LOGODWEN_AT_WRITE_LINK],
-                             logodwen_get_pm(state + LOGODWEN_AT_JOINED, 0), state[LOGODWEN_AT_LINK]};
+    return (struct standing){is_state && state[LOGODWEN_AT_WRITE] == 1, state[LOGODWEN_AT_PENDING] != 0,
+                             state[LOGODWEN_AT_WRITE_LINK], logodwen_get_pm(state + LOGODWEN_AT_JOINED, 0),
+                             state[LOGODWEN_AT_LINK]};
 }
 
 enum write_kind {
@@ -129,10 +131,24 @@ enum write_kind {
     WRITE_KINDS
 };
 static const char *const write_names[WRITE_KINDS] = {
-    "middle packet joined", "last packet, END", "last packet, ABORT", "joined above 32,768 words", "BC 10 of its link for File Write",
-    "BC 10 of its link for another command", "BC 11 of its link", "dropped by no words", "dropped by no words with the request pending",
-    "no words, kept", "receive error", "packet too long", "BC 10 of another link for File Write", "BC 10 of another link, ERROR",
-    "BC 00 or 01 of another link", "BC 11 of another link", "refused"};
+    [JOINS] = "middle packet joined",
+    [ENDS] = "last packet, END",
+    [LAST_ABORTS] = "last packet, ABORT",
+    [JOINS_TOO_MUCH] = "joined above 32,768 words",
+    [BEGINS_ANEW] = "BC 10 of its link for File Write",
+    [BEGINS_OTHER] = "BC 10 of its link for another command",
+    [SENDS_WHOLE] = "BC 11 of its link",
+    [DROPS_IT] = "dropped by no words",
+    [DROPS_BOTH] = "dropped by no words with the request pending",
+    [NO_WORDS_KEEP] = "no words, kept",
+    [RECEIVED_WRONG] = "receive error",
+    [TOO_LONG] = "packet too long",
+    [OTHER_FIRST] = "BC 10 of another link for File Write",
+    [OTHER_FIRST_ERROR] = "BC 10 of another link, ERROR",
+    [OTHER_LATER] = "BC 00 or 01 of another link",
+    [OTHER_WHOLE] = "BC 11 of another link",
+    [REFUSED] = "refused",
+};
 static unsigned long writes[WRITE_KINDS], writes_begun, later_without_write;
 
 static enum write_kind write_kind(struct standing was, uint32_t link, unsigned bc, bool error, const uint8_t *words, size_t count,
@@ -194,16 +210,15 @@ static uint64_t call_request(uint32_t link, uint32_t bc, uint32_t receive_error)
         lent_bytes[DM_RUN], lent_bytes[IO_RUN], lent_bytes[AREA_RUN], lent_bytes[REPLY_RUN]);
     const uint8_t *words = packet_bytes == 0 ? NULL : packet;
     struct standing was = standing();
-    uint64_t a = logodwen_request(now, link, bc, receive_error, words, packet_bytes, lend(library, STATE_RUN),
-                                  lent_bytes[STATE_RUN], lend(library, FLASH_RUN), lent_bytes[FLASH_RUN], lend(library, PM_RUN),
-                                  lent_bytes[PM_RUN], lend(library, DM_RUN), lent_bytes[DM_RUN], lend(library, IO_RUN),
-                                  lent_bytes[IO_RUN], lend(library, AREA_RUN), lent_bytes[AREA_RUN], lend(library, REPLY_RUN),
-                                  lent_bytes[REPLY_RUN]);
-    uint64_t b =
-        model_request(now, link, bc, receive_error, words, packet_bytes, lend(model, STATE_RUN), lent_bytes[STATE_RUN],
-                      lend(model, FLASH_RUN), lent_bytes[FLASH_RUN], lend(model, PM_RUN), lent_bytes[PM_RUN], lend(model, DM_RUN),
-                      lent_bytes[DM_RUN], lend(model, IO_RUN), lent_bytes[IO_RUN], lend(model, AREA_RUN), lent_bytes[AREA_RUN],
-                      lend(model, REPLY_RUN), lent_bytes[REPLY_RUN]);
+    uint64_t a =
+        logodwen_request(now, link, bc, receive_error, words, packet_bytes, lend(library, STATE_RUN), lent_bytes[STATE_RUN],
+                         lend(library, FLASH_RUN), lent_bytes[FLASH_RUN], lend(library, PM_RUN), lent_bytes[PM_RUN],
+                         lend(library, DM_RUN), lent_bytes[DM_RUN], lend(library, IO_RUN), lent_bytes[IO_RUN],
+                         lend(library, AREA_RUN), lent_bytes[AREA_RUN], lend(library, REPLY_RUN), lent_bytes[REPLY_RUN]);
+    uint64_t b = model_request(now, link, bc, receive_error, words, packet_bytes, lend(model, STATE_RUN), lent_bytes[STATE_RUN],
+                               lend(model, FLASH_RUN), lent_bytes[FLASH_RUN], lend(model, PM_RUN), lent_bytes[PM_RUN],
+                               lend(model, DM_RUN), lent_bytes[DM_RUN], lend(model, IO_RUN), lent_bytes[IO_RUN],
+                               lend(model, AREA_RUN), lent_bytes[AREA_RUN], lend(model, REPLY_RUN), lent_bytes[REPLY_RUN]);
     compare(1, a, b, all_runs);
     count_write(was, link, bc & 3, receive_error != 0, words, packet_bytes / 2, b);
     if (packet_bytes >= 2 && packet[0] == 0x2E && (bc & 3) == 3 && logodwen_refusal(b) == 0 && logodwen_bc(b) != LOGODWEN_BC_ERROR)
@@ -451,22 +466,29 @@ static void new_image(void) {
     memcpy(image, packet + 2, 2 * image_words);
 }
 
-/* Some more words of the image behind what the packet has; any words, where all of it has been sent. Answers whether that was the last. */
-static bool put_piece(size_t least) {
+/* Puts some more words of the image behind what the packet has, and answers whether all of it is sent then. If it was before, any
+   words follow. */
+static bool put_piece(void) {
     size_t left = image_words - image_sent, most = LOGODWEN_REQUEST_WORDS - packet_bytes / 2;
-    uint32_t piece = one_in(3) ? 1 + below(5) : one_in(2) ? (uint32_t)most - below(3) : 1 + below((uint32_t)(left > 0 ? left : 1));
-    size_t count = piece < most ? piece : most;
+    size_t count = one_in(3) ? 1 + below(5) : one_in(2) ? most - below(3) : 1 + below((uint32_t)left + 1);
     if (left == 0)
         for (unsigned i = 1 + below(4); i > 0; i--)
             word(any() & 0xFFFF);
+    if (count > most)
+        count = most;
     if (count > left)
         count = left;
-    if (least == 0 && one_in(6))
-        count = 0;
     memcpy(packet + packet_bytes, image + 2 * image_sent, 2 * count);
     packet_bytes += 2 * count;
     image_sent += count;
     return image_sent == image_words;
+}
+
+/* A first packet; at times its header word is all that it has. */
+static void put_first(void) {
+    own(0x45);
+    if (!one_in(6))
+        put_piece();
 }
 
 /* A link below the ports that isn't that one, where there is one. */
@@ -478,34 +500,34 @@ static uint32_t other_link(uint32_t link) {
 static void step_first_packet(void) {
     uint32_t ports = model[STATE_RUN][LOGODWEN_AT_PORTS], link = below(ports == 0 ? 1 : ports);
     new_image();
-    own(0x45);
-    put_piece(0);
-    call_request(link, one_in(20) ? below(4) : one_in(10) ? wild() << 2 | 2 : 2, one_in(60) ? wild() : 0);
+    put_first();
+    uint32_t bc = one_in(20) ? below(4) : one_in(10) ? wild() << 2 | 2 : 2;
+    call_request(link, bc, one_in(60) ? wild() : 0);
 }
 
 static void step_next_packet(uint32_t link) {
     packet_bytes = 0;
-    bool over = put_piece(1);
+    bool over = put_piece();
     uint32_t bc = over ? !one_in(8) : one_in(20), high = one_in(10) ? wild() << 2 : 0;
     if (one_in(20))
         packet[packet_bytes++] = (uint8_t)any(); /* an unfinished last word */
     call_request(link, high | bc, 0);
 }
 
-/* A packet with a standing write: most go on with it, the others are each what 02 has a rule for. */
+/* A packet while a write stands: most go on with it, the others are what 02 has a rule for. If none stands, one begins, mostly. */
 static void step_write(void) {
     struct standing was = standing();
     if (!was.stands && !one_in(12)) {
         step_first_packet();
         return;
     }
-    uint32_t other = other_link(was.link), bc = below(4);
-    unsigned way = was.pending && one_in(2) ? 0 : below(28); /* with a request pending, words are refused */
-    switch (way) {
+    uint32_t other = other_link(was.link), either = one_in(2) ? was.link : other, bc = below(4);
+    switch (was.pending && one_in(2) ? 0 : below(28)) { /* with a request pending, words are refused */
     case 0:
     case 1:
         packet_bytes = below(2);
-        call_request(one_in(2) ? was.link : other, one_in(2) ? 2 : bc, one_in(6) ? wild() : 0);
+        bc = one_in(2) ? 2 : bc;
+        call_request(either, bc, one_in(6) ? wild() : 0);
         break;
     case 2:
         any_packet();
@@ -515,11 +537,10 @@ static void step_write(void) {
         own(0x45);
         for (unsigned left = LOGODWEN_REQUEST_WORDS + below(3); left > 0; left--)
             word(any() & 0xFFFF);
-        call_request(one_in(4) ? other : was.link, bc, 0);
+        call_request(either, bc, 0);
         break;
     case 4:
-        own(0x45);
-        put_piece(0);
+        put_first();
         call_request(was.link, 2, 0);
         break;
     case 5:
@@ -528,8 +549,7 @@ static void step_write(void) {
         break;
     case 6:
     case 7:
-        own(0x45);
-        put_piece(0);
+        put_first();
         call_request(other, 2, 0);
         break;
     case 8:
@@ -539,7 +559,7 @@ static void step_write(void) {
     case 9:
     case 10:
         packet_bytes = 0;
-        put_piece(1);
+        put_piece();
         call_request(other, below(2), 0);
         break;
     case 11:
@@ -642,7 +662,9 @@ static void step_state(void) {
     case 9:
         put_both(STATE_RUN, LOGODWEN_AT_WRITE, (uint8_t)(one_in(8) ? below(256) : 1));
         put_both(STATE_RUN, LOGODWEN_AT_WRITE_LINK, (uint8_t)below(one_in(8) ? 256 : 4));
-        put_state_long(LOGODWEN_AT_JOINED, one_in(3) ? LOGODWEN_AREA_WORDS - 3 + below(6) : one_in(10) ? wild() : below(LOGODWEN_AREA_WORDS));
+        put_state_long(LOGODWEN_AT_JOINED, one_in(3)    ? LOGODWEN_AREA_WORDS - 3 + below(6)
+                                           : one_in(10) ? wild()
+                                                        : below(LOGODWEN_AREA_WORDS));
         break;
     default:
         put_both(STATE_RUN, LOGODWEN_AT_PENDING, (uint8_t)(1 + below(2)));
