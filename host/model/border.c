@@ -122,7 +122,8 @@ static uint64_t kept(const struct node *node, uint64_t answer, uint8_t *state) {
 
 uint64_t model_request(uint32_t now, uint32_t link, uint32_t bc, uint32_t receive_error, const uint8_t *packet, size_t packet_len,
                        uint8_t *state, size_t state_len, uint8_t *flash, size_t flash_len, uint8_t *pm, size_t pm_len, uint8_t *dm,
-                       size_t dm_len, uint8_t *io, size_t io_len, uint8_t *area, size_t area_len, uint8_t *reply, size_t reply_len) {
+                       size_t dm_len, uint8_t *io, size_t io_len, uint8_t *area, size_t area_len, uint8_t *reply,
+                       size_t reply_len) {
     struct lent lent = {words_of(flash, flash_len), {pm, pm_len / 4},         words_of(dm, dm_len),
                         words_of(io, io_len),       words_of(area, area_len), words_of(reply, reply_len)};
     struct node node = node_for_call(state, state_len, lent.flash.words);

@@ -1,5 +1,5 @@
-/* An independent node in plain C, written from documents 01 and 02 and not from the proved code: the second hand of the differential
-   test, and what `make perf` compares with. Lent runs are bytes, low byte of each word first; lengths are in words. */
+/* An independent node in plain C, written from documents 01 and 02 and not from the proved code: the second hand of the
+   differential test, and what `make perf` compares with. Lent runs are bytes, low byte of each word first; lengths are in words. */
 #ifndef MODEL_H
 #define MODEL_H
 

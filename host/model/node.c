@@ -401,8 +401,8 @@ static uint64_t whole(struct node *node, uint32_t now, uint32_t link, const uint
     return error_of(node);
 }
 
-/* Step 3: a packet with words and without a receive error. By 02, request 1, a File Write may come in several: first BC 10, then 00, last
-   01. What goes wrong with one of another link leaves the write that stands. */
+/* Step 3: a packet with words and without a receive error. By 02, request 1, a File Write may come in several: first BC 10, then
+   00, last 01. What goes wrong with one of another link leaves the write that stands. */
 static uint64_t with_words(struct node *node, uint32_t now, uint32_t link, unsigned bc, const uint8_t *packet, size_t n,
                            const struct lent *lent) {
     if (n > 8192)

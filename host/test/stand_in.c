@@ -1,5 +1,5 @@
-/* The model in the place of the archive, under the archive's names: for the tests of the C side where no archive can be linked (under
-   a sanitizer on Arm), and, with FAULT above 0, for the tests that the differential test and the audit notice a fault. */
+/* The model in the place of the archive, under the archive's names: for the tests of the C side where no archive can be linked
+   (under a sanitizer on Arm), and, with FAULT above 0, for the tests that the differential test and the audit notice a fault. */
 #include "../../include/logodwen.h"
 #include "../model/model.h"
 
@@ -41,8 +41,8 @@ static uint8_t *standing(uint8_t *state, size_t state_len) {
     return state_len == LOGODWEN_STATE_BYTES && state[LOGODWEN_AT_WRITE] == 1 ? state : NULL;
 }
 
-/* The answer NEXT to a first packet, with a fault: it is ABORT where the file's first word can't begin one, or that packet's header word
-   counts among the words joined. */
+/* The answer NEXT to a first packet, with a fault: it is ABORT where the file's first word can't begin one, or that packet's header
+   word counts among the words joined. */
 static uint64_t first_with_fault(uint64_t answered, const uint8_t *packet, size_t packet_len, uint8_t *state) {
     struct logodwen_header header;
     if (FAULT == FIRST_JUDGED && packet_len >= 4 && !logodwen_read_header(logodwen_get(packet, 1), &header))
@@ -61,8 +61,8 @@ uint32_t logodwen2_start(uint32_t kind, uint32_t ports, uint32_t subdetector, ui
 
 uint64_t logodwen2_request(uint32_t now, uint32_t link, uint32_t bc, uint32_t receive_error, const uint8_t *packet,
                            size_t packet_len, uint8_t *state, size_t state_len, uint8_t *flash, size_t flash_len, uint8_t *pm,
-                           size_t pm_len, uint8_t *dm, size_t dm_len, uint8_t *io, size_t io_len, uint8_t *area,
-                           size_t area_len, uint8_t *reply, size_t reply_len) {
+                           size_t pm_len, uint8_t *dm, size_t dm_len, uint8_t *io, size_t io_len, uint8_t *area, size_t area_len,
+                           uint8_t *reply, size_t reply_len) {
     static uint8_t spare_state[LOGODWEN_STATE_BYTES], spare_flash[LOGODWEN_FLASH_BYTES];
     bool is_write = is_own(packet, packet_len, 0x45), is_read = is_own(packet, packet_len, 0x05);
     if (FAULT == NOTHING_STORED && is_write && state_len == sizeof spare_state && flash_len == sizeof spare_flash) {
@@ -77,7 +77,8 @@ uint64_t logodwen2_request(uint32_t now, uint32_t link, uint32_t bc, uint32_t re
                                       pm_len, dm, dm_len, io, io_len, area, area_len, reply, reply_len);
     if (FAULT == ODD_BYTE_CLEARED && logodwen_answer(answered) == LOGODWEN_REPLY && dm_len % 2 == 1)
         dm[dm_len - 1] = 0;
-    if (FAULT == JOINED_TOO_MUCH && (bc & 2) == 0 && joined + packet_len / 2 > LOGODWEN_AREA_WORDS && logodwen_refusal(answered) == 0)
+    if (FAULT == JOINED_TOO_MUCH && (bc & 2) == 0 && joined + packet_len / 2 > LOGODWEN_AREA_WORDS &&
+        logodwen_refusal(answered) == 0)
         area[LOGODWEN_AREA_BYTES - 1] ^= 1;
     if (written == NULL && is_write && standing(state, state_len) != NULL)
         return first_with_fault(answered, packet, packet_len, state);
