@@ -711,16 +711,17 @@ static inline size_t logodwen_make_file_packet(uint8_t *packet, size_t room, con
 }
 
 /* Writes a file of any length to a node in one struct, by one packet or as many as it takes, each laid in `packet`. Answers what the last
-   was answered: the first that is not NEXT. Above 32,768 words that is ABORT. */
+   one was answered, which is the first that was not answered NEXT, and says how many words of the file were sent: all, or fewer where one
+   before the last was answered otherwise, as by ABORT where the file is above 32,768 words. */
 static inline uint64_t logodwen_node_write(struct logodwen_node *node, uint32_t now, uint32_t link, uint8_t *packet, size_t room,
-                                           const uint8_t *bytes, size_t words) {
+                                           const uint8_t *bytes, size_t words, size_t *sent) {
     uint64_t answered;
     uint32_t bc;
-    size_t at = 0;
+    *sent = 0;
     do {
-        size_t laid = logodwen_make_file_packet(packet, room, bytes, words, &at, &bc);
+        size_t laid = logodwen_make_file_packet(packet, room, bytes, words, sent, &bc);
         answered = logodwen_node_request(node, now, link, bc, 0, packet, laid);
-    } while (at < words && logodwen_is_next(answered));
+    } while (*sent < words && logodwen_is_next(answered));
     return answered;
 }
 

@@ -403,11 +403,12 @@ static void try_write(unsigned long turn) {
     size_t room = 2 + any() % (words + 2);
     uint32_t link = any() % 2;
     uint8_t *packet = block_of(room);
-    uint64_t answered = logodwen_node_write(&ours, 0, link, packet, room, file, words);
+    size_t sent;
+    uint64_t answered = logodwen_node_write(&ours, 0, link, packet, room, file, words, &sent);
     uint64_t expected = model_request(0, link, LOGODWEN_BC_WHOLE, 0, whole, 2 * length, other.state, sizeof other.state, other.flash,
                                       sizeof other.flash, NULL, 0, NULL, 0, NULL, 0, other.area, sizeof other.area, other.reply,
                                       sizeof other.reply);
-    if (answered != expected || memcmp(ours.state, other.state, sizeof other.state) != 0
+    if (answered != expected || sent != words || memcmp(ours.state, other.state, sizeof other.state) != 0
         || memcmp(ours.flash, other.flash, sizeof other.flash) != 0)
         differs("a file in packets", turn);
     bool is_next = logodwen_is_next(logodwen_node_request(&ours, 0, link, LOGODWEN_BC_FIRST, 0, whole, length));
@@ -429,8 +430,9 @@ static void try_long_writes(void) {
     logodwen_node_start(&node, &kind);
     for (size_t i = 0; i < sizeof lengths / sizeof *lengths; i++) {
         before = node;
-        uint64_t answered = logodwen_node_write(&node, 0, 0, packet, LOGODWEN_REQUEST_WORDS, file, lengths[i]);
-        if (strcmp(logodwen_reply_text(answered), "ABORT") != 0 || memcmp(node.state, before.state, sizeof node.state) != 0
+        size_t sent, expected = lengths[i] < 40959 ? lengths[i] : 40959; /* up to the fifth packet */
+        uint64_t answered = logodwen_node_write(&node, 0, 0, packet, LOGODWEN_REQUEST_WORDS, file, lengths[i], &sent);
+        if (sent != expected || strcmp(logodwen_reply_text(answered), "ABORT") != 0 || memcmp(node.state, before.state, sizeof node.state) != 0
             || memcmp(node.flash, before.flash, sizeof node.flash) != 0)
             differs("a long file", (unsigned long)lengths[i]);
     }
