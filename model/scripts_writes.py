@@ -6,7 +6,7 @@ from build import file_of, segment
 from files import DM, PM
 from flash import SECTORS, address_of
 from node import CDDC, CDP, JOINED
-from node_lines import AREA, BUFFER, FLASH
+from node_lines import AREA, BUFFER, FLASH, PENDING_NOTHING
 from script import BENCH, FULL, SHOW_AREA, Run, command
 from scripts_flash import flash_step
 from scripts_slaves import ask, slave_answers
@@ -131,6 +131,40 @@ def packet_cases(s):
         s.digest(AREA, 0, 32784)
     s.set_write()
     s.ends()
+
+
+def areas(s):
+    """An area that is too short refuses every request, after 3 and before 4; of a longer one no word past the 32,768th is touched."""
+    packets = (([], FIRST), ([], WHOLE), (HEADER + [1, 2], FIRST), ([3], MIDDLE), ([4], LAST), (command(0x0C), WHOLE))
+    causes = ({}, {"flash": 32767}, {"reply": 12287}, {"pm": 32769}, {"io": 4097}, {"link": 3}, {"mode": 4}, {"pending": 0}, {"error": 1})
+    s.fresh(CDDC, 3)
+    s.fill(AREA, 32784, 99)
+    for area in (0, 1, 32767, 32768, 32769, 32784):
+        for packet, bc in packets:
+            for cause in causes:
+                s.lend(area=area, **{name: count for name, count in cause.items() if name in ("flash", "reply", "pm", "io")})
+                s.set("mode", cause.get("mode", 0))
+                s.set_slave(0, 5, s.clock) if "pending" in cause else s.set(PENDING_NOTHING)
+                s.set_write(1, 32766)
+                s.request(packet, cause.get("link", s.pick.choice((0, 1, 1))), bc, cause.get("error", 0), s.pick.choice((0, 32, 0b111111)))
+        s.digest(AREA, 0, 32784)
+
+
+def kept_writes(s):
+    """Links and counts of a standing write, in and out of range, in every call; a start keeps none."""
+    pick = s.pick
+    for ports in (1, 2, 3, 4):
+        s.fresh(CDDC, ports)
+        for link in (0, ports - 1, ports, ports + 1, 255):
+            for joined in (0, 1, 32767, 32768, 32769, 65535, 65536, 2**31, 2**32 - 1):
+                s.set_write(link, joined)
+                s.set_slave(0, 5, s.clock) if pick.randrange(2) else s.set(PENDING_NOTHING)
+                s.request(*pick.choice((([], 0, WHOLE), (command(0x0C), 0, WHOLE), ([7], link % ports, MIDDLE))), show=32)
+                s.poll()
+                s.reply(5, [1, 2])
+                s.erase(1)
+        s.start(CDDC, ports)
+        s.state()
 
 
 def divisions(s):

@@ -484,11 +484,13 @@ static bool put_piece(void) {
     return image_sent == image_words;
 }
 
-/* A first packet; at times its header word is all that it has. */
+/* A first packet; at times its header word is all that it has, or has a wrong bit. */
 static void put_first(void) {
     own(0x45);
     if (!one_in(6))
         put_piece();
+    if (one_in(15))
+        flip(packet, 2);
 }
 
 /* A link below the ports that isn't that one, where there is one. */
