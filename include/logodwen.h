@@ -23,8 +23,8 @@
    - A run of no bytes may be lent as NULL with length 0.
    - While a group is pending (an answer was LOGODWEN_ASK), the words from 0 on of the reply buffer hold what was gathered so far, and
      the host leaves them as they are until the answer LOGODWEN_REPLY comes. The reply buffer is zeroed at power-up.
-   - While a file comes in several packets (the last answer on its link was NEXT), the words from 0 on of the area hold what was joined so
-     far, and the host leaves the area as it is until the last packet is answered. It lends the same area to every request.
+   - While a file comes in several packets (an answer was NEXT), the words from 0 on of the area hold what was joined so far, and the host
+     leaves the area as it is until the last packet is answered or the file is dropped. Every request is lent the area.
    - The host keeps the request that made the node ask a slave: it sends it on to each slave that the node asks, from the word that
      the answer tells. The node does not keep it.
 
