@@ -99,7 +99,7 @@ class Script:
 
     def request(self, packet, link=0, bc=3, error=0, show=None):
         if show is None:
-            show = self.usual(packet) | (0 if bc & 3 == 3 else SHOW_AREA)
+            show = self.usual(packet) | (self.pick.choice((0, 0, SHOW_AREA)) if bc & 3 != 3 else 0)
         return self.call(REQUEST, show, *halves(self.now()), *halves(link), bc, error, *run(packet).line())
 
     def usual(self, packet):

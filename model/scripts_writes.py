@@ -97,7 +97,7 @@ def send(s, cuts, link=0, between=None, bcs=None):
     for place, (packet, bc) in enumerate(zip(cuts, bcs)):
         if place and between:
             between()
-        show = SHOWN if s.node.flash_words <= BENCH or place == len(cuts) - 1 else SHOW_AREA
+        show = SHOWN if place == len(cuts) - 1 else s.pick.choice((0, 0, SHOW_AREA))
         s.request(packet.behind(HEADER) if place == 0 else packet, link, bc | s.pick.choice((0, 0, 4, 0xFF00)), show=show)
 
 
@@ -124,7 +124,7 @@ def packet_cases(s):
                 for link in (0, 2) if standing is None else (1, 2):
                     for error in (0, pick.choice((1, 0x100))):
                         s.set_write() if standing is None else s.set_write(1, standing)
-                        s.request(packet, link, bc | pick.choice((0, 4, 0x100)), error, pick.choice((0, 32, 32, SHOWN)))
+                        s.request(packet, link, bc | pick.choice((0, 4, 0x100)), error, pick.choice((0, 0, SHOW_AREA, 16)))
                         if s.node.pending:
                             s.request([], link, FIRST)
         s.request(command(0x0C), 2)
@@ -146,7 +146,7 @@ def areas(s):
                 s.set("mode", cause.get("mode", 0))
                 s.set_slave(0, 5, s.clock) if "pending" in cause else s.set(PENDING_NOTHING)
                 s.set_write(1, 32766)
-                s.request(packet, cause.get("link", s.pick.choice((0, 1, 1))), bc, cause.get("error", 0), s.pick.choice((0, 32, 0b111111)))
+                s.request(packet, cause.get("link", s.pick.choice((0, 1, 1))), bc, cause.get("error", 0), s.pick.choice((0, 0, 0, 0b111111)))
         s.digest(AREA, 0, 32784)
 
 
@@ -159,7 +159,7 @@ def kept_writes(s):
             for joined in (0, 1, 32767, 32768, 32769, 65535, 65536, 2**31, 2**32 - 1):
                 s.set_write(link, joined)
                 s.set_slave(0, 5, s.clock) if pick.randrange(2) else s.set(PENDING_NOTHING)
-                s.request(*pick.choice((([], 0, WHOLE), (command(0x0C), 0, WHOLE), ([7], link % ports, MIDDLE))), show=32)
+                s.request(*pick.choice((([], 0, WHOLE), (command(0x0C), 0, WHOLE), ([7], link % ports, MIDDLE))), show=pick.choice((0, 0, SHOW_AREA)))
                 s.poll()
                 s.reply(5, [1, 2])
                 s.erase(1)
@@ -272,7 +272,8 @@ def with_a_request_pending(s):
                     for bc in range(4):
                         s.set_write(write, 100)
                         s.set_group(request, 5, s.clock, 0b1100000) if group else s.set_slave(request, 5, s.clock)
-                        s.request(packet, link, bc, int(not packet and bc == FIRST and not pick.randrange(6)), SHOWN)
+                        error = int(not packet and bc == FIRST and not pick.randrange(6))
+                        s.request(packet, link, bc, error, pick.choice((0, 0, 0, SHOWN)))
     for turn in range(12):  # a group goes on while a file comes, packets of words aside
         s.fresh(CDDC, 4)
         cuts = packets(short(s.some_file(0x21, 3)), [3, 4, 5])
