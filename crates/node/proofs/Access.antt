@@ -25,7 +25,7 @@ use Rattle.memory.proofs.Segment.{stored-by}
 use Rattle.memory.proofs.Command.{readable-tells, writable-tells, performable-tells, read-done, read-abort, write-done, write-abort, perform-done, perform-abort, length-read-answer, length-perform-answer}
 use Rattle.node.specs.State.{turn}
 use Rattle.node.specs.Settings.{statusIn}
-use Rattle.node.specs.Effect.{Did, says, answers, Store, memoriesAfter, lent, Outcome, outcome, ownOutcome, Said, said, told, Replies, Stores}
+use Rattle.node.specs.Effect.{Did, says, answers, Store, memoriesAfter, Further, lent, Outcome, outcome, ownOutcome, Said, said, told, Replies, Stores}
 use Rattle.node.specs.Memories.{dataRoom, memoryReadOf, memoryWriteOf, withStore, performIoOf, ended}
 use Rattle.node.specs.declared.Answer.the-variants.{Reply}
 use Rattle.node.specs.declared.Node.{Node}
@@ -55,16 +55,16 @@ chosen : (P : Did → Type 0) {t u : Bool} (a b : Did) → t ≡ u → P (pick u
 chosen P a b e p = subst (λ (t : Bool). P (pick t a b)) (sym e) p
 
 -- a command that stores beside its reply
-stored-told : (n : Node) (d : Did) (store : Store) (flash before after : List ℕ) (m m′ : Memories) (r : Turn) → Replies n d before r after
+stored-told : (n : Node) (d : Did) (store : Store) (flash before after : List ℕ) (m m′ : Memories) (others : Further) (r : Turn) → Replies n d before r after
     → m′ ≡ memoriesAfter store m
-    → outcome r (lent flash m′ after) ≡ ownOutcome n (lent flash m before) (withStore d store)
-stored-told n d store flash before after m m′ r e h =
-    ap (λ (o : Outcome). outcome (o .turn) (lent (o .after .flash) m′ (o .after .reply))) (e flash m)
-    ∙ ap (λ (x : Memories). outcome (ownOutcome n (lent flash m before) d .turn) (lent (ownOutcome n (lent flash m before) d .after .flash) x (ownOutcome n (lent flash m before) d .after .reply))) h
+    → outcome r (lent flash m′ others after) ≡ ownOutcome n (lent flash m others before) (withStore d store)
+stored-told n d store flash before after m m′ others r e h =
+    ap (λ (o : Outcome). outcome (o .turn) (lent (o .after .flash) m′ (o .after .further) (o .after .reply))) (e flash m others)
+    ∙ ap (λ (x : Memories). outcome (ownOutcome n (lent flash m others before) d .turn) (lent (ownOutcome n (lent flash m others before) d .after .flash) x (ownOutcome n (lent flash m others before) d .after .further) (ownOutcome n (lent flash m others before) d .after .reply))) h
 
 -- a 0-length reply
 pub zero-replies : (n : Node) (z : ZeroLength) (reply : List ℕ) {r : Turn} → r ≡ turn n (Reply (zeroReply z)) → Replies n (says z) reply r reply
-zero-replies n z reply e flash m = ap (λ (t : Turn). outcome t (lent flash m reply)) e ∙ says-told n z (lent flash m reply)
+zero-replies n z reply e flash m others = ap (λ (t : Turn). outcome t (lent flash m others reply)) e ∙ says-told n z (lent flash m others reply)
 
 module _ (n : Node) (before after : List ℕ) (r : Turn) (h : 12288 ≤ length before) where
   room : length (part before 0 dataRoom) ≡ dataRoom
@@ -82,9 +82,9 @@ module _ (n : Node) (before after : List ℕ) (r : Turn) (h : 12288 ≤ length b
 
   -- nothing laid, and ABORT
   abort-told : said r after ≡ ended n Answer.Abort (givenBack before (part before 0 dataRoom)) → Replies n (says ZeroLength.Abort) before r after
-  abort-told q flash m =
-      ap (λ (s : Said). outcome (s .turn) (lent flash m (s .reply))) (q ∙ ap (said (turn n (Reply (zeroReply ZeroLength.Abort)))) (take-append-drop dataRoom before))
-      ∙ says-told n ZeroLength.Abort (lent flash m before)
+  abort-told q flash m others =
+      ap (λ (s : Said). outcome (s .turn) (lent flash m others (s .reply))) (q ∙ ap (said (turn n (Reply (zeroReply ZeroLength.Abort)))) (take-append-drop dataRoom before))
+      ∙ says-told n ZeroLength.Abort (lent flash m others before)
 
   -- Memory Read
   pub read-told : (memory : Memory) (ws packet : List ℕ) {answer : Answer} {front : List ℕ} → length packet ≡ 3
@@ -106,24 +106,24 @@ module _ (n : Node) (before after : List ℕ) (r : Turn) (h : 12288 ≤ length b
       (λ t. abort-told (said-by (read Answer.Abort front-lent) (e ∙ sym (read-abort memory ws first second front-lent (can ∙ t))))))
 
   -- Perform IO
-  pub perform-told : (io packet flash pm dm : List ℕ) {answer : Answer} {io′ front : List ℕ} → performed answer io′ front ≡ performOf io (parameters packet) (part before 0 dataRoom)
+  pub perform-told : (io packet flash pm dm : List ℕ) (others : Further) {answer : Answer} {io′ front : List ℕ} → performed answer io′ front ≡ performOf io (parameters packet) (part before 0 dataRoom)
       → said r after ≡ ended n answer (givenBack before front)
-      → outcome r (lent flash (memories pm dm io′) after) ≡ ownOutcome n (lent flash (memories pm dm io) before) (performIoOf (statusIn n) io packet)
+      → outcome r (lent flash (memories pm dm io′) others after) ≡ ownOutcome n (lent flash (memories pm dm io) others before) (performIoOf (statusIn n) io packet)
   unfolding performIoOf
-  perform-told io packet flash pm dm {answer} {io′} {front} e q =
+  perform-told io packet flash pm dm others {answer} {io′} {front} e q =
       let segment = drop 1 packet in
       let front-lent = part before 0 dataRoom in
       let given = ap (λ (x : List ℕ). performOf io x front-lent) (parameters-drop packet) in
       let can : performable (length io) segment (length front-lent) ≡ performable (length io) segment dataRoom = ap (performable (length io) segment) room in
       let said-by : (x : Performed) → performed answer io′ front ≡ x → said r after ≡ ended n (x .answer) (givenBack before (x .reply)) = λ x f. q ∙ ap (λ (y : Performed). ended n (y .answer) (givenBack before (y .reply))) f in
-      pick-case (λ (d : Did). outcome r (lent flash (memories pm dm io′) after) ≡ ownOutcome n (lent flash (memories pm dm io) before) d) (performable (length io) segment dataRoom)
+      pick-case (λ (d : Did). outcome r (lent flash (memories pm dm io′) others after) ≡ ownOutcome n (lent flash (memories pm dm io) others before) d) (performable (length io) segment dataRoom)
       (λ t. let x = performable-tells (length io) segment dataRoom t in
       let done : performed answer io′ front ≡ performed (Answer.Words (length segment)) (ioAfter io (segmentWords segment)) (laid front-lent 0 (performAnswer io segment)) = e ∙ given ∙ sym (perform-done io segment front-lent (can ∙ t) refl refl) in
-      stored-told n (answers (statusIn n) (performAnswer io segment)) (Store.Segment segment) flash before after (memories pm dm io) (memories pm dm io′) r
+      stored-told n (answers (statusIn n) (performAnswer io segment)) (Store.Segment segment) flash before after (memories pm dm io) (memories pm dm io′) others r
       (closed-told (performAnswer io segment) (length segment) (length-perform-answer io segment (x .one) (x .own)) (x .held) (said-by _ done))
       (stored-by Memory.Io segment (memories pm dm io) (x .own) (ap (λ (y : Performed). memories pm dm (y .io)) done)))
       (λ t. let undone : performed answer io′ front ≡ performed Answer.Abort io front-lent = e ∙ given ∙ sym (perform-abort io segment front-lent (can ∙ t)) in
-      ap (λ (y : Performed). outcome r (lent flash (memories pm dm (y .io)) after)) undone ∙ abort-told (said-by _ undone) flash (memories pm dm io))
+      ap (λ (y : Performed). outcome r (lent flash (memories pm dm (y .io)) others after)) undone ∙ abort-told (said-by _ undone) flash (memories pm dm io) others)
 
 -- a Memory Read with another count of parameters
 pub miscounted-told : (n : Node) (memory : Memory) (ws packet reply : List ℕ) {r : Turn} → (length packet ≡ 3 → ⊥)
@@ -140,17 +140,17 @@ pub write-told : (n : Node) (memory : Memory) (ws packet : List ℕ) (among : Li
     → r ≡ turn n (Reply (zeroReply (pick done ZeroLength.End ZeroLength.Abort)))
     → Stores n (memoryWriteOf memory ws packet) (among ws) r (among ws′)
 unfolding memoryWriteOf
-write-told n memory ws packet among {done} {ws′} {r} own e q flash reply =
+write-told n memory ws packet among {done} {ws′} {r} own e q flash others reply =
     let segment = drop 1 packet in
     let given = ap (writeOf memory ws) (parameters-drop packet) in
     let put = putAt ws (headerRun memory (firstOf segment) (secondOf segment)) (segmentWords segment) in
     let said-by : (x : Written) → written done ws′ ≡ x → r ≡ turn n (Reply (zeroReply (pick (x .done) ZeroLength.End ZeroLength.Abort))) = λ x f. q ∙ ap (λ (y : Written). turn n (Reply (zeroReply (pick (y .done) ZeroLength.End ZeroLength.Abort)))) f in
-    pick-case (λ (d : Did). outcome r (lent flash (among ws′) reply) ≡ ownOutcome n (lent flash (among ws) reply) d) (writable memory (length ws) segment)
+    pick-case (λ (d : Did). outcome r (lent flash (among ws′) others reply) ≡ ownOutcome n (lent flash (among ws) others reply) d) (writable memory (length ws) segment)
     (λ t. let x = writable-tells memory (length ws) segment t in
     let wrote : written done ws′ ≡ written true put = e ∙ given ∙ sym (write-done memory ws segment t refl) in
-    stored-told n (says ZeroLength.End) (Store.Segment segment) flash reply reply (among ws) (among ws′) r
+    stored-told n (says ZeroLength.End) (Store.Segment segment) flash reply reply (among ws) (among ws′) others r
     (zero-replies n ZeroLength.End reply (said-by (written true put) wrote))
     (stored-by memory segment (among ws) (x .own) (ap (λ (y : Written). among (y .after)) wrote ∙ own segment)))
     (λ t. let kept : written done ws′ ≡ written false ws = e ∙ given ∙ sym (write-abort memory ws segment t) in
-    ap (λ (y : Written). outcome r (lent flash (among (y .after)) reply)) kept
-    ∙ zero-replies n ZeroLength.Abort reply (said-by (written false ws) kept) flash (among ws))
+    ap (λ (y : Written). outcome r (lent flash (among (y .after)) others reply)) kept
+    ∙ zero-replies n ZeroLength.Abort reply (said-by (written false ws) kept) flash (among ws) others)

@@ -31,22 +31,22 @@ pub ends-changed : (n : Node) (flash : List ℕ) (c : Change) (s : ℕ) (status 
     → after ≡ flashAfter c (n .erasing) flash
     → r ≡ turn (withFlash n (refreshed (n .directory) after s status) (erasingNext c (n .erasing) (unitOf flash))) (Answer.Reply (zeroReply ZeroLength.End))
     → Changes n d flash r after
-ends-changed n flash c s status {after = after} k e a h m reply =
+ends-changed n flash c s status {after = after} k e a h m others reply =
     let erasing : Erasing = erasingNext c (n .erasing) (unitOf flash) in
     let flash′ : List ℕ = flashAfter c (n .erasing) flash in
     let ends : List ℕ → Turn = λ d. turn (withFlash n d erasing) (Answer.Reply (zeroReply ZeroLength.End)) in
-    ap (λ (t : Turn). outcome t (lent after m reply)) h
-    ∙ ap (λ (f : List ℕ). outcome (ends (refreshed (n .directory) f s status)) (lent f m reply)) a
-    ∙ ap (λ (d : List ℕ). outcome (ends d) (lent flash′ m reply)) (sym k)
-    ∙ ap (λ (x : List ℕ). outcome (ends (directoryAfter c (n .directory) (n .erasing) flash)) (lent flash′ m x)) (laid-none reply 0)
-    ∙ ap (ownOutcome n (lent flash m reply)) e
+    ap (λ (t : Turn). outcome t (lent after m others reply)) h
+    ∙ ap (λ (f : List ℕ). outcome (ends (refreshed (n .directory) f s status)) (lent f m others reply)) a
+    ∙ ap (λ (d : List ℕ). outcome (ends d) (lent flash′ m others reply)) (sym k)
+    ∙ ap (λ (x : List ℕ). outcome (ends (directoryAfter c (n .directory) (n .erasing) flash)) (lent flash′ m others x)) (laid-none reply 0)
+    ∙ ap (ownOutcome n (lent flash m others reply)) e
 
 -- a command by another name
 pub changes-as : (n : Node) (before : List ℕ) {d d′ : Did} {after : List ℕ} {r : Turn} → Changes n d before r after → d ≡ d′ → Changes n d′ before r after
-changes-as n before e h m reply = e m reply ∙ ap (ownOutcome n (lent before m reply)) h
+changes-as n before e h m others reply = e m others reply ∙ ap (ownOutcome n (lent before m others reply)) h
 
 pub stores-as : (n : Node) (before : Memories) {d d′ : Did} {after : Memories} {r : Turn} → Stores n d before r after → d ≡ d′ → Stores n d′ before r after
-stores-as n before e h flash reply = e flash reply ∙ ap (ownOutcome n (lent flash before reply)) h
+stores-as n before e h flash others reply = e flash others reply ∙ ap (ownOutcome n (lent flash before others reply)) h
 
 -- the place of a file, where it may be written at all
 pub placed-new : (n : Node) (flash file : List ℕ)

@@ -24,7 +24,7 @@ use Rattle.flash.proofs.Entries.{directory-local}
 use Rattle.flash.proofs.Storing.{stored-only, stored-good}
 use Rattle.flash.proofs.Attribute.{attributed-good}
 use Rattle.flash.proofs.Erasure.{count-is, erased-none, erased-still, erased-begun, directory-begun, directory-step}
-use Rattle.node.specs.Effect.{Change, flashAfter, erasingNext, directoryErased, directoryAfter}
+use Rattle.node.specs.Effect.{Lent, Change, flashAfter, erasingNext, directoryErased, directoryAfter}
 use Rattle.node.specs.declared.Node.{Node}
 use Rattle.node.proofs.Why.{Why}
 
@@ -54,30 +54,31 @@ good-fresh directory erasing flash new s end sector quiet only good fresh =
     ∙ ap (entered (directoryOf flash erasing) s (firstOf (sectorOf new s))) (status-quiet erasing s (sectorOf new s) quiet ∙ good))
 
 -- a request's change
-pub why-fresh : (c : Change) (n : Node) (flash packet : List ℕ) → 0 < unitOf flash → Why c n flash packet → Fresh (n .directory) (n .erasing) flash
-    → Fresh (directoryAfter c (n .directory) (n .erasing) flash) (erasingNext c (n .erasing) (unitOf flash)) (flashAfter c (n .erasing) flash)
-why-fresh Change.Kept n flash packet u w f = f
-why-fresh (Change.Wrote s file) n flash packet u w f =
+pub why-fresh : (c : Change) (n : Node) (link bc : ℕ) (packet : List ℕ) (l : Lent) → 0 < unitOf (l .flash) → Why c n link bc packet l
+    → Fresh (n .directory) (n .erasing) (l .flash)
+    → Fresh (directoryAfter c (n .directory) (n .erasing) (l .flash)) (erasingNext c (n .erasing) (unitOf (l .flash))) (flashAfter c (n .erasing) (l .flash))
+why-fresh Change.Kept n link bc packet l u w f = f
+why-fresh (Change.Wrote s file) n link bc packet l u w f =
     record {
       summary =
-          good-fresh (n .directory) (n .erasing) flash (stored flash s file) s (length file) (w .place .sector) (w .place .quiet) (stored-only flash s file)
-          (stored-good flash s file (w .place .sector) (w .place .room) (w .place .empty) (w .valid)) (f .summary);
-      blank = subst (λ (e : Erasing). Erases e (stored flash s file)) (sym (w .idle)) tt;
+          good-fresh (n .directory) (n .erasing) (l .flash) (stored (l .flash) s file) s (length file) (w .place .sector) (w .place .quiet) (stored-only (l .flash) s file)
+          (stored-good (l .flash) s file (w .place .sector) (w .place .room) (w .place .empty) (w .valid)) (f .summary);
+      blank = subst (λ (e : Erasing). Erases e (stored (l .flash) s file)) (sym (w .idle)) tt;
     }
-why-fresh (Change.Headed s end header) n flash packet u w f =
+why-fresh (Change.Headed s end header) n link bc packet l u w f =
     record {
       summary =
-          good-fresh (n .directory) (n .erasing) flash (headed flash s header) s end (w .sector) (ap (λ (e : Erasing). isErasing e s) (w .idle)) (stored-only flash s (header ∷ []))
-          (attributed-good flash s end _ header (w .sector) (w .good) (w .set)) (f .summary);
-      blank = subst (λ (e : Erasing). Erases e (headed flash s header)) (sym (w .idle)) tt;
+          good-fresh (n .directory) (n .erasing) (l .flash) (headed (l .flash) s header) s end (w .sector) (ap (λ (e : Erasing). isErasing e s) (w .idle)) (stored-only (l .flash) s (header ∷ []))
+          (attributed-good (l .flash) s end _ header (w .sector) (w .good) (w .set)) (f .summary);
+      blank = subst (λ (e : Erasing). Erases e (headed (l .flash) s header)) (sym (w .idle)) tt;
     }
-why-fresh (Change.Begun s) n flash packet u w f =
+why-fresh (Change.Begun s) n link bc packet l u w f =
     record {
       summary =
-          ap (λ (d : List ℕ). refreshed d flash s Status.Erasing) (f .summary ∙ ap (directoryOf flash) (w .idle)) ∙ sym (directory-begun flash s (w .sector));
-      blank = (w .sector, erased-begun flash s (some-words (unitOf flash) s u (w .sector)));
+          ap (λ (d : List ℕ). refreshed d (l .flash) s Status.Erasing) (f .summary ∙ ap (directoryOf (l .flash)) (w .idle)) ∙ sym (directory-begun (l .flash) s (w .sector));
+      blank = (w .sector, erased-begun (l .flash) s (some-words (unitOf (l .flash)) s u (w .sector)));
     }
-why-fresh (Change.Blanked budget) n flash packet u w f = absurd w
+why-fresh (Change.Blanked budget) n link bc packet l u w f = absurd w
 
 -- a step of the erasure in progress
 module _ (directory : List ℕ) (p : Progress) (flash : List ℕ) (budget : ℕ) (f : Fresh directory (Erasing.Sector p) flash) where

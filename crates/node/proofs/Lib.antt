@@ -8,6 +8,8 @@ pub mod Access
 pub mod Verdicts
 pub mod Blanks
 pub mod Routes
+pub mod Passing
+pub mod Joined
 pub mod Why
 pub mod Directories
 pub mod Ranges

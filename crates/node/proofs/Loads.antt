@@ -52,19 +52,19 @@ module _ (words : List ℕ) (m : Memories) where
   module _ (n : Node) (status : Status) (good : isFaulty status ≡ false) {done : Bool} {left : Memories} (e : loaded done left ≡ loadOf words m) {r : Turn} where
     -- done
     pub load-ends : done ≡ true → r ≡ turn n (Answer.Reply (zeroReply ZeroLength.End)) → Stores n (loadBy words m status) m r left
-    load-ends h q flash reply =
+    load-ends h q flash others reply =
         let p = load-tells done left e in
         let t : fits ≡ true = sym (p .0) ∙ h in
         let end : Turn = turn n (Answer.Reply (zeroReply ZeroLength.End)) in
-        ap (λ (x : Turn). outcome x (lent flash left reply)) q
-        ∙ ap (λ (x : Memories). outcome end (lent flash x reply)) (p .1 ∙ sym (yes m t refl))
-        ∙ ap (λ (x : List ℕ). outcome end (lent flash after x)) (laid-none reply 0)
-        ∙ ap (ownOutcome n (lent flash m reply)) (yes (says ZeroLength.Abort) t refl ∙ load-good status good)
+        ap (λ (x : Turn). outcome x (lent flash left others reply)) q
+        ∙ ap (λ (x : Memories). outcome end (lent flash x others reply)) (p .1 ∙ sym (yes m t refl))
+        ∙ ap (λ (x : List ℕ). outcome end (lent flash after others x)) (laid-none reply 0)
+        ∙ ap (ownOutcome n (lent flash m others reply)) (yes (says ZeroLength.Abort) t refl ∙ load-good status good)
 
     -- not done
     pub load-aborts : done ≡ false → r ≡ turn n (Answer.Reply (zeroReply ZeroLength.Abort)) → Stores n (loadBy words m status) m r left
-    load-aborts h q flash reply =
+    load-aborts h q flash others reply =
         let p = load-tells done left e in
         let t : fits ≡ false = sym (p .0) ∙ h in
-        ap (λ (x : Memories). outcome r (lent flash x reply)) (p .1 ∙ sym (no after t refl))
-        ∙ ends n ZeroLength.Abort q (no (stores (Store.File words)) t refl ∙ load-good status good) (lent flash m reply)
+        ap (λ (x : Memories). outcome r (lent flash x others reply)) (p .1 ∙ sym (no after t refl))
+        ∙ ends n ZeroLength.Abort q (no (stores (Store.File words)) t refl ∙ load-good status good) (lent flash m others reply)

@@ -14,7 +14,7 @@ use Rattle.group.specs.declared.ZeroLength.{ZeroLength}
 use Rattle.group.proofs.Tallies.{zero-same}
 use Rattle.node.specs.State.{refusalNumber}
 use Rattle.node.specs.Valid.{sizeOk, kindOk, portsOk}
-use Rattle.node.specs.Refusals.{Cause, cause, firstOf, verdictNumber, flashCause, replyCause, memoryCause, linkCause, slaveCause, stateCause, busyCause, pollCause, unaskedCause, requestVerdict, replyVerdict, pollVerdict, eraseVerdict, startVerdict}
+use Rattle.node.specs.Refusals.{Cause, cause, firstOf, verdictNumber, flashCause, replyCause, memoryCause, areaCause, linkCause, slaveCause, stateCause, busyCause, pollCause, unaskedCause, requestVerdict, replyVerdict, pollVerdict, eraseVerdict, startVerdict}
 use Rattle.node.specs.Route.{routeNumber}
 use Rattle.node.specs.Effect.{Lent}
 use Rattle.node.specs.Files.{setTo}
@@ -39,14 +39,15 @@ verdict-rows (c ∷ causes) = by (c .holds) (verdict-rows causes)
     by true e = refl
     by false e = e
 
--- so the verdict on each call is by the numbers of 01's table, in its order
-pub request-number : (n : Node) (link packet flash pm dm io reply : ℕ)
-    → verdictNumber (requestVerdict n link packet flash pm dm io reply)
-    ≡ pick (flashCause n flash .holds) 1 (pick (replyCause reply .holds) 2 (pick (memoryCause pm dm io .holds) 3
-    (pick (linkCause n link .holds) 4 (pick (stateCause n .holds) 5 (pick (busyCause n packet .holds) 6 0)))))
+-- so the verdict on each call is by the numbers of 01's table, in its order, and 8 where 02, request 1, has it
+pub request-number : (n : Node) (link packet flash pm dm io area reply : ℕ)
+    → verdictNumber (requestVerdict n link packet flash pm dm io area reply)
+    ≡ pick (flashCause n flash .holds) 1 (pick (replyCause reply .holds) 2 (pick (memoryCause pm dm io .holds) 3 (pick (areaCause area .holds) 8
+    (pick (linkCause n link .holds) 4 (pick (stateCause n .holds) 5 (pick (busyCause n packet .holds) 6 0))))))
 unfolding requestVerdict
-request-number n link packet flash pm dm io reply =
-    verdict-rows (flashCause n flash ∷ replyCause reply ∷ memoryCause pm dm io ∷ linkCause n link ∷ stateCause n ∷ busyCause n packet ∷ [])
+request-number n link packet flash pm dm io area reply =
+    verdict-rows
+    (flashCause n flash ∷ replyCause reply ∷ memoryCause pm dm io ∷ areaCause area ∷ linkCause n link ∷ stateCause n ∷ busyCause n packet ∷ [])
 
 pub reply-number : (n : Node) (slave reply : ℕ)
     → verdictNumber (replyVerdict n slave reply)
@@ -87,18 +88,26 @@ route-number r z n clock link packet l = by r
     some ZeroLength.End e = omega arith
 
     by : (x : Route) → routeNumber x ≡ zeroCode z → routed x n clock link packet l .answer ≡ Answer.Reply (zeroReply z)
+    by (Route.Join from at) e = replies ZeroLength.Next e
     by Route.Unserved e = replies ZeroLength.Abort e
+    by Route.Overlong e = replies ZeroLength.Abort e
     by Route.Wrong e = replies ZeroLength.Error e
+    by Route.Broken e = replies ZeroLength.Error e
     by Route.Dropped e = replies ZeroLength.End e
+    by (Route.Last at) e = absurd (some z e)
     by (Route.Slave a) e = absurd (some z e)
     by (Route.Group a set) e = absurd (some z e)
     by (Route.Own id) e = absurd (some z e)
 
 -- .. and an AMSWire error is counted for ERROR alone
 pub route-error : (r : Route) (n : Node) (clock link : ℕ) (packet : List ℕ) (l : Lent) → routed r n clock link packet l .amswire ≡ eqb (routeNumber r) 3
+route-error (Route.Join from at) n clock link packet l = refl
 route-error Route.Unserved n clock link packet l = refl
+route-error Route.Overlong n clock link packet l = refl
 route-error Route.Wrong n clock link packet l = refl
+route-error Route.Broken n clock link packet l = refl
 route-error Route.Dropped n clock link packet l = refl
+route-error (Route.Last at) n clock link packet l = refl
 route-error (Route.Slave a) n clock link packet l = refl
 route-error (Route.Group a set) n clock link packet l = refl
 route-error (Route.Own id) n clock link packet l = refl

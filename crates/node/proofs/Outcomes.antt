@@ -20,7 +20,7 @@ use Rattle.node.specs.declared.Turn.{Turn}
 
 -- a 0-length reply leaves all that is lent, and the node but for the error that it counts
 pub zero-told : (n : Node) (z : ZeroLength) (fault : Bool) → Sets n (withFault (says z) fault) (turn (faulted fault n) (Answer.Reply (zeroReply z)))
-zero-told n z fault l = ap (λ (x : List ℕ). outcome (turn (faulted fault n) (Answer.Reply (zeroReply z))) (lent (l .flash) (l .memories) x)) (laid-none (l .reply) 0)
+zero-told n z fault l = ap (λ (x : List ℕ). outcome (turn (faulted fault n) (Answer.Reply (zeroReply z))) (lent (l .flash) (l .memories) (l .further) x)) (laid-none (l .reply) 0)
 
 pub says-told : (n : Node) (z : ZeroLength) → Sets n (says z) (turn n (Answer.Reply (zeroReply z)))
 says-told n z l = zero-told n z false l
@@ -29,9 +29,9 @@ says-told n z l = zero-told n z false l
 pub words-told : (n : Node) (fault : Bool) (ws before after : List ℕ) (r : Turn) → length ws + 2 ≤ length before
     → said r after ≡ told (faulted fault n) (sealed (laid before 0 ws) (length ws) (statusIn n))
     → Replies n (withFault (answers (statusIn n) ws) fault) before r after
-words-told n fault ws before after r h e flash m =
-    ap (λ (s : Said). outcome (s .turn) (lent flash m (s .reply))) e
-    ∙ ap (λ (s : Sent). outcome (turn (faulted fault n) (Answer.Reply (s .reply))) (lent flash m (s .buffer))) (sealed-all before ws (statusIn n) h)
+words-told n fault ws before after r h e flash m others =
+    ap (λ (s : Said). outcome (s .turn) (lent flash m others (s .reply))) e
+    ∙ ap (λ (s : Sent). outcome (turn (faulted fault n) (Answer.Reply (s .reply))) (lent flash m others (s .buffer))) (sealed-all before ws (statusIn n) h)
 
 pub answers-told : (n : Node) (ws before after : List ℕ) (r : Turn) → length ws + 2 ≤ length before
     → said r after ≡ told n (sealed (laid before 0 ws) (length ws) (statusIn n))
@@ -47,13 +47,13 @@ pub closes : (n : Node) (fault : Bool) (ws before : List ℕ) {mid after : List 
     → said r after ≡ told (faulted fault n) (sealed mid k (statusIn n))
     → mid ≡ laid before 0 ws → k ≡ length ws → length ws + 2 ≤ length before
     → withFault (answers (statusIn n) ws) fault ≡ d → Replies n d before r after
-closes n fault ws before {mid} {after} {k} {r} e laid-so many room h flash m =
+closes n fault ws before {mid} {after} {k} {r} e laid-so many room h flash m others =
     words-told n fault ws before after r room
     (e
     ∙ ap (λ (x : List ℕ). told (faulted fault n) (sealed x k (statusIn n))) laid-so
     ∙ ap (λ (x : ℕ). told (faulted fault n) (sealed (laid before 0 ws) x (statusIn n))) many)
-    flash m
-    ∙ ap (ownOutcome n (lent flash m before)) h
+    flash m others
+    ∙ ap (ownOutcome n (lent flash m others before)) h
 
 -- .. or to a setting
 pub ends-set : (n : Node) (u : Setup) {n′ : Node} {r : Turn} {d : Did}
@@ -61,12 +61,12 @@ pub ends-set : (n : Node) (u : Setup) {n′ : Node} {r : Turn} {d : Did}
 ends-set n u e f h l =
     ap (λ (t : Turn). outcome t l) e
     ∙ ap (λ (x : Node). outcome (turn x (Answer.Reply (zeroReply ZeroLength.End))) l) f
-    ∙ ap (λ (x : List ℕ). outcome (turn (withSettings n (masksAfter u (n .masks)) (modeAfter u (n .mode))) (Answer.Reply (zeroReply ZeroLength.End))) (lent (l .flash) (l .memories) x)) (laid-none (l .reply) 0)
+    ∙ ap (λ (x : List ℕ). outcome (turn (withSettings n (masksAfter u (n .masks)) (modeAfter u (n .mode))) (Answer.Reply (zeroReply ZeroLength.End))) (lent (l .flash) (l .memories) (l .further) x)) (laid-none (l .reply) 0)
     ∙ ap (ownOutcome n l) h
 
 -- a command by another name
 pub replies-as : (n : Node) (before : List ℕ) {d d′ : Did} {after : List ℕ} {r : Turn} → Replies n d before r after → d ≡ d′ → Replies n d′ before r after
-replies-as n before e h flash m = e flash m ∙ ap (ownOutcome n (lent flash m before)) h
+replies-as n before e h flash m others = e flash m others ∙ ap (ownOutcome n (lent flash m others before)) h
 
 pub sets-as : (n : Node) {d d′ : Did} {r : Turn} (reply : List ℕ) → Sets n d r → d ≡ d′ → Replies n d′ reply r reply
-sets-as n reply e h flash m = e (lent flash m reply) ∙ ap (ownOutcome n (lent flash m reply)) h
+sets-as n reply e h flash m others = e (lent flash m others reply) ∙ ap (ownOutcome n (lent flash m others reply)) h

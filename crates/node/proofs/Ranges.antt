@@ -4,7 +4,7 @@ use mathlib.Core.Path.{_≡_, refl, sym, ap, _∙_}
 use mathlib.Core.Bool.{Bool, true, false, _&&_, _||_}
 use mathlib.Core.List.{List, [], _∷_}
 use native.Mathlib.Omega.{arith}
-use lib.ListN.{length, getD, set}
+use lib.ListN.{length, getD, drop, set, length-drop}
 use lib.Dec.{ltb, leb, eqb}
 use borrow.Author.Tests.{eqb-true, leb-true, leb-false, ltb-true, le-leb, lt-ltb}
 use Rattle.base.specs.Pick.{pick}
@@ -23,16 +23,16 @@ use Rattle.group.specs.declared.Next.{Next}
 use Rattle.group.proofs.Sets.{up-tells, length-slaves}
 use Rattle.group.proofs.Rooms.{room-kept}
 use Rattle.group.proofs.Takes.{taken-fits}
-use Rattle.node.specs.Effect.{Effect, Lent, Change, erasingNext, Setup, modeAfter, masksAfter}
-use Rattle.node.specs.Valid.{sizeOk, givenOk, masksOk, erasingOk, askOk, gatheringOk, pendingOk, stateOk}
-use Rattle.node.specs.Route.{routeOf}
+use Rattle.node.specs.Effect.{Effect, Lent, Change, erasingNext, Setup, modeAfter, masksAfter, Join, writingAfter}
+use Rattle.node.specs.Valid.{sizeOk, givenOk, masksOk, erasingOk, askOk, gatheringOk, pendingOk, writingOk, stateOk}
+use Rattle.node.specs.Route.{asks, writes, routeOf}
 use Rattle.node.specs.Slaves.{heard, silent, goesOn, gathers, hears, askedAt, replyEffect, pollEffect}
 use Rattle.node.specs.Calls.{routed}
 use Rattle.node.specs.declared.Ask.{Ask}
 use Rattle.node.specs.declared.Gathering.{Gathering}
 use Rattle.node.specs.declared.Node.{Node}
 use Rattle.node.specs.declared.Pending.{Pending}
-use Rattle.node.proofs.Routes.{Named, route-case}
+use Rattle.node.proofs.Routes.{Named, joins-fit, route-case}
 use Rattle.node.proofs.Why.{Why, Sets}
 use Rattle.node.proofs.Directories.{some-words}
 
@@ -47,6 +47,7 @@ pub record Ranges (n : Node) : Type 0 where
   pub masks : masksOk (n .masks) ≡ true
   pub erasing : erasingOk (n .given .«flash_words») (n .erasing) ≡ true
   pub pending : pendingOk (n .given .ports) (n .pending) ≡ true
+  pub writing : writingOk (n .given .ports) (n .writing) ≡ true
 
 pub ranges-tell : (n : Node) → stateOk n ≡ true → Ranges n
 unfolding stateOk
@@ -56,14 +57,23 @@ ranges-tell n h =
     let c = masksOk (n .masks) in
     let d = erasingOk (n .given .«flash_words») (n .erasing) in
     let e = pendingOk (n .given .ports) (n .pending) in
-    let abcd = and-left (a && b && c && d) e h in
+    let f = writingOk (n .given .ports) (n .writing) in
+    let abcde = and-left (a && b && c && d && e) f h in
+    let abcd = and-left (a && b && c && d) e abcde in
     let abc = and-left (a && b && c) d abcd in
     let ab = and-left (a && b) c abc in
-    record { given = and-left a b ab; mode = and-right a b ab; masks = and-right (a && b) c abc; erasing = and-right (a && b && c) d abcd; pending = and-right (a && b && c && d) e h }
+    record {
+      given = and-left a b ab;
+      mode = and-right a b ab;
+      masks = and-right (a && b) c abc;
+      erasing = and-right (a && b && c) d abcd;
+      pending = and-right (a && b && c && d) e abcde;
+      writing = and-right (a && b && c && d && e) f h;
+    }
 
 pub ranges-told : (n : Node) → Ranges n → stateOk n ≡ true
 unfolding stateOk
-ranges-told n r = and-both (and-both (and-both (and-both (r .given) (r .mode)) (r .masks)) (r .erasing)) (r .pending)
+ranges-told n r = and-both (and-both (and-both (and-both (and-both (r .given) (r .mode)) (r .masks)) (r .erasing)) (r .pending)) (r .writing)
 
 -- a flash of either size has words for every sector
 pub size-some : (words : ℕ) → sizeOk words ≡ true → 0 < words / 16
@@ -86,13 +96,13 @@ module _ (words : ℕ) where
           let l = leb-false (restOf (words / 16) p) budget q in
           and-both (and-left (isSector (p .sector)) _ h) (lt-ltb (p .done + budget) (sizeOf (words / 16) (p .sector)) (omega arith))
 
-  pub why-erasing : (c : Change) (n : Node) (flash packet : List ℕ) → 0 < words / 16 → Why c n flash packet → erasingOk words (n .erasing) ≡ true → erasingOk words (erasingNext c (n .erasing) (words / 16)) ≡ true
-  why-erasing Change.Kept n flash packet u w h = h
-  why-erasing (Change.Wrote s file) n flash packet u w h = h
-  why-erasing (Change.Headed s end header) n flash packet u w h = h
-  why-erasing (Change.Begun s) n flash packet u w h =
+  pub why-erasing : (c : Change) (n : Node) (link bc : ℕ) (packet : List ℕ) (l : Lent) → 0 < words / 16 → Why c n link bc packet l → erasingOk words (n .erasing) ≡ true → erasingOk words (erasingNext c (n .erasing) (words / 16)) ≡ true
+  why-erasing Change.Kept n link bc packet l u w h = h
+  why-erasing (Change.Wrote s file) n link bc packet l u w h = h
+  why-erasing (Change.Headed s end header) n link bc packet l u w h = h
+  why-erasing (Change.Begun s) n link bc packet l u w h =
       and-both (w .sector) (lt-ltb 0 (sizeOf (words / 16) s) (some-words (words / 16) s u (w .sector)))
-  why-erasing (Change.Blanked budget) n flash packet u w h = absurd w
+  why-erasing (Change.Blanked budget) n link bc packet l u w h = absurd w
 
 -- the settings
 pub mask-below : (masks : List ℕ) (i : ℕ) → masksOk masks ≡ true → getD masks i 0 < 16777216
@@ -137,8 +147,9 @@ next-slave (t ∷ rest) s h = let z : t ≡ s = cc in (rest, ap (λ (x : ℕ). x
 pub request-pending : (n : Node) (clock link bc : ℕ) (errors : Bool) (packet : List ℕ) (l : Lent) → Below 65536 packet → link < n .given .ports → masksOk (n .masks) ≡ true
     → pendingOk (n .given .ports) (n .pending) ≡ true → pendingOk (n .given .ports) (routed (routeOf n link bc errors packet) n clock link packet l .pending) ≡ true
 request-pending n clock link bc errors packet l b k m h =
-    route-case (λ r. pendingOk (n .given .ports) (routed r n clock link packet l .pending) ≡ true) n link bc errors packet h h (λ _. refl)
-    (λ id c. h)
+    route-case (λ r. pendingOk (n .given .ports) (routed r n clock link packet l .pending) ≡ true) n link bc errors packet h h (λ _. h) (λ _. h)
+    (λ _. pick-case (λ (p : Pending). pendingOk (n .given .ports) p ≡ true) (asks (n .pending) link) (λ _. refl) (λ _. h))
+    (λ from at j. h) (λ at w. h) (λ id w c. h)
     (λ s q. and-both (lt-ltb link (n .given .ports) k) (le-leb s 23 q))
     (λ set from s named e. and-both (and-both (lt-ltb link (n .given .ports) k) (slave set s e)) (and-both (and-both (and-both (member set s e) (lt-ltb set 16777216 (named-below m b named))) (room set s e)) (named-from named)))
   where
@@ -153,6 +164,20 @@ request-pending n clock link bc errors packet l b k m h =
         let t = next-slave (slavesOf set) s e in
         let p = ap length (t .1 ∙ ap (λ (x : List ℕ). s ∷ x) (up-tells set 0 s (t .0) (t .1) .rest)) in
         le-leb (0 + 5 * (length (above set s) + 1) + 2) 12288 (omega (arith, length-slaves set))
+
+-- the write that stands: its link is one of the ports, and its words have fit
+pub request-writing : (n : Node) (clock link bc : ℕ) (errors : Bool) (packet : List ℕ) (l : Lent) → link < n .given .ports
+    → writingOk (n .given .ports) (n .writing) ≡ true → writingOk (n .given .ports) (writingAfter (routed (routeOf n link bc errors packet) n clock link packet l .join) (n .writing)) ≡ true
+request-writing n clock link bc errors packet l k h =
+    route-case (λ r. Ok (routed r n clock link packet l .join)) n link bc errors packet h h (λ _. refl) (λ _. refl)
+    (λ _. pick-case Ok (writes (n .writing) link) (λ _. refl) (λ _. h))
+    (λ from at j.
+    let fits = joins-fit j .1 in
+    and-both (lt-ltb link (n .given .ports) k) (le-leb (at + length (drop from packet)) 32768 (omega (arith, length-drop from packet))))
+    (λ at w. refl) (λ id w c. h) (λ s q. h) (λ set from s named e. h)
+  where
+    Ok : Join → Type 0
+    Ok j = writingOk (n .given .ports) (writingAfter j (n .writing)) ≡ true
 
 -- of a slave's answer, what is built leaves room for the slaves yet to ask
 module _ (ports : ℕ) (n : Node) (clock : ℕ) (h : Heard) (words reply : List ℕ) (big : 12288 ≤ length reply) where

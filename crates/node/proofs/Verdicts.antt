@@ -8,7 +8,7 @@ use lib.Dec.{ltb, leb, eqb}
 use borrow.Author.Tests.{eqb-true, leb-false, ltb-false, not-false}
 use Rattle.base.proofs.Pick.{pick-second}
 use Rattle.node.specs.Valid.{sizeOk, kindOk, portsOk, stateOk}
-use Rattle.node.specs.Refusals.{Cause, cause, firstOf, isPending, flashCause, replyCause, memoryCause, linkCause, slaveCause, stateCause, busyCause, pollCause, unaskedCause, requestVerdict, replyVerdict, pollVerdict, eraseVerdict, startVerdict}
+use Rattle.node.specs.Refusals.{Cause, cause, firstOf, isPending, flashCause, replyCause, memoryCause, areaCause, linkCause, slaveCause, stateCause, busyCause, pollCause, unaskedCause, requestVerdict, replyVerdict, pollVerdict, eraseVerdict, startVerdict}
 use Rattle.node.specs.declared.Node.{Node}
 use Rattle.node.specs.declared.Refusal.{Refusal}
 use Rattle.node.specs.declared.Verdict.{Verdict}
@@ -43,21 +43,23 @@ fit n flash h s =
       state = not-false (stateOk n) s;
     }
 
-pub record RequestFine (n : Node) (link packet flash reply : ℕ) : Type 0 where
+pub record RequestFine (n : Node) (link packet flash area reply : ℕ) : Type 0 where
   pub fits : Fit n flash
   pub buffer : 12288 ≤ reply
+  pub room : 32768 ≤ area
   pub below : link < n .given .ports
   pub free : (isPending (n .pending) && leb 1 packet) ≡ false
 
-pub request-fine : (n : Node) (link packet flash pm dm io reply : ℕ) → requestVerdict n link packet flash pm dm io reply ≡ Verdict.Fine → RequestFine n link packet flash reply
+pub request-fine : (n : Node) (link packet flash pm dm io area reply : ℕ) → requestVerdict n link packet flash pm dm io area reply ≡ Verdict.Fine → RequestFine n link packet flash area reply
 unfolding requestVerdict
-request-fine n link packet flash pm dm io reply h =
-    let none = fine-tells (flashCause n flash ∷ replyCause reply ∷ memoryCause pm dm io ∷ linkCause n link ∷ stateCause n ∷ busyCause n packet ∷ []) h in
+request-fine n link packet flash pm dm io area reply h =
+    let none = fine-tells (flashCause n flash ∷ replyCause reply ∷ memoryCause pm dm io ∷ areaCause area ∷ linkCause n link ∷ stateCause n ∷ busyCause n packet ∷ []) h in
     record {
-      fits = fit n flash (none .0) (none .1 .1 .1 .1 .0);
+      fits = fit n flash (none .0) (none .1 .1 .1 .1 .1 .0);
       buffer = ltb-false reply 12288 (none .1 .0);
-      below = leb-false (n .given .ports) link (none .1 .1 .1 .0);
-      free = none .1 .1 .1 .1 .1 .0;
+      room = ltb-false area 32768 (none .1 .1 .1 .0);
+      below = leb-false (n .given .ports) link (none .1 .1 .1 .1 .0);
+      free = none .1 .1 .1 .1 .1 .1 .0;
     }
 
 -- a reply and a poll

@@ -1,5 +1,5 @@
 -- Why a call changes flash or settings: of each change the command, the sector found or placed, and what it rests on. One walk over
--- all commands; a command that leaves both is told by `none`. A slave's answer leaves both. Assumes nothing.
+-- all commands; a command that leaves both is told by `none`. A slave's answer leaves both, and the write that stands. Assumes nothing.
 use Prim.Native.Nat.{ℕ, _+_, _*_, _%_, _≤_, _<_}
 use mathlib.Core.Path.{_≡_, refl, ap, _∙_}
 use mathlib.Core.Bool.{Bool, true, false, false≢true}
@@ -36,9 +36,9 @@ use Rattle.group.specs.declared.Next.{Next}
 use Rattle.group.specs.declared.ZeroLength.{ZeroLength}
 use Rattle.memory.specs.Command.{readable, writable, performable}
 use Rattle.memory.specs.Load.{loadable}
-use Rattle.node.specs.Effect.{Effect, Did, Lent, says, Change, Setup}
+use Rattle.node.specs.Effect.{Effect, Did, Lent, says, Change, Setup, Join}
 use Rattle.node.specs.Settings.{statusIn as ownStatus, statusOf as statusWordsOf, pingOf, modeReadOf, modeWriteOf, maskReadOf, maskWriteOf}
-use Rattle.node.specs.Files.{isErasing, unlessErasing, namedBy, seen, readBy, readAt, readOf, testAt, testOf, loadBy, loadAt, loadOf, isExact, isMissing, placedFor, writeAt, writeOf, foundBy, toErase, eraseAt, eraseStartOf, setTo, attributeBy, attributeAt, attributeSetOf, summaryOf}
+use Rattle.node.specs.Files.{isErasing, unlessErasing, namedBy, seen, readBy, readAt, readOf, testAt, testOf, loadBy, loadAt, loadOf, isExact, isMissing, placedFor, writeAt, fileWriteOf, joined, foundBy, toErase, eraseAt, eraseStartOf, setTo, attributeBy, attributeAt, attributeSetOf, summaryOf}
 use Rattle.node.specs.Memories.{dataRoom, memoryReadOf, memoryWriteOf, performIoOf}
 use Rattle.node.specs.Own.{settingsOf, memoriesOf, filesOf, onFiles, onMemories, ownOf}
 use Rattle.node.specs.Slaves.{heard, silent, goesOn, hears, askedAt, replyEffect, pollEffect}
@@ -46,20 +46,25 @@ use Rattle.node.specs.Calls.{routed}
 use Rattle.node.specs.Route.{routeOf}
 use Rattle.node.specs.declared.Node.{Node}
 use Rattle.node.specs.declared.Pending.{Pending}
-use Rattle.node.proofs.Routes.{Command, route-case}
+use Rattle.node.proofs.Routes.{Command, Later, Whole, route-case}
 
--- a file is written by 45, to the place that the placing rule finds for it
-pub record Written (n : Node) (flash packet : List ℕ) (s : ℕ) (file : List ℕ) : Type 0 where
-  pub command : Command packet 0x45
+-- the file that a request writes: by 45 the words after the first, by the last packet of a write those joined before and its own
+pub data Source (n : Node) (link bc : ℕ) (packet : List ℕ) (l : Lent) : List ℕ → Type 0 where
+  whole : Whole n link bc → Command packet 0x45 → Source n link bc packet l (drop 1 packet)
+  last : {at : ℕ} → Later n link bc 1 packet at → Source n link bc packet l (joined (l .further .area) at packet)
+
+-- it goes to the place that the placing rule finds for it
+pub record Written (n : Node) (link bc : ℕ) (packet : List ℕ) (l : Lent) (s : ℕ) (file : List ℕ) : Type 0 where
+  pub source : Source n link bc packet l file
   pub idle : n .erasing ≡ Erasing.Nothing
-  pub words : drop 1 packet ≡ file
-  pub placed : placedFor n flash file ≡ Found.At s
+  pub placed : placedFor n (l .flash) file ≡ Found.At s
   pub valid : fileEnd file ≡ End.At (length file)
   pub unused : namedBy n (getD file 0 0) ≡ Target.Missing
-  pub place : Place flash (n .erasing) (length file) s
+  pub place : Place (l .flash) (n .erasing) (length file) s
 
 -- a header is changed by 48, that of the good file of the name, which has this length
-pub record Attributed (n : Node) (flash packet : List ℕ) (s end header : ℕ) : Type 0 where
+pub record Attributed (n : Node) (link bc : ℕ) (packet flash : List ℕ) (s end header : ℕ) : Type 0 where
+  pub whole : Whole n link bc
   pub command : Command packet 0x48
   pub idle : n .erasing ≡ Erasing.Nothing
   pub found : namedBy n (getD packet 1 0) ≡ Target.At s
@@ -68,19 +73,20 @@ pub record Attributed (n : Node) (flash packet : List ℕ) (s end header : ℕ) 
   pub set : settingOf (firstOf (sectorOf flash s)) (getD packet 2 0) ≡ Setting.Header header
 
 -- an erasure is begun by 47, of the sector that is named
-pub record Erasure (n : Node) (packet : List ℕ) (s : ℕ) : Type 0 where
+pub record Erasure (n : Node) (link bc : ℕ) (packet : List ℕ) (s : ℕ) : Type 0 where
+  pub whole : Whole n link bc
   pub command : Command packet 0x47
   pub idle : n .erasing ≡ Erasing.Nothing
   pub named : toErase n (getD packet 1 0) ≡ Found.At s
   pub sector : isSector s ≡ true
 
 -- no request is a step of an erasure
-abbrev pub Why : Change → Node → List ℕ → List ℕ → Type 0
-Why Change.Kept n flash packet = Unit {0}
-Why (Change.Wrote s file) n flash packet = Written n flash packet s file
-Why (Change.Headed s end header) n flash packet = Attributed n flash packet s end header
-Why (Change.Begun s) n flash packet = Erasure n packet s
-Why (Change.Blanked budget) n flash packet = ⊥
+abbrev pub Why : Change → Node → ℕ → ℕ → List ℕ → Lent → Type 0
+Why Change.Kept n link bc packet l = Unit {0}
+Why (Change.Wrote s file) n link bc packet l = Written n link bc packet l s file
+Why (Change.Headed s end header) n link bc packet l = Attributed n link bc packet (l .flash) s end header
+Why (Change.Begun s) n link bc packet l = Erasure n link bc packet s
+Why (Change.Blanked budget) n link bc packet l = ⊥
 
 -- the mode is set by 52 to at most 3
 pub record Moded (packet : List ℕ) (mode : ℕ) : Type 0 where
@@ -113,13 +119,26 @@ missing (Target.At s) h = absurd (false≢true h)
 no-place : (s : ℕ) → Found.Nothing ≡ Found.At s → ⊥
 no-place s h = let z : _≡_ {A = ℕ} 0 1 = cc in omega arith
 
-module _ (n : Node) (l : Lent) (packet : List ℕ) where
+-- a sector named to 47 is a file sector
+pub erase-sector : (n : Node) (word s : ℕ) → toErase n word ≡ Found.At s → isSector s ≡ true
+unfolding addressed
+erase-sector n word s h = by (eqb (word % 16) 0) h
+  where
+    target : (t : Target) → namedBy n word ≡ t → foundBy t ≡ Found.At s → isSector s ≡ true
+    target Target.Missing e q = absurd (no-place s q)
+    target (Target.At t) e q = let z : t ≡ s = cc in target-tells (n .directory) (nameOf word) s (e ∙ ap Target.At z) .sector
+
+    by : (t : Bool) → pick t (addressed word) (foundBy (namedBy n word)) ≡ Found.At s → isSector s ≡ true
+    by true q = found-tells (λ t. eqb (sectorAddress t) word) s q .sector
+    by false q = target (namedBy n word) refl q
+
+module _ (n : Node) (link bc : ℕ) (packet : List ℕ) (l : Lent) where
   abbrev flash : List ℕ
   flash = l .flash
 
   -- why a command does what it does
   abbrev pub Reason : Did → Type 0
-  Reason d = Why (d .change) n flash packet × Sets (d .setup) packet
+  Reason d = Why (d .change) n link bc packet l × Sets (d .setup) packet
 
   none : Unit {0} × Unit {0}
   none = (tt, tt)
@@ -173,52 +192,38 @@ module _ (n : Node) (l : Lent) (packet : List ℕ) where
   unfolding summaryOf none
   summary-reason = pick-case Reason (eqb (length packet) 1) (λ _. none) (λ _. none)
 
-  pub placed-tells : (file : List ℕ) (s : ℕ) → Command packet 0x45 → n .erasing ≡ Erasing.Nothing → drop 1 packet ≡ file → placedFor n flash file ≡ Found.At s → Written n flash packet s file
-  placed-tells file s c e w h =
+  pub placed-tells : (file : List ℕ) (s : ℕ) → Source n link bc packet l file → n .erasing ≡ Erasing.Nothing → placedFor n flash file ≡ Found.At s → Written n link bc packet l s file
+  placed-tells file s w e h =
       let p = pick-first (isExact (fileEnd file) (length file)) (no-place s) h in
       let q = pick-first (isMissing (namedBy n (getD file 0 0))) (no-place s) (p .1) in
       record {
-        command = c;
+        source = w;
         idle = e;
-        words = w;
         placed = h;
         valid = exact-valid file (p .0);
         unused = missing (namedBy n (getD file 0 0)) (q .0);
         place = place-tells (n .directory) flash (n .erasing) (length file) s (q .1);
       }
 
-  write-reason : Command packet 0x45 → Reason (writeOf n flash packet)
-  unfolding writeOf none
-  write-reason c = idle-reason _ (λ e. by e (placedFor n flash (drop 1 packet)) refl)
+  write-reason : (file : List ℕ) → Source n link bc packet l file → Reason (fileWriteOf n flash file)
+  unfolding fileWriteOf none
+  write-reason file w = idle-reason _ (λ e. by e (placedFor n flash file) refl)
     where
-      by : n .erasing ≡ Erasing.Nothing → (f : Found) → placedFor n flash (drop 1 packet) ≡ f → Reason (writeAt (drop 1 packet) f)
+      by : n .erasing ≡ Erasing.Nothing → (f : Found) → placedFor n flash file ≡ f → Reason (writeAt file f)
       by e Found.Nothing h = none
-      by e (Found.At s) h = (placed-tells (drop 1 packet) s c e refl h, tt)
+      by e (Found.At s) h = (placed-tells file s w e h, tt)
 
-  -- a sector named to 47 is a file sector
-  pub erase-sector : (word s : ℕ) → toErase n word ≡ Found.At s → isSector s ≡ true
-  unfolding addressed
-  erase-sector word s h = by (eqb (word % 16) 0) h
-    where
-      target : (t : Target) → namedBy n word ≡ t → foundBy t ≡ Found.At s → isSector s ≡ true
-      target Target.Missing e q = absurd (no-place s q)
-      target (Target.At t) e q = let z : t ≡ s = cc in target-tells (n .directory) (nameOf word) s (e ∙ ap Target.At z) .sector
-
-      by : (t : Bool) → pick t (addressed word) (foundBy (namedBy n word)) ≡ Found.At s → isSector s ≡ true
-      by true q = found-tells (λ t. eqb (sectorAddress t) word) s q .sector
-      by false q = target (namedBy n word) refl q
-
-  erase-reason : Command packet 0x47 → Reason (eraseStartOf n packet)
+  erase-reason : Whole n link bc → Command packet 0x47 → Reason (eraseStartOf n packet)
   unfolding eraseStartOf none
-  erase-reason c = idle-reason _ (λ e. pick-case Reason (eqb (length packet) 2) (λ _. by e (toErase n (getD packet 1 0)) refl) (λ _. none))
+  erase-reason w c = idle-reason _ (λ e. pick-case Reason (eqb (length packet) 2) (λ _. by e (toErase n (getD packet 1 0)) refl) (λ _. none))
     where
       by : n .erasing ≡ Erasing.Nothing → (f : Found) → toErase n (getD packet 1 0) ≡ f → Reason (eraseAt f)
       by e Found.Nothing h = none
-      by e (Found.At s) h = (record { command = c; idle = e; named = h; sector = erase-sector (getD packet 1 0) s h }, tt)
+      by e (Found.At s) h = (record { whole = w; command = c; idle = e; named = h; sector = erase-sector n (getD packet 1 0) s h }, tt)
 
-  attribute-reason : Command packet 0x48 → Reason (attributeSetOf n flash packet)
+  attribute-reason : Whole n link bc → Command packet 0x48 → Reason (attributeSetOf n flash packet)
   unfolding attributeSetOf none
-  attribute-reason c = idle-reason _ (λ e. pick-case Reason (eqb (length packet) 3) (λ _. at e (namedBy n (getD packet 1 0)) refl) (λ _. none))
+  attribute-reason in-one c = idle-reason _ (λ e. pick-case Reason (eqb (length packet) 3) (λ _. at e (namedBy n (getD packet 1 0)) refl) (λ _. none))
     where
       set : n .erasing ≡ Erasing.Nothing → (s end : ℕ) → namedBy n (getD packet 1 0) ≡ Target.At s → statusOf (sectorOf flash s) ≡ Status.Good end
           → (x : Setting) → settingOf (getD (sectorOf flash s) 0 0) (getD packet 2 0) ≡ x → Reason (setTo s end x)
@@ -230,6 +235,7 @@ module _ (n : Node) (l : Lent) (packet : List ℕ) where
           let m = f .fits in
           let w = first-word (sectorOf flash s) (omega arith) in (
             record {
+              whole = in-one;
               command = c;
               idle = e;
               found = t;
@@ -254,16 +260,16 @@ module _ (n : Node) (l : Lent) (packet : List ℕ) where
   is : {id : ℕ} (x : ℕ) → Command packet id → eqb id x ≡ true → Command packet x
   is {id} x c e = record { own = c .own; number = c .number ∙ eqb-true id x e }
 
-  files-reason : (id : ℕ) → Command packet id → Reason (filesOf id n l packet)
+  files-reason : (id : ℕ) → Whole n link bc → Command packet id → Reason (filesOf id n l packet)
   unfolding filesOf none
-  files-reason id c =
+  files-reason id w c =
       pick-case Reason (eqb id 0x05) (λ _. read-reason)
-      (λ _. pick-case Reason (eqb id 0x45) (λ e. write-reason (is 0x45 c e))
+      (λ _. pick-case Reason (eqb id 0x45) (λ e. write-reason (drop 1 packet) (Source.whole w (is 0x45 c e)))
       (λ _. pick-case Reason (eqb id 0x06) (λ _. test-reason)
       (λ _. pick-case Reason (eqb id 0x46) (λ _. load-reason)
       (λ _. pick-case Reason (eqb id 0x07) (λ _. summary-reason)
-      (λ _. pick-case Reason (eqb id 0x47) (λ e. erase-reason (is 0x47 c e))
-      (λ _. pick-case Reason (eqb id 0x48) (λ e. attribute-reason (is 0x48 c e))
+      (λ _. pick-case Reason (eqb id 0x47) (λ e. erase-reason w (is 0x47 c e))
+      (λ _. pick-case Reason (eqb id 0x48) (λ e. attribute-reason w (is 0x48 c e))
       (λ _. none)))))))
 
   -- the commands on memories leave flash and settings
@@ -287,9 +293,9 @@ module _ (n : Node) (l : Lent) (packet : List ℕ) where
       writes memory words = pick-case Reason (writable memory (length words) (drop 1 packet)) (λ _. none) (λ _. none)
 
   -- the commands on the node itself leave the flash
-  settings-reason : (id clock link : ℕ) → Command packet id → Reason (settingsOf id n clock link packet)
+  settings-reason : (id clock : ℕ) → Command packet id → Reason (settingsOf id n clock link packet)
   unfolding settingsOf statusWordsOf pingOf modeReadOf modeWriteOf maskReadOf maskWriteOf none
-  settings-reason id clock link c =
+  settings-reason id clock c =
       pick-case Reason (eqb id 0x0C) (λ _. pick-case Reason (eqb (length packet) 1) (λ _. none) (λ _. none))
       (λ _. pick-case Reason (eqb id 0x0D) (λ _. pick-case Reason (leb (length packet) 8001) (λ _. none) (λ _. none))
       (λ _. pick-case Reason (eqb id 0x12) (λ _. pick-case Reason (eqb (length packet) 1) (λ _. none) (λ _. none))
@@ -309,43 +315,45 @@ module _ (n : Node) (l : Lent) (packet : List ℕ) where
       (λ _. none))
       (λ _. none))))))
 
-  pub own-reason : (id clock link : ℕ) → Command packet id → Reason (ownOf id n clock link packet l)
+  pub own-reason : (id clock : ℕ) → Whole n link bc → Command packet id → Reason (ownOf id n clock link packet l)
   unfolding ownOf
-  own-reason id clock link c =
-      pick-case Reason (onFiles id) (λ _. files-reason id c)
-      (λ _. pick-case Reason (onMemories id) (λ _. memories-reason id) (λ _. settings-reason id clock link c))
+  own-reason id clock w c =
+      pick-case Reason (onFiles id) (λ _. files-reason id w c)
+      (λ _. pick-case Reason (onMemories id) (λ _. memories-reason id) (λ _. settings-reason id clock c))
 
-  -- and why a request does: only own commands change anything
+  -- and why a request does: own commands and the last packet of a write alone change anything
   abbrev pub Because : Effect → Type 0
-  Because e = Why (e .change) n flash packet × Sets (e .setup) packet
+  Because e = Why (e .change) n link bc packet l × Sets (e .setup) packet
 
-  pub request-why : (clock link bc : ℕ) (errors : Bool) → Because (routed (routeOf n link bc errors packet) n clock link packet l)
+  pub request-why : (clock : ℕ) (errors : Bool) → Because (routed (routeOf n link bc errors packet) n clock link packet l)
   unfolding none
-  request-why clock link bc errors =
-      route-case (λ r. Because (routed r n clock link packet l)) n link bc errors packet none none (λ _. none)
-      (λ id c. own-reason id clock link c) (λ s h. none) (λ set from s named e. none)
+  request-why clock errors =
+      route-case (λ r. Because (routed r n clock link packet l)) n link bc errors packet none none (λ _. none) (λ _. none) (λ _. none)
+      (λ from at j. none) (λ at w. write-reason (joined (l .further .area) at packet) (Source.last w))
+      (λ id w c. own-reason id clock w c) (λ s h. none) (λ set from s named e. none)
 
--- a slave's answer changes neither flash nor settings
+-- a slave's answer changes neither flash nor settings nor the write that stands
 pub record Quiet (e : Effect) : Type 0 where
   pub change : e .change ≡ Change.Kept
   pub setup : e .setup ≡ Setup.Kept
+  pub join : e .join ≡ Join.Kept
 
 hears-quiet : (p : Pending) (n : Node) (clock : ℕ) (h : Heard) (words reply : List ℕ) → Quiet (hears p n clock h words reply)
-hears-quiet Pending.Nothing n clock h words reply = record { change = refl; setup = refl }
-hears-quiet (Pending.Slave a) n clock h words reply = record { change = refl; setup = refl }
+hears-quiet Pending.Nothing n clock h words reply = record { change = refl; setup = refl; join = refl }
+hears-quiet (Pending.Slave a) n clock h words reply = record { change = refl; setup = refl; join = refl }
 hears-quiet (Pending.Group a g) n clock h words reply = by (nextOf (above (g .set) (a .slave)))
   where
     by : (next : Next) → Quiet (goesOn n a g clock (taken (assembly reply (g .built)) (length (above (g .set) (a .slave))) (a .slave) (answer h words)) next)
-    by Next.Nobody = record { change = refl; setup = refl }
-    by (Next.Slave s) = record { change = refl; setup = refl }
+    by Next.Nobody = record { change = refl; setup = refl; join = refl }
+    by (Next.Slave s) = record { change = refl; setup = refl; join = refl }
 
 pub reply-quiet : (n : Node) (clock : ℕ) (errors : Bool) (status address bc : ℕ) (words reply : List ℕ) → Quiet (replyEffect n clock errors status address bc words reply)
 unfolding replyEffect
 reply-quiet n clock errors status address bc words reply =
     let q = hears-quiet (n .pending) n clock (heard (isLate clock (askedAt (n .pending))) errors status address bc) words reply in
-    record { change = q .change; setup = q .setup }
+    record { change = q .change; setup = q .setup; join = q .join }
 
 pub poll-quiet : (n : Node) (clock : ℕ) (reply : List ℕ) → Quiet (pollEffect n clock reply)
 unfolding pollEffect
 poll-quiet n clock reply =
-    pick-case Quiet (isLate clock (askedAt (n .pending))) (λ _. hears-quiet (n .pending) n clock silent [] reply) (λ _. record { change = refl; setup = refl })
+    pick-case Quiet (isLate clock (askedAt (n .pending))) (λ _. hears-quiet (n .pending) n clock silent [] reply) (λ _. record { change = refl; setup = refl; join = refl })

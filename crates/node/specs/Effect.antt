@@ -1,5 +1,5 @@
--- What a call does, as values: its answer, what it changes of flash, memories and settings, the errors it counts. A command that does
--- not name a change does not make it. Assumes nothing.
+-- What a call does, as values: its answer, what it changes of flash, memories, settings and the write that stands, the errors it counts.
+-- A command that does not name a change does not make it. Assumes nothing.
 use Prim.Native.Nat.{ℕ, _+_}
 use mathlib.Core.Path.{_≡_}
 use mathlib.Core.Bool.{Bool, true, false}
@@ -20,11 +20,12 @@ use Rattle.group.specs.declared.ZeroLength.{ZeroLength}
 use Rattle.memory.specs.Segment.{Memories, segmentStored}
 use Rattle.memory.specs.Load.{fileSegments, allStored}
 use Rattle.report.specs.Status.{counted}
-use Rattle.node.specs.State.{node, turn, counts}
+use Rattle.node.specs.State.{node, turn, counts, joining}
 use Rattle.node.specs.declared.Answer.{Answer}
 use Rattle.node.specs.declared.Node.{Node}
 use Rattle.node.specs.declared.Pending.{Pending}
 use Rattle.node.specs.declared.Turn.{Turn}
+use Rattle.node.specs.declared.Writing.{Writing}
 
 -- A change of the flash, and with it of the directory and the erasure that the node keeps.
 pub data Change : Type 0 where
@@ -103,6 +104,39 @@ masksAfter Setup.Kept masks = masks
 masksAfter (Setup.Mode m) masks = masks
 masksAfter (Setup.Mask i mask) masks = set masks i mask
 
+-- A change of the write that stands, and with it of the area. 02, request 1.
+pub data Join : Type 0 where
+  -- none
+  Kept : Join
+  -- the write no longer stands
+  Dropped : Join
+  -- words of a link's write joined from a word of the area on; it stands, up to them
+  Joined : ℕ → ℕ → List ℕ → Join
+  -- the last words joined; it no longer stands
+  Ended : ℕ → List ℕ → Join
+
+abbrev pub writingAfter : Join → Writing → Writing
+writingAfter Join.Kept writing = writing
+writingAfter Join.Dropped writing = Writing.Nothing
+writingAfter (Join.Joined link at words) writing = Writing.File (joining link (at + length words))
+writingAfter (Join.Ended at words) writing = Writing.Nothing
+
+abbrev pub areaAfter : Join → List ℕ → List ℕ
+areaAfter Join.Kept area = area
+areaAfter Join.Dropped area = area
+areaAfter (Join.Joined link at words) area = laid area at words
+areaAfter (Join.Ended at words) area = laid area at words
+
+-- The further runs of 02, which a request is lent: the area in which the packets of a file join (request 1).
+pub record Further : Type 0 where
+  pub area : List ℕ
+
+abbrev pub further : List ℕ → Further
+further area = record { area = area }
+
+abbrev pub furtherAfter : Join → Further → Further
+furtherAfter j x = further (areaAfter j (x .area))
+
 -- What an own command does: its reply, the words that it lays at the front of the reply buffer, its changes, and whether it
 -- counts a FLASH error.
 pub record Did : Type 0 where
@@ -145,10 +179,11 @@ answers status ws = did (replied 3 (length ws + 2)) (sealedWords status ws) Chan
 pub record Lent : Type 0 where
   pub flash : List ℕ
   pub memories : Memories
+  pub further : Further
   pub reply : List ℕ
 
-abbrev pub lent : List ℕ → Memories → List ℕ → Lent
-lent f m r = record { flash = f; memories = m; reply = r }
+abbrev pub lent : List ℕ → Memories → Further → List ℕ → Lent
+lent f m x r = record { flash = f; memories = m; further = x; reply = r }
 
 -- What a call comes to: the next state, the answer, and what was lent.
 pub record Outcome : Type 0 where
@@ -164,18 +199,19 @@ pub record Effect : Type 0 where
   pub change : Change
   pub store : Store
   pub setup : Setup
+  pub join : Join
   pub amswire : Bool
   pub fault : Bool
   pub pending : Pending
   pub reply : List ℕ
 
-abbrev pub effect : Answer → Change → Store → Setup → Bool → Bool → Pending → List ℕ → Effect
-effect a c s u amswire fault p r =
-    record { answer = a; change = c; store = s; setup = u; amswire = amswire; fault = fault; pending = p; reply = r }
+abbrev pub effect : Answer → Change → Store → Setup → Join → Bool → Bool → Pending → List ℕ → Effect
+effect a c s u j amswire fault p r =
+    record { answer = a; change = c; store = s; setup = u; join = j; amswire = amswire; fault = fault; pending = p; reply = r }
 
 -- Nothing but an answer, what is then pending, and the reply buffer.
 abbrev pub only : Answer → Pending → List ℕ → Effect
-only a p r = effect a Change.Kept Store.Kept Setup.Kept false false p r
+only a p r = effect a Change.Kept Store.Kept Setup.Kept Join.Kept false false p r
 
 -- One function applies it.
 abbrev pub nodeAfter : Node → List ℕ → Effect → Node
@@ -183,16 +219,18 @@ nodeAfter n flash e =
     node (masksAfter (e .setup) (n .masks)) (directoryAfter (e .change) (n .directory) (n .erasing) flash) (n .given)
     (modeAfter (e .setup) (n .mode))
     (counts (counted (e .amswire) (n .counts .amswire)) (counted (e .fault) (n .counts .flash)))
-    (erasingNext (e .change) (n .erasing) (unitOf flash)) (e .pending)
+    (erasingNext (e .change) (n .erasing) (unitOf flash)) (e .pending) (writingAfter (e .join) (n .writing))
 
 abbrev pub applied : Node → Lent → Effect → Outcome
 applied n l e =
     outcome (turn (nodeAfter n (l .flash) e) (e .answer))
-    (lent (flashAfter (e .change) (n .erasing) (l .flash)) (memoriesAfter (e .store) (l .memories)) (e .reply))
+    (lent (flashAfter (e .change) (n .erasing) (l .flash)) (memoriesAfter (e .store) (l .memories)) (furtherAfter (e .join) (l .further))
+    (e .reply))
 
 -- An own command's outcome: its words are laid at the front of the reply buffer, and what is pending stays.
 abbrev pub owns : Node → Lent → Did → Effect
-owns n l d = effect (Answer.Reply (d .reply)) (d .change) (d .store) (d .setup) false (d .fault) (n .pending) (laid (l .reply) 0 (d .words))
+owns n l d =
+    effect (Answer.Reply (d .reply)) (d .change) (d .store) (d .setup) Join.Kept false (d .fault) (n .pending) (laid (l .reply) 0 (d .words))
 
 abbrev pub ownOutcome : Node → Lent → Did → Outcome
 ownOutcome n l d = applied n l (owns n l d)
@@ -216,12 +254,15 @@ Sets n d r = (l : Lent) → outcome r l ≡ ownOutcome n l d
 
 -- .. the reply buffer alone ..
 abbrev pub Replies : Node → Did → List ℕ → Turn → List ℕ → Type 0
-Replies n d before r after = (flash : List ℕ) (m : Memories) → outcome r (lent flash m after) ≡ ownOutcome n (lent flash m before) d
+Replies n d before r after =
+    (flash : List ℕ) (m : Memories) (x : Further) → outcome r (lent flash m x after) ≡ ownOutcome n (lent flash m x before) d
 
 -- .. the flash alone ..
 abbrev pub Changes : Node → Did → List ℕ → Turn → List ℕ → Type 0
-Changes n d before r after = (m : Memories) (reply : List ℕ) → outcome r (lent after m reply) ≡ ownOutcome n (lent before m reply) d
+Changes n d before r after =
+    (m : Memories) (x : Further) (reply : List ℕ) → outcome r (lent after m x reply) ≡ ownOutcome n (lent before m x reply) d
 
 -- .. the memories alone.
 abbrev pub Stores : Node → Did → Memories → Turn → Memories → Type 0
-Stores n d before r after = (flash reply : List ℕ) → outcome r (lent flash after reply) ≡ ownOutcome n (lent flash before reply) d
+Stores n d before r after =
+    (flash : List ℕ) (x : Further) (reply : List ℕ) → outcome r (lent flash after x reply) ≡ ownOutcome n (lent flash before x reply) d

@@ -1,5 +1,5 @@
--- When a call is refused, and by what: 01 'Call refusals'. Each call has a list of causes in the table's order, each where the call
--- has that input; it is refused by the first that holds. Assumes nothing.
+-- When a call is refused, and by what: 01 'Call refusals', and 8 of 02, request 1. Each call has a list of causes in the table's order,
+-- each where the call has that input; it is refused by the first that holds. Assumes nothing.
 use Prim.Native.Nat.{ℕ}
 use mathlib.Core.Bool.{Bool, true, false, _&&_, _||_, not}
 use mathlib.Core.List.{List, [], _∷_}
@@ -42,6 +42,10 @@ replyCause reply = cause Refusal.ReplySize (ltb reply 12288)
 abbrev pub memoryCause : ℕ → ℕ → ℕ → Cause
 memoryCause pm dm io = cause Refusal.MemorySize (ltb 32768 pm || ltb 32768 dm || ltb 4096 io)
 
+-- 8: the area is below 32,768 words. 02, request 1, has it after 3.
+abbrev pub areaCause : ℕ → Cause
+areaCause area = cause Refusal.AreaSize (ltb area 32768)
+
 -- 4: the link isn't below the port count; the slave is above 23.
 abbrev pub linkCause : Node → ℕ → Cause
 linkCause n link = cause Refusal.Number (leb (n .given .ports) link)
@@ -77,10 +81,10 @@ unaskedCause n slave = cause Refusal.Unasked (not (isAsked (n .pending) slave))
 
 -- The calls, by the numbers they are given and the lengths of what they are lent.
 
-unfoldable pub requestVerdict : Node → ℕ → ℕ → ℕ → ℕ → ℕ → ℕ → ℕ → Verdict
-requestVerdict n link packet flash pm dm io reply =
+unfoldable pub requestVerdict : Node → ℕ → ℕ → ℕ → ℕ → ℕ → ℕ → ℕ → ℕ → Verdict
+requestVerdict n link packet flash pm dm io area reply =
     firstOf
-    (flashCause n flash ∷ replyCause reply ∷ memoryCause pm dm io ∷ linkCause n link ∷ stateCause n ∷ busyCause n packet ∷ [])
+    (flashCause n flash ∷ replyCause reply ∷ memoryCause pm dm io ∷ areaCause area ∷ linkCause n link ∷ stateCause n ∷ busyCause n packet ∷ [])
 
 unfoldable pub replyVerdict : Node → ℕ → ℕ → Verdict
 replyVerdict n slave reply = firstOf (replyCause reply ∷ slaveCause slave ∷ stateCause n ∷ unaskedCause n slave ∷ [])

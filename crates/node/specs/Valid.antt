@@ -1,4 +1,4 @@
--- Which values are states of a node: all others are refused by 5. 01 'Call refusals', row 5. Assumes nothing.
+-- Which values are states of a node: all others are refused by 5. 01 'Call refusals', row 5, and 02, request 1. Assumes nothing.
 use Prim.Native.Nat.{ℕ, _+_, _*_, _/_}
 use mathlib.Core.Bool.{Bool, true, _&&_, _||_}
 use mathlib.Core.List.{List, [], _∷_}
@@ -12,6 +12,7 @@ use Rattle.node.specs.declared.Gathering.{Gathering}
 use Rattle.node.specs.declared.Given.{Given}
 use Rattle.node.specs.declared.Node.{Node}
 use Rattle.node.specs.declared.Pending.{Pending}
+use Rattle.node.specs.declared.Writing.{Writing}
 
 -- A flash has 32,768 words (bench) or 262,144 (full).
 abbrev pub sizeOk : ℕ → Bool
@@ -54,6 +55,11 @@ pendingOk ports Pending.Nothing = true
 pendingOk ports (Pending.Slave a) = askOk ports a
 pendingOk ports (Pending.Group a g) = askOk ports a && gatheringOk (a .slave) g
 
+-- While a write stands: its link is below the ports, and its words joined are at most 32,768. 02, request 1.
+abbrev pub writingOk : ℕ → Writing → Bool
+writingOk ports Writing.Nothing = true
+writingOk ports (Writing.File j) = ltb (j .link) ports && leb (j .words) 32768
+
 unfoldable pub stateOk : Node → Bool
 stateOk n =
     givenOk (n .given)
@@ -61,3 +67,4 @@ stateOk n =
     && masksOk (n .masks)
     && erasingOk (n .given .«flash_words») (n .erasing)
     && pendingOk (n .given .ports) (n .pending)
+    && writingOk (n .given .ports) (n .writing)

@@ -8,7 +8,7 @@ ghost use Rattle.flash.specs.Directory.{entered, refreshed};
 ghost use Rattle.group.specs.Ending.{zeroReply};
 ghost use Rattle.node.specs.State.{turn, withFlash};
 ghost use Rattle.node.specs.Effect.{Changes};
-ghost use Rattle.node.specs.Files.{seen, isExact, isMissing, isNew, placedFor, writeAt, writeOf, toErase, eraseAt, eraseStartOf, setTo, attributeBy, attributeAt, attributeSetOf};
+ghost use Rattle.node.specs.Files.{seen, isExact, isMissing, isNew, placedFor, writeAt, fileWriteOf, writeOf, toErase, eraseAt, eraseStartOf, setTo, attributeBy, attributeAt, attributeSetOf};
 use crate::Answer;
 use crate::Node;
 use crate::Turn;
@@ -37,6 +37,7 @@ pub fn with_flash(node: Node, directory: [u16; 32], erasing: Erasing) -> Node
     let given = node.given;
     let counts = node.counts;
     let pending = node.pending;
+    let writing = node.writing;
     Node {
         masks,
         directory,
@@ -45,6 +46,7 @@ pub fn with_flash(node: Node, directory: [u16; 32], erasing: Erasing) -> Node
         counts,
         erasing,
         pending,
+        writing,
     }
 }
 
@@ -127,17 +129,23 @@ fn write_at(node: Node, flash: &mut [u16], found: Found, file: &[u16]) -> Turn
     }
 }
 
-// File Write, 45.
-pub fn file_write(node: Node, packet: &[u16], flash: &mut [u16]) -> Turn
-    requires { ⌜ 1 ≤ length (now packet) ⌝ }
-    ensures { λ r. ⌜ Changes node (writeOf node (now (flash .entry)) (now (packet .entry))) (now (flash .entry)) r (now (flash .exit)) ⌝ }
+// Write of a file, wherever it came from.
+pub fn write_file(node: Node, file: &[u16], flash: &mut [u16]) -> Turn
+    ensures { λ r. ⌜ Changes node (fileWriteOf node (now (flash .entry)) (now (file .entry))) (now (flash .entry)) r (now (flash .exit)) ⌝ }
 {
     let erasing = node.erasing;
     if is_erasing(erasing) {
         return says(node, ZeroLength::Abort);
     }
-    let file = &packet[1..];
     write_at(node, flash, placed_for(node, flash, file), file)
+}
+
+// File Write, 45, in one packet.
+pub fn file_write(node: Node, packet: &[u16], flash: &mut [u16]) -> Turn
+    requires { ⌜ 1 ≤ length (now packet) ⌝ }
+    ensures { λ r. ⌜ Changes node (writeOf node (now (flash .entry)) (now (packet .entry))) (now (flash .entry)) r (now (flash .exit)) ⌝ }
+{
+    write_file(node, &packet[1..], flash)
 }
 
 // The sector that an Erase of this word is about: by its address, or by name.

@@ -3,7 +3,7 @@ ghost use mathlib.Core.Path.{_≡_};
 ghost use Prim.Native.Nat.{_≤_};
 ghost use lib.ListN.{length};
 ghost use Rattle.memory.specs.Segment.{memories};
-ghost use Rattle.node.specs.Effect.{lent, outcome, ownOutcome};
+ghost use Rattle.node.specs.Effect.{Further, lent, outcome, ownOutcome};
 ghost use Rattle.node.specs.Own.{filesOf};
 use crate::Node;
 use crate::Turn;
@@ -30,7 +30,7 @@ pub fn files(
 ) -> Turn
     requires { ⌜ 1 ≤ length (now packet) ⌝ }
     requires { ⌜ 12288 ≤ length (now reply) ⌝ }
-    ensures { λ r. ⌜ outcome r (lent (now (flash .exit)) (memories (now (pm .exit)) (now (dm .exit)) (now (io .exit))) (now (reply .exit))) ≡ ownOutcome node (lent (now (flash .entry)) (memories (now (pm .entry)) (now (dm .entry)) (now (io .entry))) (now (reply .entry))) (filesOf id node (lent (now (flash .entry)) (memories (now (pm .entry)) (now (dm .entry)) (now (io .entry))) (now (reply .entry))) (now (packet .entry))) ⌝ }
+    ensures { λ r. ⌜ ((x : Further) → outcome r (lent (now (flash .exit)) (memories (now (pm .exit)) (now (dm .exit)) (now (io .exit))) x (now (reply .exit))) ≡ ownOutcome node (lent (now (flash .entry)) (memories (now (pm .entry)) (now (dm .entry)) (now (io .entry))) x (now (reply .entry))) (filesOf id node (lent (now (flash .entry)) (memories (now (pm .entry)) (now (dm .entry)) (now (io .entry))) x (now (reply .entry))) (now (packet .entry)))) ⌝ }
 {
     match id {
         0x05 => file_read(node, packet, flash, reply),

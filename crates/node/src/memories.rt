@@ -9,7 +9,7 @@ ghost use Rattle.memory.specs.Segment.{memories};
 ghost use Rattle.group.specs.Ending.{zeroReply};
 ghost use Rattle.group.specs.declared.ZeroLength.{ZeroLength};
 ghost use Rattle.node.specs.State.{turn};
-ghost use Rattle.node.specs.Effect.{lent, outcome, ownOutcome, said, Replies, Stores};
+ghost use Rattle.node.specs.Effect.{Further, lent, outcome, ownOutcome, said, Replies, Stores};
 ghost use Rattle.node.specs.Settings.{statusIn};
 ghost use Rattle.node.specs.Memories.{memoryReadOf, memoryWriteOf, performIoOf, ended};
 ghost use Rattle.node.specs.Own.{memoriesOf};
@@ -84,7 +84,7 @@ fn dm_write(node: Node, packet: &[u16], dm: &mut [u16]) -> Turn
 fn perform(node: Node, packet: &[u16], io: &mut [u16], reply: &mut [u16]) -> Turn
     requires { ⌜ 1 ≤ length (now packet) ⌝ }
     requires { ⌜ 12288 ≤ length (now reply) ⌝ }
-    ensures { λ r. ⌜ ((flash pm dm : List ℕ) → outcome r (lent flash (memories pm dm (now (io .exit))) (now (reply .exit))) ≡ ownOutcome node (lent flash (memories pm dm (now (io .entry))) (now (reply .entry))) (performIoOf (statusIn node) (now (io .entry)) (now (packet .entry)))) ⌝ }
+    ensures { λ r. ⌜ ((flash pm dm : List ℕ) (x : Further) → outcome r (lent flash (memories pm dm (now (io .exit))) x (now (reply .exit))) ≡ ownOutcome node (lent flash (memories pm dm (now (io .entry))) x (now (reply .entry))) (performIoOf (statusIn node) (now (io .entry)) (now (packet .entry)))) ⌝ }
 {
     let answer = memory::perform_io(io, &packet[1..], &mut reply[0..12286]);
     end_read(node, answer, reply)
@@ -102,7 +102,7 @@ pub fn memories(
 ) -> Turn
     requires { ⌜ 1 ≤ length (now packet) ⌝ }
     requires { ⌜ 12288 ≤ length (now reply) ⌝ }
-    ensures { λ r. ⌜ ((flash : List ℕ) → outcome r (lent flash (memories (now (pm .exit)) (now (dm .exit)) (now (io .exit))) (now (reply .exit))) ≡ ownOutcome node (lent flash (memories (now (pm .entry)) (now (dm .entry)) (now (io .entry))) (now (reply .entry))) (memoriesOf id node (lent flash (memories (now (pm .entry)) (now (dm .entry)) (now (io .entry))) (now (reply .entry))) (now (packet .entry)))) ⌝ }
+    ensures { λ r. ⌜ ((flash : List ℕ) (x : Further) → outcome r (lent flash (memories (now (pm .exit)) (now (dm .exit)) (now (io .exit))) x (now (reply .exit))) ≡ ownOutcome node (lent flash (memories (now (pm .entry)) (now (dm .entry)) (now (io .entry))) x (now (reply .entry))) (memoriesOf id node (lent flash (memories (now (pm .entry)) (now (dm .entry)) (now (io .entry))) x (now (reply .entry))) (now (packet .entry)))) ⌝ }
 {
     match id {
         0x0F => perform(node, packet, io, reply),

@@ -23,6 +23,7 @@ pub fn refusal_number(refusal: Refusal) -> u32
         Refusal::State => 5,
         Refusal::Busy => 6,
         Refusal::Unasked => 7,
+        Refusal::AreaSize => 8,
     }
 }
 
@@ -56,9 +57,10 @@ pub fn request_verdict(
     pm: usize,
     dm: usize,
     io: usize,
+    area: usize,
     reply: usize,
 ) -> Verdict
-    ensures { λ r. ⌜ r ≡ requestVerdict node link packet flash pm dm io reply ⌝ }
+    ensures { λ r. ⌜ r ≡ requestVerdict node link packet flash pm dm io area reply ⌝ }
 {
     let given = node.given;
     let pending = node.pending;
@@ -70,6 +72,9 @@ pub fn request_verdict(
     }
     if (32768 < pm) | (32768 < dm) | (4096 < io) {
         return Verdict::No(Refusal::MemorySize);
+    }
+    if area < 32768 {
+        return Verdict::No(Refusal::AreaSize);
     }
     if given.ports as u32 <= link {
         return Verdict::No(Refusal::Number);

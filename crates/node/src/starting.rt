@@ -5,6 +5,7 @@ use crate::Counts;
 use crate::Given;
 use crate::Node;
 use crate::Pending;
+use crate::Writing;
 use flash::Erasing;
 
 // A started node.
@@ -24,6 +25,7 @@ pub fn begin(given: Given, flash: &[u16]) -> Node
         },
         erasing: Erasing::Nothing,
         pending: Pending::Nothing,
+        writing: Writing::Nothing,
     }
 }
 
@@ -51,5 +53,6 @@ pub fn no_node() -> Node
         },
         erasing: Erasing::Nothing,
         pending: Pending::Nothing,
+        writing: Writing::Nothing,
     }
 }

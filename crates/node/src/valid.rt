@@ -1,12 +1,13 @@
 // Whether a value is a state of a node.
 ghost use mathlib.Core.Path.{_≡_};
 ghost use Rattle.group.specs.Slaves.{hasSlave};
-ghost use Rattle.node.specs.Valid.{sizeOk, kindOk, portsOk, givenOk, masksOk, erasingOk, askOk, gatheringOk, pendingOk, stateOk};
+ghost use Rattle.node.specs.Valid.{sizeOk, kindOk, portsOk, givenOk, masksOk, erasingOk, askOk, gatheringOk, pendingOk, writingOk, stateOk};
 use crate::Ask;
 use crate::Gathering;
 use crate::Given;
 use crate::Node;
 use crate::Pending;
+use crate::Writing;
 use flash::Erasing;
 
 pub fn size_ok(words: usize) -> bool
@@ -101,6 +102,15 @@ fn pending_ok(ports: u16, pending: Pending) -> bool
     }
 }
 
+fn writing_ok(ports: u16, writing: Writing) -> bool
+    ensures { λ r. ⌜ r ≡ writingOk ports writing ⌝ }
+{
+    match writing {
+        Writing::Nothing => true,
+        Writing::File(joining) => (joining.link < ports as u32) & (joining.words <= 32768),
+    }
+}
+
 // Whether this is a state of a node.
 pub fn state_ok(node: Node) -> bool
     ensures { λ r. ⌜ r ≡ stateOk node ⌝ }
@@ -109,9 +119,11 @@ pub fn state_ok(node: Node) -> bool
     let masks = node.masks;
     let erasing = node.erasing;
     let pending = node.pending;
+    let writing = node.writing;
     given_ok(given)
         & (node.mode <= 3)
         & masks_ok(&masks)
         & erasing_ok(given.flash_words, erasing)
         & pending_ok(given.ports, pending)
+        & writing_ok(given.ports, writing)
 }

@@ -1,19 +1,36 @@
 -- `node::Node::request` meets its contract: refused, or taken. Assumes nothing.
-use mathlib.Core.Path.{sym, ap, _∙_}
-use Rattle.base.proofs.Pick.{via}
-use Rattle.node.specs.Effect.{Lent, lent, outcome, applied}
+use mathlib.Core.Path.{_≡_, sym, ap, _∙_, subst}
+use native.Mathlib.Omega.{arith}
 use lib.ListN.{length}
+use Rattle.base.proofs.Pick.{via}
 use Rattle.memory.specs.Segment.{memories}
+use Rattle.node.specs.Effect.{Lent, lent, further, Outcome, outcome, applied}
+use Rattle.node.specs.Route.{routeOf}
+use Rattle.node.specs.Calls.{judged, routed, requestOf}
 use Rattle.node.specs.declared.Route.{Route}
 use Rattle.node.specs.declared.Turn.{Turn}
 use Rattle.node.specs.declared.Verdict.{Verdict}
-use Rattle.node.specs.Calls.{judged, routed, requestOf, given}
-use Rattle.node.specs.Route.{routeOf}
-use Rattle.node.proofs.Routes.{own-words}
+use Rattle.node.proofs.Routes.{Fits, route-fits}
 use Rattle.node.proofs.Verdicts.{request-fine}
 use borrow.Author.Needs.{needs}
 use Rattle.node.proofs.Node.request.Statement.{statement}
 use Rattle.node.proofs.Node.request.Tie as tie
+
+-- what is lent, and what is owed by the verdict and the route
+abbrev given : tie.Start → Lent
+given s = lent (s .args .flash .now) (memories (s .args .pm .now) (s .args .dm .now) (s .args .io .now)) (further (s .args .area .now)) (s .args .reply .now)
+
+abbrev route : tie.Start → Route
+route s = routeOf (s .args .self) (s .args .link) (s .args .bc) (s .args .errors) (s .args .packet .now)
+
+abbrev owed : tie.Start → Verdict → Route → Outcome
+owed s v r = judged v (s .args .self) (given s) (routed r (s .args .self) (s .args .clock) (s .args .link) (s .args .packet .now) (given s))
+
+-- what the route tells of the packet
+fits : (s : tie.Start) {r x : Route} → r ≡ route s → r ≡ x → Fits x (s .args .packet .now)
+fits s e h =
+    subst (λ (r : Route). Fits r (s .args .packet .now)) (sym e ∙ h)
+    (route-fits (s .args .self) (s .args .link) (s .args .bc) (s .args .errors) (s .args .packet .now))
 
 request-verdict-requires : tie.Need-request-verdict-requires
 request-verdict-requires c κs = search needs
@@ -25,7 +42,13 @@ route-of-requires : tie.Need-route-of-requires
 route-of-requires c κs = search needs
 
 take-request-requires : tie.Need-take-request-requires
-take-request-requires c κs = let s = c .before .before .before .before .before .before .before .before .before .before .before .before .before .before .before .args in let l : Lent = lent (s .flash .now) (memories (s .pm .now) (s .dm .now) (s .io .now)) (s .reply .now) in (λ id e. own-words (s .self) (s .link) (s .bc) (s .errors) (s .packet .now) id (sym (c .before .before .before .before .before .route-of .ensures) ∙ e), request-fine (s .self) (s .link) (length (s .packet .now)) (length (s .flash .now)) (length (s .pm .now)) (length (s .dm .now)) (length (s .io .now)) (length (s .reply .now)) (sym (c .before .before .before .before .before .before .before .before .request-verdict .ensures) ∙ c .before .before .before .before .before .before .enum-told .given .1) .buffer)
+take-request-requires c κs =
+    let s = c .before .before .before .before .before .before .before .before .before .before .before .before .before .before .before .before .before in
+    let a = s .args in
+    let fine = request-fine (a .self) (a .link) (length (a .packet .now)) (length (a .flash .now)) (length (a .pm .now)) (length (a .dm .now)) (length (a .io .now)) (length (a .area .now)) (length (a .reply .now)) (sym (c .before .before .before .before .before .before .before .before .before .request-verdict .ensures) ∙ c .before .before .before .before .before .before .before .enum-told .given .1) in
+    let room = fine .room in
+    let told = c .before .before .before .before .before .before .route-of .ensures in
+    ((λ id e. fits s told e), ((λ from at e. let f = fits s told e in (f .0, omega (arith, f .1, room))), ((λ at e. omega (arith, fits s told e, room)), fine .buffer)))
 
 enum-known-verdict : tie.Need-enum-known-verdict
 enum-known-verdict c = search needs
@@ -48,13 +71,22 @@ same-length-4 c = search needs
 same-length-5 : tie.Need-same-length-5
 same-length-5 c = search needs
 
+same-length-6 : tie.Need-same-length-6
+same-length-6 c = search needs
+
 returns : tie.Need-returns
 unfolding requestOf
-returns c = let s = c .before .before .before .before .before .before .before .before .before .before .before .before .before .before .before .before .before .before .before .before .before .before .before .before .before .before .args in let l : Lent = lent (s .flash .now) (memories (s .pm .now) (s .dm .now) (s .io .now)) (s .reply .now) in via (λ (v : Verdict). judged v (s .self) l (routed (routeOf (s .self) (s .link) (s .bc) (s .errors) (s .packet .now)) (s .self) (s .clock) (s .link) (s .packet .now) l)) (sym (c .before .before .before .before .before .before .before .before .before .before .before .before .before .before .before .before .before .before .before .request-verdict .ensures) ∙ c .before .before .before .before .before .before .before .before .before .before .before .before .before .before .before .before .before .enum-told .given .1) (c .before .before .before .before .before .before .before .before .before .before .take-request .ensures ∙ ap (λ (r : Route). applied (s .self) l (routed r (s .self) (s .clock) (s .link) (s .packet .now) l)) (c .before .before .before .before .before .before .before .before .before .before .before .before .before .before .before .before .route-of .ensures))
+returns c =
+    let s = c .before .before .before .before .before .before .before .before .before .before .before .before .before .before .before .before .before .before .before .before .before .before .before .before .before .before .before .before .before .before in
+    via (λ (v : Verdict). owed s v (route s)) (sym (c .before .before .before .before .before .before .before .before .before .before .before .before .before .before .before .before .before .before .before .before .before .before .request-verdict .ensures) ∙ c .before .before .before .before .before .before .before .before .before .before .before .before .before .before .before .before .before .before .before .before .enum-told .given .1)
+    (c .before .before .before .before .before .before .before .before .before .before .before .before .take-request .ensures ∙ ap (owed s Verdict.Fine) (c .before .before .before .before .before .before .before .before .before .before .before .before .before .before .before .before .before .before .before .route-of .ensures))
 
 returns-2 : tie.Need-returns-2
 unfolding requestOf
-returns-2 c = let s = c .before .before .before .before .before .before .before .before .before .before .before .args in let l : Lent = lent (s .flash .now) (memories (s .pm .now) (s .dm .now) (s .io .now)) (s .reply .now) in via (λ (v : Verdict). judged v (s .self) l (routed (routeOf (s .self) (s .link) (s .bc) (s .errors) (s .packet .now)) (s .self) (s .clock) (s .link) (s .packet .now) l)) (sym (c .before .before .before .before .request-verdict .ensures) ∙ c .before .before .verdict .given .1) (ap (λ (t : Turn). outcome t l) (c .refuse .ensures))
+returns-2 c =
+    let s = c .before .before .before .before .before .before .before .before .before .before .before .before in
+    via (λ (v : Verdict). owed s v (route s)) (sym (c .before .before .before .before .request-verdict .ensures) ∙ c .before .before .verdict .given .1)
+    (ap (λ (t : Turn). outcome t (given s)) (c .refuse .ensures))
 
 pub request-spec : {M : Type 1} → statement M
 request-spec =
@@ -71,5 +103,6 @@ request-spec =
     same-length-3
     same-length-4
     same-length-5
+    same-length-6
     returns
     returns-2)

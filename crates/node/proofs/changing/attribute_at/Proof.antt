@@ -25,7 +25,7 @@ attribute-sector-requires c κs = search needs
 returns : tie.Need-returns
 returns c =
     let a = c .before .before .before .before .args in
-    λ m reply. ends (a .node) ZeroLength.Abort (c .says .ensures) (via (attributeAt (a .node) (a .flash .now) (a .value)) (c .before .enum-told .given .1) refl) (lent (a .flash .now) m reply)
+    λ m others reply. ends (a .node) ZeroLength.Abort (c .says .ensures) (via (attributeAt (a .node) (a .flash .now) (a .value)) (c .before .enum-told .given .1) refl) (lent (a .flash .now) m others reply)
 
 same-length : tie.Need-same-length
 same-length c = search needs

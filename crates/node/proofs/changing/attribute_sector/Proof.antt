@@ -69,7 +69,7 @@ returns-2 : tie.Need-returns-2
 returns-2 c =
     let a = c .before .before .before .before .before .before .args in
     let by = attributeBy (a .sector) (sectorOf (a .flash .now) (a .sector)) (a .value) in
-    λ m reply. ends (a .node) ZeroLength.Abort (c .says .ensures) (via by (sym (c .before .before .before .status-seen .ensures) ∙ c .before .enum-told .given .1) refl) (lent (a .flash .now) m reply)
+    λ m others reply. ends (a .node) ZeroLength.Abort (c .says .ensures) (via by (sym (c .before .before .before .status-seen .ensures) ∙ c .before .enum-told .given .1) refl) (lent (a .flash .now) m others reply)
 
 same-length-3 : tie.Need-same-length-3
 same-length-3 c = search needs
@@ -78,7 +78,7 @@ returns-3 : tie.Need-returns-3
 returns-3 c =
     let a = c .before .before .before .before .before .before .args in
     let by = attributeBy (a .sector) (sectorOf (a .flash .now) (a .sector)) (a .value) in
-    λ m reply. ends (a .node) ZeroLength.Abort (c .says2 .ensures) (via by (sym (c .before .before .before .status-seen .ensures) ∙ c .before .enum-told2 .given .1) refl) (lent (a .flash .now) m reply)
+    λ m others reply. ends (a .node) ZeroLength.Abort (c .says2 .ensures) (via by (sym (c .before .before .before .status-seen .ensures) ∙ c .before .enum-told2 .given .1) refl) (lent (a .flash .now) m others reply)
 
 same-length-4 : tie.Need-same-length-4
 same-length-4 c = search needs
@@ -87,7 +87,7 @@ returns-4 : tie.Need-returns-4
 returns-4 c =
     let a = c .before .before .before .before .before .before .args in
     let by = attributeBy (a .sector) (sectorOf (a .flash .now) (a .sector)) (a .value) in
-    λ m reply. ends (a .node) ZeroLength.Abort (c .says3 .ensures) (via by (sym (c .before .before .before .status-seen .ensures) ∙ c .before .enum-told3 .given .1) refl) (lent (a .flash .now) m reply)
+    λ m others reply. ends (a .node) ZeroLength.Abort (c .says3 .ensures) (via by (sym (c .before .before .before .status-seen .ensures) ∙ c .before .enum-told3 .given .1) refl) (lent (a .flash .now) m others reply)
 
 pub attribute-sector-spec : {M : Type 1} → statement M
 attribute-sector-spec =

@@ -26,7 +26,7 @@ end-with-requires c κs = search needs
 returns : tie.Need-returns
 returns c =
     let a = c .before .before .before .before .args in
-    λ m reply. ends (a .node) ZeroLength.Abort (c .says .ensures) (via eraseAt (c .before .enum-told .given .1) refl) (lent (a .flash .now) m reply)
+    λ m others reply. ends (a .node) ZeroLength.Abort (c .says .ensures) (via eraseAt (c .before .enum-told .given .1) refl) (lent (a .flash .now) m others reply)
 
 returns-2 : tie.Need-returns-2
 returns-2 c =

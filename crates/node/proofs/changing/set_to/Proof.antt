@@ -36,13 +36,13 @@ returns : tie.Need-returns
 returns c =
     let a = c .before .before .before .before .args in
     let by = setTo (a .sector) (a .end) in
-    λ m reply. ends (a .node) ZeroLength.Abort (c .says .ensures) (via by (c .before .enum-told .given .1) refl) (lent (a .flash .now) m reply)
+    λ m others reply. ends (a .node) ZeroLength.Abort (c .says .ensures) (via by (c .before .enum-told .given .1) refl) (lent (a .flash .now) m others reply)
 
 returns-2 : tie.Need-returns-2
 returns-2 c =
     let a = c .before .before .before .before .args in
     let by = setTo (a .sector) (a .end) in
-    λ m reply. ends (a .node) ZeroLength.End (c .says2 .ensures) (via by (c .before .enum-told2 .given .1) refl) (lent (a .flash .now) m reply)
+    λ m others reply. ends (a .node) ZeroLength.End (c .says2 .ensures) (via by (c .before .enum-told2 .given .1) refl) (lent (a .flash .now) m others reply)
 
 same-length : tie.Need-same-length
 same-length c = search needs

@@ -30,7 +30,7 @@ end-with-requires c κs = search needs
 returns : tie.Need-returns
 returns c =
     let a = c .before .before .before .before .before .args in
-    λ m reply. ends (a .node) ZeroLength.Abort (c .says .ensures) (via (writeAt (a .file .now)) (c .before .enum-told .given .1) refl) (lent (a .flash .now) m reply)
+    λ m others reply. ends (a .node) ZeroLength.Abort (c .says .ensures) (via (writeAt (a .file .now)) (c .before .enum-told .given .1) refl) (lent (a .flash .now) m others reply)
 
 same-length : tie.Need-same-length
 same-length c = search needs

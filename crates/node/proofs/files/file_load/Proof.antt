@@ -22,7 +22,7 @@ unfolding loadOf
 returns c =
     let a = c .before .before .before .before .before .before .before .before .args in
     let m = memories (a .pm .now) (a .dm .now) (a .io .now) in
-    λ flash reply. ends (a .node) ZeroLength.Abort (c .says .ensures) (unserved (a .node) (length (a .packet .now)) 2 _ (c .before .before .is-served .ensures) (c .before .if1 .taken)) (lent flash m reply)
+    λ flash others reply. ends (a .node) ZeroLength.Abort (c .says .ensures) (unserved (a .node) (length (a .packet .now)) 2 _ (c .before .before .is-served .ensures) (c .before .if1 .taken)) (lent flash m others reply)
 
 word-at-requires : tie.Need-word-at-requires
 word-at-requires c κs = search needs

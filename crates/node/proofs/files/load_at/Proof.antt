@@ -27,7 +27,7 @@ returns : tie.Need-returns
 returns c =
     let a = c .before .before .before .before .before .before .before .args in
     let m = memories (a .pm .now) (a .dm .now) (a .io .now) in
-    λ flash reply. ends (a .node) ZeroLength.Abort (c .says .ensures) (via (loadAt (a .node) (a .flash .now) m) (c .before .enum-told .given .1) refl) (lent flash m reply)
+    λ flash others reply. ends (a .node) ZeroLength.Abort (c .says .ensures) (via (loadAt (a .node) (a .flash .now) m) (c .before .enum-told .given .1) refl) (lent flash m others reply)
 
 same-length : tie.Need-same-length
 same-length c = search needs

@@ -29,7 +29,7 @@ returns c =
     let ws = sectorOf f (a .sector) in
     let m = memories (a .pm .now) (a .dm .now) (a .io .now) in
     let s = seen (a .node) f (a .sector) in
-    λ flash reply. c .abort-faulty .ensures (lent flash m reply) ∙ ap (ownOutcome (a .node) (lent flash m reply)) (load-faulty ws m s (sym (c .before .before .is-faulty .ensures ∙ ap isFaulty (c .before .before .before .status-seen .ensures)) ∙ c .before .if1 .taken))
+    λ flash others reply. c .abort-faulty .ensures (lent flash m others reply) ∙ ap (ownOutcome (a .node) (lent flash m others reply)) (load-faulty ws m s (sym (c .before .before .is-faulty .ensures ∙ ap isFaulty (c .before .before .before .status-seen .ensures)) ∙ c .before .if1 .taken))
 
 sector-of-requires : tie.Need-sector-of-requires
 sector-of-requires c κs = search needs

@@ -53,7 +53,7 @@ unfolding filesOf
 returns c =
     let a = c .before .before .before .before .before .before .before .before .before .before .before .before .args in
     let m = memories (a .pm .now) (a .dm .now) (a .io .now) in
-    by-id (a .node) (lent (a .flash .now) m (a .reply .now)) (a .packet .now) (c .before .before .before .before .before .match .keys1) (c .before .before .file-read .ensures (a .flash .now) m)
+    λ others. by-id (a .node) (lent (a .flash .now) m others (a .reply .now)) (a .packet .now) (c .before .before .before .before .before .match .keys1) (c .before .before .file-read .ensures (a .flash .now) m others)
 
 same-length-3 : tie.Need-same-length-3
 same-length-3 c = search needs
@@ -63,7 +63,7 @@ unfolding filesOf
 returns-2 c =
     let a = c .before .before .before .before .before .before .before .before .before .before .before .args in
     let m = memories (a .pm .now) (a .dm .now) (a .io .now) in
-    by-id (a .node) (lent (a .flash .now) m (a .reply .now)) (a .packet .now) (c .before .before .before .before .match .keys2) (c .before .before .file-write .ensures m (a .reply .now))
+    λ others. by-id (a .node) (lent (a .flash .now) m others (a .reply .now)) (a .packet .now) (c .before .before .before .before .match .keys2) (c .before .before .file-write .ensures m others (a .reply .now))
 
 same-length-4 : tie.Need-same-length-4
 same-length-4 c = search needs
@@ -76,7 +76,7 @@ unfolding filesOf
 returns-3 c =
     let a = c .before .before .before .before .before .before .before .before .before .before .before .before .args in
     let m = memories (a .pm .now) (a .dm .now) (a .io .now) in
-    by-id (a .node) (lent (a .flash .now) m (a .reply .now)) (a .packet .now) (c .before .before .before .before .before .match .keys3) (c .before .before .file-test .ensures (a .flash .now) m)
+    λ others. by-id (a .node) (lent (a .flash .now) m others (a .reply .now)) (a .packet .now) (c .before .before .before .before .before .match .keys3) (c .before .before .file-test .ensures (a .flash .now) m others)
 
 same-length-6 : tie.Need-same-length-6
 same-length-6 c = search needs
@@ -95,7 +95,7 @@ unfolding filesOf
 returns-4 c =
     let a = c .before .before .before .before .before .before .before .before .before .before .before .before .before .before .before .before .before .before .args in
     let m = memories (a .pm .now) (a .dm .now) (a .io .now) in
-    by-id (a .node) (lent (a .flash .now) m (a .reply .now)) (a .packet .now) (c .before .before .before .before .before .before .before .before .before .before .before .match .keys4) (c .before .before .before .before .before .before .file-load .ensures (a .flash .now) (a .reply .now))
+    λ others. by-id (a .node) (lent (a .flash .now) m others (a .reply .now)) (a .packet .now) (c .before .before .before .before .before .before .before .before .before .before .before .match .keys4) (c .before .before .before .before .before .before .file-load .ensures (a .flash .now) others (a .reply .now))
 
 same-length-10 : tie.Need-same-length-10
 same-length-10 c = search needs
@@ -105,7 +105,7 @@ unfolding filesOf
 returns-5 c =
     let a = c .before .before .before .before .before .before .before .before .before .before .before .args in
     let m = memories (a .pm .now) (a .dm .now) (a .io .now) in
-    by-id (a .node) (lent (a .flash .now) m (a .reply .now)) (a .packet .now) (c .before .before .before .before .match .keys5) (c .before .before .summary .ensures (a .flash .now) m)
+    λ others. by-id (a .node) (lent (a .flash .now) m others (a .reply .now)) (a .packet .now) (c .before .before .before .before .match .keys5) (c .before .before .summary .ensures (a .flash .now) m others)
 
 same-length-11 : tie.Need-same-length-11
 same-length-11 c = search needs
@@ -115,7 +115,7 @@ unfolding filesOf
 returns-6 c =
     let a = c .before .before .before .before .before .before .before .before .before .args in
     let m = memories (a .pm .now) (a .dm .now) (a .io .now) in
-    by-id (a .node) (lent (a .flash .now) m (a .reply .now)) (a .packet .now) (c .before .before .match .keys6) (c .erase-start .ensures m (a .reply .now))
+    λ others. by-id (a .node) (lent (a .flash .now) m others (a .reply .now)) (a .packet .now) (c .before .before .match .keys6) (c .erase-start .ensures m others (a .reply .now))
 
 same-length-12 : tie.Need-same-length-12
 same-length-12 c = search needs
@@ -125,15 +125,15 @@ unfolding filesOf
 returns-7 c =
     let a = c .before .before .before .before .before .before .before .before .before .before .before .args in
     let m = memories (a .pm .now) (a .dm .now) (a .io .now) in
-    by-id (a .node) (lent (a .flash .now) m (a .reply .now)) (a .packet .now) (c .before .before .before .before .match .keys7) (c .before .before .attribute-set .ensures m (a .reply .now))
+    λ others. by-id (a .node) (lent (a .flash .now) m others (a .reply .now)) (a .packet .now) (c .before .before .before .before .match .keys7) (c .before .before .attribute-set .ensures m others (a .reply .now))
 
 returns-8 : tie.Need-returns-8
 unfolding filesOf
 returns-8 c =
     let a = c .before .before .before .before .before .before .before .before .args in
-    ends (a .node) ZeroLength.Abort (c .says .ensures)
+    λ others. ends (a .node) ZeroLength.Abort (c .says .ensures)
     (no _ (ne-eqb _ _ (c .before .match .rest .0 .0 .0 .0 .0 .0 .1)) (no _ (ne-eqb _ _ (c .before .match .rest .0 .0 .0 .0 .0 .1)) (no _ (ne-eqb _ _ (c .before .match .rest .0 .0 .0 .0 .1)) (no _ (ne-eqb _ _ (c .before .match .rest .0 .0 .0 .1)) (no _ (ne-eqb _ _ (c .before .match .rest .0 .0 .1)) (no _ (ne-eqb _ _ (c .before .match .rest .0 .1)) (no _ (ne-eqb _ _ (c .before .match .rest .1)) refl)))))))
-    (lent (a .flash .now) (memories (a .pm .now) (a .dm .now) (a .io .now)) (a .reply .now))
+    (lent (a .flash .now) (memories (a .pm .now) (a .dm .now) (a .io .now)) others (a .reply .now))
 
 pub files-spec : {M : Type 1} → statement M
 files-spec =

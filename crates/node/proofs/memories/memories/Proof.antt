@@ -6,7 +6,7 @@ use borrow.Author.Tests.{ne-eqb}
 use Rattle.base.proofs.Pick.{via, no}
 use Rattle.group.specs.declared.ZeroLength.{ZeroLength}
 use Rattle.memory.specs.Segment.{memories}
-use Rattle.node.specs.Effect.{Lent, lent, Outcome, ownOutcome}
+use Rattle.node.specs.Effect.{Further, Lent, lent, Outcome, ownOutcome}
 use Rattle.node.specs.Own.{memoriesOf}
 use Rattle.node.proofs.Access.{zero-replies}
 use borrow.Author.Needs.{needs}
@@ -14,11 +14,11 @@ use Rattle.node.proofs.memories.memories.Statement.{statement}
 use Rattle.node.proofs.memories.memories.Tie as tie
 
 -- what is lent, and what is owed by the ID
-abbrev given : tie.Start → List ℕ → Lent
-given s flash = lent flash (memories (s .args .pm .now) (s .args .dm .now) (s .args .io .now)) (s .args .reply .now)
+abbrev given : tie.Start → List ℕ → Further → Lent
+given s flash others = lent flash (memories (s .args .pm .now) (s .args .dm .now) (s .args .io .now)) others (s .args .reply .now)
 
-abbrev owed : tie.Start → List ℕ → ℕ → Outcome
-owed s flash id = ownOutcome (s .args .node) (given s flash) (memoriesOf id (s .args .node) (given s flash) (s .args .packet .now))
+abbrev owed : tie.Start → List ℕ → Further → ℕ → Outcome
+owed s flash others id = ownOutcome (s .args .node) (given s flash others) (memoriesOf id (s .args .node) (given s flash others) (s .args .packet .now))
 
 perform-requires : tie.Need-perform-requires
 perform-requires c κs = search needs
@@ -46,7 +46,7 @@ same-length-2 c = search needs
 
 returns : tie.Need-returns
 unfolding memoriesOf
-returns c = let s = c .before .before .before .before .before .before .before .before .before .before .before .before .before in λ flash. via (owed s flash) (c .before .before .before .before .before .before .before .match .keys1) (c .before .before .before .before .perform .ensures flash (s .args .pm .now) (s .args .dm .now))
+returns c = let s = c .before .before .before .before .before .before .before .before .before .before .before .before .before in λ flash others. via (owed s flash others) (c .before .before .before .before .before .before .before .match .keys1) (c .before .before .before .before .perform .ensures flash (s .args .pm .now) (s .args .dm .now) others)
 
 same-length-3 : tie.Need-same-length-3
 same-length-3 c = search needs
@@ -56,14 +56,14 @@ same-length-4 c = search needs
 
 returns-2 : tie.Need-returns-2
 unfolding memoriesOf
-returns-2 c = let s = c .before .before .before .before .before .before .before .before .before .before .before in λ flash. via (owed s flash) (c .before .before .before .before .before .match .keys2) (c .before .before .pm-read .ensures flash (given s flash .memories))
+returns-2 c = let s = c .before .before .before .before .before .before .before .before .before .before .before in λ flash others. via (owed s flash others) (c .before .before .before .before .before .match .keys2) (c .before .before .pm-read .ensures flash (given s flash others .memories) others)
 
 same-length-5 : tie.Need-same-length-5
 same-length-5 c = search needs
 
 returns-3 : tie.Need-returns-3
 unfolding memoriesOf
-returns-3 c = let s = c .before .before .before .before .before .before .before .before .before .before in λ flash. via (owed s flash) (c .before .before .before .before .match .keys3) (c .before .before .pm-write .ensures (s .args .dm .now) (s .args .io .now) flash (s .args .reply .now))
+returns-3 c = let s = c .before .before .before .before .before .before .before .before .before .before in λ flash others. via (owed s flash others) (c .before .before .before .before .match .keys3) (c .before .before .pm-write .ensures (s .args .dm .now) (s .args .io .now) flash others (s .args .reply .now))
 
 same-length-6 : tie.Need-same-length-6
 same-length-6 c = search needs
@@ -73,14 +73,14 @@ same-length-7 c = search needs
 
 returns-4 : tie.Need-returns-4
 unfolding memoriesOf
-returns-4 c = let s = c .before .before .before .before .before .before .before .before .before .before .before in λ flash. via (owed s flash) (c .before .before .before .before .before .match .keys4) (c .before .before .dm-read .ensures flash (given s flash .memories))
+returns-4 c = let s = c .before .before .before .before .before .before .before .before .before .before .before in λ flash others. via (owed s flash others) (c .before .before .before .before .before .match .keys4) (c .before .before .dm-read .ensures flash (given s flash others .memories) others)
 
 same-length-8 : tie.Need-same-length-8
 same-length-8 c = search needs
 
 returns-5 : tie.Need-returns-5
 unfolding memoriesOf
-returns-5 c = let s = c .before .before .before .before .before .before .before .before .before .before in λ flash. via (owed s flash) (c .before .before .before .before .match .keys5) (c .before .before .dm-write .ensures (s .args .pm .now) (s .args .io .now) flash (s .args .reply .now))
+returns-5 c = let s = c .before .before .before .before .before .before .before .before .before .before in λ flash others. via (owed s flash others) (c .before .before .before .before .match .keys5) (c .before .before .dm-write .ensures (s .args .pm .now) (s .args .io .now) flash others (s .args .reply .now))
 
 returns-6 : tie.Need-returns-6
 unfolding memoriesOf
@@ -88,8 +88,8 @@ returns-6 c =
     let s = c .before .before .before .before .before .before .before in
     let id = s .args .id in
     let other = c .before .match .rest in
-    λ flash. zero-replies (s .args .node) ZeroLength.Abort (s .args .reply .now) (c .says .ensures) flash (given s flash .memories)
-    ∙ ap (ownOutcome (s .args .node) (given s flash))
+    λ flash others. zero-replies (s .args .node) ZeroLength.Abort (s .args .reply .now) (c .says .ensures) flash (given s flash others .memories) others
+    ∙ ap (ownOutcome (s .args .node) (given s flash others))
     (no _ (ne-eqb id 0x0F (other .0 .0 .0 .0 .1)) (no _ (ne-eqb id 0x10 (other .0 .0 .0 .1)) (no _ (ne-eqb id 0x50 (other .0 .0 .1)) (no _ (ne-eqb id 0x11 (other .0 .1)) (no _ (ne-eqb id 0x51 (other .1)) refl)))))
 
 pub memories-spec : {M : Type 1} → statement M

@@ -36,7 +36,7 @@ same-length-2 : tie.Need-same-length-2
 same-length-2 c = search needs
 
 returns : tie.Need-returns
-returns c = let a = c .before .before .before .before .before .before .before .before .before .before .before .before .before .before .before .args in λ flash pm dm. perform-told (a .node) (a .reply .now) _ _ (omega arith) (a .io .now) (a .packet .now) flash pm dm (c .before .before .before .before .before .before .before .before .perform-io .ensures) (c .before .before .end-read .ensures)
+returns c = let a = c .before .before .before .before .before .before .before .before .before .before .before .before .before .before .before .args in λ flash pm dm others. perform-told (a .node) (a .reply .now) _ _ (omega arith) (a .io .now) (a .packet .now) flash pm dm others (c .before .before .before .before .before .before .before .before .perform-io .ensures) (c .before .before .end-read .ensures)
 
 pub perform-spec : {M : Type 1} → statement M
 perform-spec =

@@ -32,7 +32,7 @@ same-length-5 c = search needs
 
 returns : tie.Need-returns
 unfolding ownOf
-returns c = let s = c .before .before .before .before .before .before .before .before .before .before .before .before .before .before .before .before .before .before .before .before .before .before .before .before .args in let l : Lent = lent (s .flash .now) (memories (s .pm .now) (s .dm .now) (s .io .now)) (s .reply .now) in c .before .before .before .before .before .before .before .before .before .before .files .ensures ∙ ap (ownOutcome (s .node) l) (yes _ (sym (c .before .before .before .before .before .before .before .before .before .before .before .before .before .before .before .before .before .on-files .ensures) ∙ c .before .before .before .before .before .before .before .before .before .before .before .before .before .before .before .before .if1 .taken) refl)
+returns c = let s = c .before .before .before .before .before .before .before .before .before .before .before .before .before .before .before .before .before .before .before .before .before .before .before .before .args in λ others. let l : Lent = lent (s .flash .now) (memories (s .pm .now) (s .dm .now) (s .io .now)) others (s .reply .now) in c .before .before .before .before .before .before .before .before .before .before .files .ensures others ∙ ap (ownOutcome (s .node) l) (yes _ (sym (c .before .before .before .before .before .before .before .before .before .before .before .before .before .before .before .before .before .on-files .ensures) ∙ c .before .before .before .before .before .before .before .before .before .before .before .before .before .before .before .before .if1 .taken) refl)
 
 on-memories-requires : tie.Need-on-memories-requires
 on-memories-requires c κs = search needs
@@ -54,7 +54,7 @@ same-length-9 c = search needs
 
 returns-2 : tie.Need-returns-2
 unfolding ownOf
-returns-2 c = let s = c .before .before .before .before .before .before .before .before .before .before .before .before .before .before .before .before .before .before .before .before .before .before .before .args in let l : Lent = lent (s .flash .now) (memories (s .pm .now) (s .dm .now) (s .io .now)) (s .reply .now) in c .before .before .before .before .before .before .before .before .memories .ensures (s .flash .now) ∙ ap (ownOutcome (s .node) l) (no _ (sym (c .before .before .before .before .before .before .before .before .before .before .before .before .before .before .before .before .on-files .ensures) ∙ c .before .before .before .before .before .before .before .before .before .before .before .before .before .before .before .if1 .left) (yes _ (sym (c .before .before .before .before .before .before .before .before .before .before .before .before .before .before .on-memories .ensures) ∙ c .before .before .before .before .before .before .before .before .before .before .before .before .before .if2 .taken) refl))
+returns-2 c = let s = c .before .before .before .before .before .before .before .before .before .before .before .before .before .before .before .before .before .before .before .before .before .before .before .args in λ others. let l : Lent = lent (s .flash .now) (memories (s .pm .now) (s .dm .now) (s .io .now)) others (s .reply .now) in c .before .before .before .before .before .before .before .before .memories .ensures (s .flash .now) others ∙ ap (ownOutcome (s .node) l) (no _ (sym (c .before .before .before .before .before .before .before .before .before .before .before .before .before .before .before .before .on-files .ensures) ∙ c .before .before .before .before .before .before .before .before .before .before .before .before .before .before .before .if1 .left) (yes _ (sym (c .before .before .before .before .before .before .before .before .before .before .before .before .before .before .on-memories .ensures) ∙ c .before .before .before .before .before .before .before .before .before .before .before .before .before .if2 .taken) refl))
 
 settings-requires : tie.Need-settings-requires
 settings-requires c κs = search needs
@@ -64,7 +64,7 @@ same-length-10 c = search needs
 
 returns-3 : tie.Need-returns-3
 unfolding ownOf
-returns-3 c = let s = c .before .before .before .before .before .before .before .before .before .before .before .before .before .before .args in let l : Lent = lent (s .flash .now) (memories (s .pm .now) (s .dm .now) (s .io .now)) (s .reply .now) in c .before .before .settings .ensures (s .flash .now) (l .memories) ∙ ap (ownOutcome (s .node) l) (no _ (sym (c .before .before .before .before .before .before .before .on-files .ensures) ∙ c .before .before .before .before .before .before .if1 .left) (no _ (sym (c .before .before .before .before .before .on-memories .ensures) ∙ c .before .before .before .before .if2 .left) refl))
+returns-3 c = let s = c .before .before .before .before .before .before .before .before .before .before .before .before .before .before .args in λ others. let l : Lent = lent (s .flash .now) (memories (s .pm .now) (s .dm .now) (s .io .now)) others (s .reply .now) in c .before .before .settings .ensures (s .flash .now) (l .memories) others ∙ ap (ownOutcome (s .node) l) (no _ (sym (c .before .before .before .before .before .before .before .on-files .ensures) ∙ c .before .before .before .before .before .before .if1 .left) (no _ (sym (c .before .before .before .before .before .on-memories .ensures) ∙ c .before .before .before .before .if2 .left) refl))
 
 pub own-spec : {M : Type 1} → statement M
 own-spec =

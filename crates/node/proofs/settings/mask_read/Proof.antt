@@ -25,14 +25,14 @@ says-requires c κs = search needs
 
 returns : tie.Need-returns
 unfolding maskReadOf
-returns c = λ (flash : List ℕ) m. ends (c .before .before .before .before .before .before .args .node) ZeroLength.Abort (c .says .ensures) (no _ (sym (c .before .before .has-masks .ensures) ∙ not-true _ (c .before .if1 .taken)) refl) (lent flash m (c .before .before .before .before .before .before .args .reply .now))
+returns c = λ (flash : List ℕ) m others. ends (c .before .before .before .before .before .before .args .node) ZeroLength.Abort (c .says .ensures) (no _ (sym (c .before .before .has-masks .ensures) ∙ not-true _ (c .before .if1 .taken)) refl) (lent flash m others (c .before .before .before .before .before .before .args .reply .now))
 
 says-requires-2 : tie.Need-says-requires-2
 says-requires-2 c κs = search needs
 
 returns-2 : tie.Need-returns-2
 unfolding maskReadOf
-returns-2 c = λ (flash : List ℕ) m. ends (c .before .before .before .before .before .before .before .args .node) ZeroLength.Abort (c .says2 .ensures) (yes _ (sym (c .before .before .before .has-masks .ensures) ∙ not-false _ (c .before .before .if1 .left)) (no _ (ne-eqb _ _ (c .before .if2 .taken)) refl)) (lent flash m (c .before .before .before .before .before .before .before .args .reply .now))
+returns-2 c = λ (flash : List ℕ) m others. ends (c .before .before .before .before .before .before .before .args .node) ZeroLength.Abort (c .says2 .ensures) (yes _ (sym (c .before .before .before .has-masks .ensures) ∙ not-false _ (c .before .before .if1 .left)) (no _ (ne-eqb _ _ (c .before .if2 .taken)) refl)) (lent flash m others (c .before .before .before .before .before .before .before .args .reply .now))
 
 slice-aggregate-lay-masks : tie.Need-slice-aggregate-lay-masks
 slice-aggregate-lay-masks c = search needs

@@ -7,6 +7,7 @@ use Prim.Native.Nat.{ℕ}
 use mathlib.Core.List.{List}
 use Rattle.flash.specs.declared.Erasing.{Erasing}
 use Rattle.node.specs.declared.Pending.{Pending}
+use Rattle.node.specs.declared.Writing.{Writing}
 use Rattle.node.specs.Calls.{given}
 use lib.ListN.{replicate}
 use borrow.Author.Needs.{needs}
@@ -17,10 +18,10 @@ scan-requires : tie.Need-scan-requires
 scan-requires c κs = search needs
 
 returns : tie.Need-returns
-returns c = ap₂ (λ (d : List ℕ) (m : ℕ). node (replicate 16 0) d (c .before .before .before .before .args .given) m (counts 0 0) Erasing.Nothing Pending.Nothing) (c .before .before .scan .ensures) (yes _ (eq-eqb _ _ (c .if1 .taken)) refl)
+returns c = ap₂ (λ (d : List ℕ) (m : ℕ). node (replicate 16 0) d (c .before .before .before .before .args .given) m (counts 0 0) Erasing.Nothing Pending.Nothing Writing.Nothing) (c .before .before .scan .ensures) (yes _ (eq-eqb _ _ (c .if1 .taken)) refl)
 
 returns-2 : tie.Need-returns-2
-returns-2 c = ap₂ (λ (d : List ℕ) (m : ℕ). node (replicate 16 0) d (c .before .before .before .before .args .given) m (counts 0 0) Erasing.Nothing Pending.Nothing) (c .before .before .scan .ensures) (no _ (ne-eqb _ _ (c .if1 .left)) refl)
+returns-2 c = ap₂ (λ (d : List ℕ) (m : ℕ). node (replicate 16 0) d (c .before .before .before .before .args .given) m (counts 0 0) Erasing.Nothing Pending.Nothing Writing.Nothing) (c .before .before .scan .ensures) (no _ (ne-eqb _ _ (c .if1 .left)) refl)
 
 pub begin-spec : {M : Type 1} → statement M
 begin-spec = tie.close (tie.spec scan-requires returns returns-2)

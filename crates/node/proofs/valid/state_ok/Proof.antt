@@ -22,9 +22,17 @@ erasing-ok-requires c κs = search needs
 pending-ok-requires : tie.Need-pending-ok-requires
 pending-ok-requires c κs = search needs
 
+writing-ok-requires : tie.Need-writing-ok-requires
+writing-ok-requires c κs = search needs
+
 returns : tie.Need-returns
 unfolding stateOk
-returns c = ap₂ _&&_ (ap₂ _&&_ (ap₂ (λ (x y : Bool). x && leb (c .before .before .before .before .before .before .before .before .args .node .mode) 3 && y) (c .before .before .before .before .before .given-ok .ensures) (c .before .before .masks-ok .ensures)) (c .before .erasing-ok .ensures)) (c .pending-ok .ensures)
+returns c =
+    ap₂ _&&_
+    (ap₂ _&&_
+    (ap₂ _&&_ (ap₂ (λ (x y : Bool). x && leb (c .before .before .before .before .before .before .before .before .before .args .node .mode) 3 && y) (c .before .before .before .before .before .before .given-ok .ensures) (c .before .before .before .masks-ok .ensures)) (c .before .before .erasing-ok .ensures))
+    (c .before .pending-ok .ensures))
+    (c .writing-ok .ensures)
 
 pub state-ok-spec : {M : Type 1} → statement M
 state-ok-spec =
@@ -35,4 +43,5 @@ state-ok-spec =
     masks-ok-requires
     erasing-ok-requires
     pending-ok-requires
+    writing-ok-requires
     returns)
