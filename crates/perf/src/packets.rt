@@ -29,8 +29,38 @@ fn node_before(bc: u32, words: usize, flash: usize) -> Node
     Node {
         masks: [0; 16],
         directory: [
-            0xFFFF, 0x0200, 0, 0, 0xFFFF, 0x0400, 0, 0, 0xFFFF, 0x0800, 0, 0, 0xFFFF, 0x0C00, 0, 0, 0xFFFF, 0x1000, 0, 0,
-            0xFFFF, 0x1400, 0, 0, 0xFFFF, 0x1800, 0, 0, 0xFFFF, 0x1C00, 0, 0,
+            0xFFFF,
+            0x0200,
+            0,
+            0,
+            0xFFFF,
+            0x0400,
+            0,
+            0,
+            0xFFFF,
+            0x0800,
+            0,
+            0,
+            0xFFFF,
+            0x0C00,
+            0,
+            0,
+            0xFFFF,
+            0x1000,
+            0,
+            0,
+            0xFFFF,
+            0x1400,
+            0,
+            0,
+            0xFFFF,
+            0x1800,
+            0,
+            0,
+            0xFFFF,
+            0x1C00,
+            0,
+            0,
         ],
         given: Given {
             kind: 1,
@@ -85,5 +115,6 @@ pub extern "C" fn perf_packet(
 {
     let node = node_before(bc, joined, flash.len());
     let turn = node.request(0, 0, bc, false, packet, flash, pm, dm, io, area, reply);
-    bc_in(turn.answer)
+    let answer = turn.answer;
+    bc_in(answer)
 }
