@@ -1,12 +1,12 @@
 -- A request that is no command of the node's own and no packet that joins, as the outcome of the whole call. Assumes nothing.
 use Prim.Native.Nat.{ℕ}
-use mathlib.Core.Path.{_≡_, refl, sym, ap, _∙_}
+use mathlib.Core.Path.{_≡_, refl, ap, _∙_}
 use mathlib.Core.Bool.{Bool, true, false, false≢true}
 use mathlib.Core.List.{List}
 use Rattle.base.proofs.Pick.{pick-case}
-use Rattle.node.specs.Effect.{Lent, lent, outcome, applied, further, furtherAfter, Further, Join}
+use Rattle.node.specs.Effect.{Lent, lent, outcome, applied, Further, furtherAfter, Join}
 use Rattle.node.specs.Route.{writes}
-use Rattle.node.specs.Calls.{writeDropped, routed, passedBy}
+use Rattle.node.specs.Calls.{routed, passedBy}
 use Rattle.node.specs.declared.Node.{Node}
 use Rattle.node.specs.declared.Route.{Route}
 use Rattle.node.specs.declared.Turn.{Turn}

@@ -2,8 +2,7 @@
 ghost use mathlib.Core.Path.{_≡_};
 ghost use mathlib.Core.List.{List};
 ghost use Prim.Native.Nat.{ℕ, _+_, _≤_};
-ghost use lib.ListN.{length, drop};
-ghost use Rattle.base.specs.Words.{laid};
+ghost use lib.ListN.{length};
 ghost use Rattle.group.specs.Ending.{zeroReply};
 ghost use Rattle.memory.specs.Segment.{Memories};
 ghost use Rattle.node.specs.State.{turn, joining, withWriting};

@@ -4,7 +4,7 @@ use native.Mathlib.Omega.{arith}
 use lib.ListN.{length}
 use Rattle.base.proofs.Pick.{via}
 use Rattle.memory.specs.Segment.{memories}
-use Rattle.node.specs.Effect.{Lent, lent, further, Outcome, outcome, applied}
+use Rattle.node.specs.Effect.{Lent, lent, further, Outcome, outcome}
 use Rattle.node.specs.Route.{routeOf}
 use Rattle.node.specs.Calls.{judged, routed, requestOf}
 use Rattle.node.specs.declared.Route.{Route}
