@@ -1,6 +1,6 @@
 /* logodwen.h: the reference node for a host in C (liblogodwen.a).
 
-   A node is a state machine without memory of its own: the host keeps the node's state as 172 bytes, its flash and its memories as
+   A node is a state machine without memory of its own: the host keeps the node's state as 180 bytes, its flash and its memories as
    runs of bytes, and lends them to each call. There are five calls, and one that works out a check sequence:
 
        logodwen_start      a node starts on a flash
@@ -23,6 +23,8 @@
    - A run of no bytes may be lent as NULL with length 0.
    - While a group is pending (an answer was LOGODWEN_ASK), the words from 0 on of the reply buffer hold what was gathered so far, and
      the host leaves them as they are until the answer LOGODWEN_REPLY comes. The reply buffer is zeroed at power-up.
+   - While a file comes in several packets (an answer was NEXT), the words from 0 on of the area hold what was joined so far, and the host
+     leaves the area as it is until the last packet is answered or the file is dropped. Every request is lent the area.
    - The host keeps the request that made the node ask a slave: it sends it on to each slave that the node asks, from the word that
      the answer tells. The node does not keep it.
 
@@ -47,21 +49,23 @@ extern "C" {
 #endif
 
 /* The version of this interface. It is part of every symbol, so a host that was compiled against another version does not link. */
-#define LOGODWEN_VERSION 1
+#define LOGODWEN_VERSION 2
 
 /* Sizes. */
-#define LOGODWEN_STATE_BYTES 172u         /* of a node's state, exactly; the layout is at the end of this file */
+#define LOGODWEN_STATE_BYTES 180u         /* of a node's state, exactly; the layout is at the end of this file */
 #define LOGODWEN_FLASH_WORDS 32768u       /* of the flash, exactly */
 #define LOGODWEN_FLASH_BYTES 65536u
 #define LOGODWEN_REPLY_WORDS 12288u       /* of the reply buffer, at least */
 #define LOGODWEN_REPLY_BYTES 24576u
+#define LOGODWEN_AREA_WORDS 32768u        /* of the area where the packets of a file join, at least; and of such a file, at most */
+#define LOGODWEN_AREA_BYTES 65536u
 #define LOGODWEN_PM_WORDS 8192u           /* of program memory, at most; words of four bytes */
 #define LOGODWEN_PM_BYTES 32768u
 #define LOGODWEN_DM_WORDS 8192u           /* of data memory, at most */
 #define LOGODWEN_DM_BYTES 16384u
 #define LOGODWEN_IO_WORDS 4096u           /* of IO registers, at most */
 #define LOGODWEN_IO_BYTES 8192u
-#define LOGODWEN_REQUEST_WORDS 8192u      /* of a request that is not answered ERROR, at most */
+#define LOGODWEN_REQUEST_WORDS 8192u      /* of a packet of a request that is not answered ERROR, at most */
 #define LOGODWEN_REQUEST_BYTES 16384u
 #define LOGODWEN_SLAVE_REPLY_WORDS 32768u /* of a slave's reply, at most */
 #define LOGODWEN_SLAVE_REPLY_BYTES 65536u
@@ -84,8 +88,12 @@ extern "C" {
 #define LOGODWEN_CDDC 2u /* forwards to slaves 0 to 23 */
 
 /* BC, the two bits that come with a packet. Bit 1 (BC1) marks the first packet of a block, bit 0 (BC2) the last. A packet with words
-   that is a whole block has 3; a packet of no words says one of four things by its BC. */
+   that is a whole block has 3; a File Write may come as a block of several. A packet of no words says one of four things by its BC. */
 #define LOGODWEN_BC_WHOLE 3u
+#define LOGODWEN_BC_FIRST 2u
+#define LOGODWEN_BC_MIDDLE 0u
+#define LOGODWEN_BC_LAST 1u
+
 #define LOGODWEN_BC_NEXT 0u
 #define LOGODWEN_BC_ERROR 1u
 #define LOGODWEN_BC_ABORT 2u
@@ -96,8 +104,9 @@ extern "C" {
 #define LOGODWEN_REFUSED_FLASH_SIZE 1u  /* the flash is not 32,768 words, or the state was started on another size */
 #define LOGODWEN_REFUSED_REPLY_SIZE 2u  /* the reply buffer is below 12,288 words */
 #define LOGODWEN_REFUSED_MEMORY_SIZE 3u /* PM or DM above 8,192 words, IO above 4,096, or a slave's reply above 32,768 */
+#define LOGODWEN_REFUSED_AREA_SIZE 8u   /* the area is below 32,768 words: tested here, between 3 and 4 */
 #define LOGODWEN_REFUSED_NUMBER 4u      /* a link that is no port; a slave above 23; at start a kind, ports or sub-detector that is none */
-#define LOGODWEN_REFUSED_STATE 5u       /* the state bytes are not 172, or not those of a node's state */
+#define LOGODWEN_REFUSED_STATE 5u       /* the state bytes are not 180, or not those of a node's state */
 #define LOGODWEN_REFUSED_BUSY 6u        /* a request with words, while a request is pending */
 #define LOGODWEN_REFUSED_UNASKED 7u     /* a reply or a poll with nothing pending, or a reply from a slave that is not being asked */
 
@@ -106,7 +115,7 @@ extern "C" {
 #define LOGODWEN_ASK 2u     /* a slave is to be sent the request, from some word on */
 #define LOGODWEN_WAITING 3u /* poll only: the slave is not late yet */
 
-/* The entries. Names that begin with logodwen1_ are the symbols of the archive; a host writes the short names below. */
+/* The entries. Names that begin with logodwen2_ are the symbols of the archive; a host writes the short names below. */
 
 /* Starts a node on a flash: reads all of it once, and writes the state. Answers 0, or why it is refused: 1, 4 or 5; the state bytes
    then stay as they were.
@@ -117,35 +126,42 @@ extern "C" {
                            two words that the node's status tells
      start_tests           results of the tests at start, bits 11 to 8; other bits are ignored
      clock                 the time now */
-uint32_t logodwen1_start(uint32_t kind, uint32_t ports, uint32_t subdetector,
+uint32_t logodwen2_start(uint32_t kind, uint32_t ports, uint32_t subdetector,
                          uint16_t program_version, uint16_t subdetector_version, uint16_t start_tests,
                          uint32_t clock,
                          const uint8_t *flash, size_t flash_len,
                          uint8_t *state, size_t state_len);
 
-/* A packet from a master. Refused: 1, 2, 3, 4, 5 or 6. Answers a reply or asks a slave.
+/* A packet from a master. Refused: 1, 2, 3, 8, 4, 5 or 6. Answers a reply or asks a slave.
      now                   the time now
      link                  the link it came in on, below the ports given at start
      bc                    its BC; bits above bit 1 are ignored
      receive_error         0, or any other number if the receiver noticed an error
-     packet                its words; of no words with BC 2 on the link of the pending request, it drops that request
-     state, flash, pm, dm, io, reply
-                           the node's own, each changed as the request has it. Of the reply buffer only the words of a reply that has
-                           words are written. */
-uint64_t logodwen1_request(uint32_t now, uint32_t link, uint32_t bc, uint32_t receive_error,
+     packet                its words; of no words with BC 2, it drops what is that link's: the pending request, the file that comes in
+                           several packets
+     state, flash, pm, dm, io, area, reply
+                           the node's own, each changed as the request has it. Of the area only the words of a packet that joins are
+                           written, of the reply buffer those of a reply that has words.
+   A File Write whose file has no room in one packet comes in several, from one link: the first with BC 2, whose word 0 is 0x452E; others
+   with BC 0, the last with BC 1, which have words of the file alone. Each but the last is answered NEXT, and nothing is tested of the
+   words that it brings; the last is answered as a File Write of them all. At most one file comes so at a time, and requests of other
+   links go on meanwhile. It is dropped, and nothing of it stored, where it gets longer than 32,768 words (ABORT), by a packet with words
+   and BC 2 or 3 from its link (ERROR), or by one of no words and BC 2 (END). */
+uint64_t logodwen2_request(uint32_t now, uint32_t link, uint32_t bc, uint32_t receive_error,
                            const uint8_t *packet, size_t packet_len,
                            uint8_t *state, size_t state_len,
                            uint8_t *flash, size_t flash_len,
                            uint8_t *pm, size_t pm_len,
                            uint8_t *dm, size_t dm_len,
                            uint8_t *io, size_t io_len,
+                           uint8_t *area, size_t area_len,
                            uint8_t *reply, size_t reply_len);
 
 /* A packet from the slave that is being asked. Refused: 2, 3, 4, 5 or 7. Answers a reply or asks the next slave.
      slave                 the slave it came from, 0 to 23
      bc, receive_error     as above
      rx_status, rx_address two words of the receiver, told in the group's reply where something was wrong */
-uint64_t logodwen1_reply(uint32_t now, uint32_t slave, uint32_t bc, uint32_t receive_error,
+uint64_t logodwen2_reply(uint32_t now, uint32_t slave, uint32_t bc, uint32_t receive_error,
                          uint16_t rx_status, uint16_t rx_address,
                          const uint8_t *packet, size_t packet_len,
                          uint8_t *state, size_t state_len,
@@ -153,28 +169,28 @@ uint64_t logodwen1_reply(uint32_t now, uint32_t slave, uint32_t bc, uint32_t rec
 
 /* Time went by while a slave is being asked. Refused: 2, 5 or 7. Answers that the node waits; or the slave is late, and it answers a
    reply or asks the next slave. */
-uint64_t logodwen1_poll(uint32_t now,
+uint64_t logodwen2_poll(uint32_t now,
                         uint8_t *state, size_t state_len,
                         uint8_t *reply, size_t reply_len);
 
 /* Goes on with an erasure that a request began: sets up to `budget` words of the sector to FFFF, from its low end. Refused: 1 or 5.
    Answers how many words it set (logodwen_words); 0 where the budget is 0 or nothing is being erased. */
-uint64_t logodwen1_erase(uint64_t budget,
+uint64_t logodwen2_erase(uint64_t budget,
                          uint8_t *state, size_t state_len,
                          uint8_t *flash, size_t flash_len);
 
 /* The check sequence (FCS) of the words of bytes: polynomial 0x1021, start 0xFFFF, high byte of each word first. A last byte alone is
    ignored. */
-uint16_t logodwen1_fcs(const uint8_t *bytes, size_t len);
+uint16_t logodwen2_fcs(const uint8_t *bytes, size_t len);
 
-#define logodwen_start logodwen1_start
-#define logodwen_request logodwen1_request
-#define logodwen_reply logodwen1_reply
-#define logodwen_poll logodwen1_poll
-#define logodwen_erase logodwen1_erase
+#define logodwen_start logodwen2_start
+#define logodwen_request logodwen2_request
+#define logodwen_reply logodwen2_reply
+#define logodwen_poll logodwen2_poll
+#define logodwen_erase logodwen2_erase
 
 /* The same of so many words. It ends a segment's body and every reply that has words. */
-static inline uint16_t logodwen_fcs(const uint8_t *bytes, size_t words) { return logodwen1_fcs(bytes, 2 * words); }
+static inline uint16_t logodwen_fcs(const uint8_t *bytes, size_t words) { return logodwen2_fcs(bytes, 2 * words); }
 
 /* ---- What was answered, taken apart. A call that is refused has no other part. ---- */
 
@@ -216,8 +232,14 @@ static inline const char *logodwen_refusal_text(unsigned refusal) {
     case LOGODWEN_REFUSED_STATE: return "5: the state bytes are not those of a node's state";
     case LOGODWEN_REFUSED_BUSY: return "6: a request while one is pending";
     case LOGODWEN_REFUSED_UNASKED: return "7: nothing is pending, or another slave is being asked";
+    case LOGODWEN_REFUSED_AREA_SIZE: return "8: the area is below 32,768 words";
     default: return "not a refusal";
     }
+}
+
+/* Whether the answer is NEXT: the node waits for the next packet of a file. */
+static inline bool logodwen_is_next(uint64_t answered) {
+    return logodwen_bc(answered) == LOGODWEN_BC_NEXT && logodwen_words(answered) == 0;
 }
 
 /* A reply's name, of an answer that is LOGODWEN_REPLY: "DATA" where it has words. */
@@ -257,12 +279,12 @@ static inline void logodwen_put_pm(uint8_t *bytes, size_t word, uint32_t value) 
 
 /* All zero it is a node before its first start, without PM, DM and IO. A host that has such memories lends its own bytes. */
 struct logodwen_node {
-    uint8_t state[LOGODWEN_STATE_BYTES], flash[LOGODWEN_FLASH_BYTES], reply[LOGODWEN_REPLY_BYTES];
+    uint8_t state[LOGODWEN_STATE_BYTES], flash[LOGODWEN_FLASH_BYTES], area[LOGODWEN_AREA_BYTES], reply[LOGODWEN_REPLY_BYTES];
     uint8_t *pm, *dm, *io;
     size_t pm_len, dm_len, io_len; /* in bytes */
 };
 
-/* What is given at start: see logodwen1_start. */
+/* What is given at start: see logodwen2_start. */
 struct logodwen_given {
     uint32_t kind, ports, subdetector;
     uint16_t program_version, subdetector_version, start_tests;
@@ -281,14 +303,20 @@ static inline uint32_t logodwen_node_start(struct logodwen_node *node, const str
 static inline uint64_t logodwen_node_request(struct logodwen_node *node, uint32_t now, uint32_t link, uint32_t bc,
                                              uint32_t receive_error, const uint8_t *packet, size_t words) {
     return logodwen_request(now, link, bc, receive_error, packet, 2 * words, node->state, sizeof node->state, node->flash,
-                            sizeof node->flash, node->pm, node->pm_len, node->dm, node->dm_len, node->io, node->io_len, node->reply,
-                            sizeof node->reply);
+                            sizeof node->flash, node->pm, node->pm_len, node->dm, node->dm_len, node->io, node->io_len, node->area,
+                            sizeof node->area, node->reply, sizeof node->reply);
 }
 
 /* A request that came in whole and without errors. */
 static inline uint64_t logodwen_node_send(struct logodwen_node *node, uint32_t now, uint32_t link, const uint8_t *packet,
                                           size_t words) {
     return logodwen_node_request(node, now, link, LOGODWEN_BC_WHOLE, 0, packet, words);
+}
+
+/* A request of no words that drops what is this link's: the pending request, the file that comes in packets. Answers END; ABORT where it
+   has neither. */
+static inline uint64_t logodwen_node_drop(struct logodwen_node *node, uint32_t now, uint32_t link) {
+    return logodwen_node_request(node, now, link, LOGODWEN_BC_ABORT, 0, NULL, 0);
 }
 
 static inline uint64_t logodwen_node_reply(struct logodwen_node *node, uint32_t now, uint32_t slave, uint32_t bc,
@@ -664,6 +692,39 @@ static inline size_t logodwen_make_file_write(uint8_t *packet, size_t room, cons
     return words == 0 || words >= LOGODWEN_REQUEST_WORDS ? 0 : logodwen_make_with(packet, room, LOGODWEN_ID_FILE_WRITE, bytes, words);
 }
 
+/* The next packet of a File Write, from word *at of the file on: as many words as have room, and at most 8,192. Answers how many the packet
+   has, says its BC, and moves *at on; 0 where the file has no more words, or there is no room for one. Up to 8,191 words it is one packet,
+   if there is room. The next is sent once this one is answered NEXT:
+
+       uint32_t bc;
+       for (size_t at = 0, laid; (laid = logodwen_make_file_packet(packet, room, file, words, &at, &bc)) != 0;) .. */
+static inline size_t logodwen_make_file_packet(uint8_t *packet, size_t room, const uint8_t *bytes, size_t words, size_t *at, uint32_t *bc) {
+    size_t head = *at == 0 ? 1 : 0, most = room < LOGODWEN_REQUEST_WORDS ? room : LOGODWEN_REQUEST_WORDS;
+    *bc = LOGODWEN_BC_WHOLE;
+    if (*at >= words || most <= head) return 0;
+    size_t left = words - *at, laid = left < most - head ? left : most - head;
+    if (head != 0) logodwen_make_command(packet, LOGODWEN_ID_FILE_WRITE);
+    memcpy(packet + 2 * head, bytes + 2 * *at, 2 * laid);
+    *bc = (head != 0 ? LOGODWEN_BC_FIRST : LOGODWEN_BC_MIDDLE) | (laid == left ? LOGODWEN_BC_LAST : 0u);
+    *at += laid;
+    return head + laid;
+}
+
+/* Writes a file of any length to a node in one struct, by one packet or as many as it takes, each laid in `packet`. Answers what the last
+   one was answered, which is the first that was not answered NEXT, and says how many words of the file were sent: all, or fewer where one
+   before the last was answered otherwise, as by ABORT where the file is above 32,768 words. */
+static inline uint64_t logodwen_node_write(struct logodwen_node *node, uint32_t now, uint32_t link, uint8_t *packet, size_t room,
+                                           const uint8_t *bytes, size_t words, size_t *sent) {
+    uint64_t answered;
+    uint32_t bc;
+    *sent = 0;
+    do {
+        size_t laid = logodwen_make_file_packet(packet, room, bytes, words, sent, &bc);
+        answered = logodwen_node_request(node, now, link, bc, 0, packet, laid);
+    } while (*sent < words && logodwen_is_next(answered));
+    return answered;
+}
+
 static inline size_t logodwen_make_ping(uint8_t *packet, size_t room, const uint8_t *bytes, size_t words) {
     return words > 8000u ? 0 : logodwen_make_with(packet, room, LOGODWEN_ID_PING, bytes, words);
 }
@@ -894,6 +955,9 @@ static inline size_t logodwen_read_fragment(const uint8_t *reply, size_t words, 
 #define LOGODWEN_AT_BUILT 40u               /* 4: group: words gathered so far */
 #define LOGODWEN_AT_MASKS 44u               /* 64: masks 0 to 15, four bytes each */
 #define LOGODWEN_AT_DIRECTORY 108u          /* 64: four words for each of the sectors 3 to 10: first word, address, status, 0 */
+#define LOGODWEN_AT_WRITE 172u              /* 1: 1 if a file comes in several packets, else 0 */
+#define LOGODWEN_AT_WRITE_LINK 173u         /* 1: .. its link; the bytes 174 and 175 are 0 */
+#define LOGODWEN_AT_JOINED 176u             /* 4: .. words joined so far, at most 32,768 */
 
 #ifdef __cplusplus
 }

@@ -55,8 +55,10 @@ FORMS = (raw, in_hex, in_rows, in_old_rows)
 
 
 def exactly(pick, length, name=0x21):
-    """A valid file of that many words."""
-    words = file_of([some(pick, DM, length - 3)], pick.randrange(2), pick.randrange(4), name)
+    """A valid file of that many words, in DM segments of 16,000 and a rest."""
+    parts = [16000] * ((length - 5) // 16000)
+    parts.append(length - 1 - sum(parts))
+    words = file_of([some(pick, DM, part - 2) for part in parts], pick.randrange(2), pick.randrange(4), name)
     assert len(words) == length
     return words
 
@@ -159,7 +161,7 @@ def damaged_files(pick):
     yield "blank", [0xFFFF] * 64
     yield "zeros", [0] * 64
     yield "nothing", []
-    for length in (4097, 5000, 8191, 8192, 9000):
+    for length in (4097, 5000, 8191, 8192, 9000, 16383, 16384, 32767, 32768, 32769, 41000):
         yield "words-%d" % length, exactly(pick, length)
         yield "words-%d-and-a-bit" % length, with_bit(pick, exactly(pick, length), 3, length - 1)
 

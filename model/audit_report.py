@@ -5,8 +5,8 @@ import re
 
 from files import BYTES, MEMORIES, PAGES, PM, file_length, may_start, name_of, permitted, unpacked
 from flash import BAD, EMPTY, GOOD, SECTORS, address_of, afresh, kept, named, words_in
-from group import ABORT, AREA, END, ERROR
-from node import CDP, Lent, erase, request, start
+from group import ABORT, AREA, END, NEXT
+from node import CDP, JOINED, Lent, erase, request, start
 from runs import check_sequence
 
 HOLDS = "a bench flash holds eight files, one of at most 2,048 and seven of at most 4,096 words"
@@ -135,14 +135,26 @@ class Bench:
     """A node on a flash, as host/audit has it."""
 
     def __init__(self, flash=None):
-        self.lent = Lent(flash or [0xFFFF] * 32768, {"PM": [], "DM": [], "IO": []}, [0] * AREA)
+        self.lent = Lent(flash or [0xFFFF] * 32768, {"PM": [], "DM": [], "IO": []}, [0] * JOINED, [0] * AREA)
         self.node, answer = start(CDP, 1, 0, 0, 0, 0, 0, self.lent.flash)
         assert answer == ("started",)
 
-    def command(self, number, *parameters):
-        self.node, answer = request(self.node, self.lent, 0, 0, 3, 0, [number << 8 | 0x2E, *parameters])
+    def packet(self, bc, words):
+        self.node, answer = request(self.node, self.lent, 0, 0, bc, 0, words)
         assert answer[0] == "reply"
         return answer[1:]
+
+    def command(self, number, *parameters):
+        return self.packet(3, [number << 8 | 0x2E, *parameters])
+
+    def write(self, words):
+        """File Write, in packets as long as they may be where one is too short for it: the first answer that isn't NEXT."""
+        if len(words) < 8192:
+            return self.command(0x45, *words)
+        answer, at = self.packet(2, [0x452E, *words[:8191]]), 8191
+        while answer == (NEXT, 0):
+            answer, at = self.packet(int(at + 8192 >= len(words)), words[at:at + 8192]), at + 8192
+        return answer
 
     def refusal(self, words):
         """Why a valid file was refused."""
@@ -157,10 +169,10 @@ class Bench:
 
     def verdict(self, words):
         """Sector, verdict and detail."""
-        bc, _ = self.command(0x45, *words)
-        if bc == ERROR:
-            limit = "a request has at most 8,192, so File Write takes at most 8,191"
-            return None, "TOO-LARGE", "%d words; %s; %s" % (len(words), limit, HOLDS)
+        bc, _ = self.write(words)
+        if len(words) > JOINED:
+            assert bc == ABORT
+            return None, "TOO-LARGE", "%d words; File Write takes at most 32,768, in several packets; %s" % (len(words), HOLDS)
         if bc == ABORT:
             rule = broken_rule(words)
             return (None, "INVALID", rule) if rule else (None, *self.refusal(words))

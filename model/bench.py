@@ -92,7 +92,7 @@ def help_lines():
 
 class Bench:
     def __init__(self):
-        self.lent = calls.Lent([0xFFFF] * 32768, {PM: [0] * 32768, DM: [0] * 32768, IO: [0] * 4096}, [0] * 12288)
+        self.lent = calls.Lent([0xFFFF] * 32768, {PM: [0] * 32768, DM: [0] * 32768, IO: [0] * 4096}, [0] * 32768, [0] * 12288)
         self.node, _ = calls.start(calls.CDDC, 4, 0, 0, 0, 0, 0, self.lent.flash)
         self.clock, self.error, self.held = 0, 0, []
 

@@ -44,11 +44,41 @@ def long_lines():
     yield fields(0, 3, b"072E")
 
 
+def divided(run, most, link=1):
+    """A file in packets of at most so many words, two or more; the first with its header word."""
+    ends = [*range(most - 1, len(run), most), len(run)]
+    for at, end in zip([0, *ends], ends):
+        bc = 2 if at == 0 else 1 if end == len(run) else 0
+        yield fields(link, bc, *([b"452E"] if at == 0 else []), *words(run[at:end]))
+
+
+def long_writes():
+    """Files in several packets, as long as a sector, as long as the area, and longer."""
+    data = [word * 25173 % 65536 for word in range(17000)]
+    largest = file_of([segment(DM, 0x2000, data[:count]) for count in (16000, 16000, 758)], name=0x16)
+    for name, run in ((0x17, data[:2044]), (0x18, data[:4092]), (0x19, data[:4093]), (0x1A, data[:12000])):
+        for most in (min(8192, len(run)), 1500, 700):
+            yield from divided(file_of([segment(DM, 0x2000, run)], name=name), most)
+            yield fields(0, 3, b"052E", b"%04X" % (name << 4 | 1))
+            yield fields(0, 3, b"472E", b"%04X" % (name << 4 | 1))
+            yield fields(b"erase", 4096)
+    assert len(largest) == 32768
+    for run in (largest, largest + [0], largest + largest):
+        yield from divided(run, 8192)
+        yield fields(1, 0, b"0001")
+        yield fields(0, 3, b"072E")
+        yield fields(1, 2)
+    yield fields(1, 2, b"452E", *words(data[:8192]))
+    yield fields(0, 3, b"0C2E")
+
+
 def odd_lines(pick):
     """Lines of the right shape, most of them what the node waits for, and lines with a byte changed, put in or left out."""
     bench = Bench()
     kinds = (
         lambda: fields(pick.choice((0, 1, 2, 3, 4)), pick.choice((3, 3, 3, 3, 2, 0, 1)), *words(packet(pick))),
+        lambda: fields(writing(bench, pick), pick.choice((0, 0, 0, 1, 1)), *words(pick.choice((file_part(pick), packet(pick)[1:])))),
+        lambda: fields(pick.randrange(4), 2, b"452E", *words(file_part(pick))),
         lambda: fields(b"reply", asked(bench, pick), pick.randrange(4), pick.choice((0, 0, 0, 1)), b"00FF", b"abcd", *words(answer(pick))),
         lambda: b"poll",
         lambda: fields(b"erase", pick.choice((0, 1, 100, 1000, 4096, 2**64 - 1, 2**64))),
@@ -57,7 +87,7 @@ def odd_lines(pick):
         lambda: fields(b"#", 1),
     )
     for _ in range(4000):
-        weights = (2, 20, 2, 1, 1, 1, 1) if bench.node.pending else (20, 1, 1, 4, 1, 1, 1)
+        weights = (2, 1, 1, 20, 2, 1, 1, 1, 1) if bench.node.pending else (15, 6, 4, 1, 1, 4, 1, 1, 1)
         line = pick.choices(kinds, weights)[0]()
         line = spoiled(pick, line) if pick.randrange(5) == 0 else line
         bench.line(0, line)
@@ -67,6 +97,17 @@ def odd_lines(pick):
 def asked(bench, pick):
     """Mostly the slave now being asked."""
     return bench.node.pending.slave if bench.node.pending and pick.randrange(8) else pick.randrange(25)
+
+
+def writing(bench, pick):
+    """Mostly the link whose write stands."""
+    return bench.node.write.link if bench.node.write and pick.randrange(5) else pick.randrange(5)
+
+
+def file_part(pick):
+    """A file, or the front of one, or the back."""
+    run = file_of([segment(DM, 0x2000, [5, 6, 7])], name=pick.randrange(4))
+    return pick.choice((run, run[:4], run[4:], run[:1], []))
 
 
 def spoiled(pick, line):
@@ -105,7 +146,11 @@ def main(arguments):
         return 2
     folder = pathlib.Path(arguments[0])
     folder.mkdir(parents=True, exist_ok=True)
-    scripts = {"long": b"\n".join(long_lines()), "odd": b"\n".join(odd_lines(random.Random(1))) + b"\n"}
+    scripts = {
+        "long": b"\n".join(long_lines()),
+        "writes": b"\n".join(long_writes()),
+        "odd": b"\n".join(odd_lines(random.Random(1))) + b"\n",
+    }
     for name, script in scripts.items():
         (folder / (name + ".txt")).write_bytes(script)
         (folder / (name + ".stdout")).write_text(printed(script))

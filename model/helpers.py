@@ -71,6 +71,19 @@ def perform_io(room, *held):
     return fitting(room, own(0x0F, *segment) if segment else [])
 
 
+def packets(room, *held):
+    """A File Write as the packets of 02, request 1, as many words each as have room and at most 8,192: each behind its BC and its length;
+    behind them BC 11, of no packet."""
+    most, block = min(room, 8192), own(0x45, *held)
+    if most < 2 or not held:
+        return [3]
+    parts = [block[at:at + most] for at in range(0, len(block), most)]
+    told = []
+    for number, part in enumerate(parts):
+        told += [(number == 0) * 2 + (number == len(parts) - 1), len(part), *part]
+    return told + [3]
+
+
 REQUESTS = {
     "status": lambda: own(0x0C),
     "summary": lambda: own(0x07),
@@ -89,6 +102,7 @@ REQUESTS = {
     "pm_write": write_of(0x50, PM),
     "dm_write": write_of(0x51, DM),
     "perform_io": perform_io,
+    "packets": packets,
     "file_write": lambda room, *held: fitting(room, own(0x45, *held) if 0 < len(held) < 8192 else []),
     "ping": lambda room, *held: fitting(room, own(0x0D, *held) if len(held) <= 8000 else []),
     "to_slave": lambda slave: [0x3F00 | slave] if slave < 24 else [],
@@ -142,6 +156,9 @@ def request_lines():
         for count in (0, 1, 7, 8000, 8001, 8191, 8192):
             for room in (0, count, count + 1, 9000):
                 yield line(name, room, *words(count))
+    for count in (0, 1, 2, 7, 100, 8191, 8192, 8193, 16383, 16384, 20000, 32768):
+        for room in (0, 1, 2, 3, count, count + 1, 8191, 8192, 9000):
+            yield line("packets", room, *words(count))
 
 
 # Files and segments.
@@ -235,7 +252,7 @@ def status_lines():
         versions, tests, subdetector = words(2), word(), chance.randrange(8)
         image = [0xFFFF] * 32768
         state, _ = node.start(kind, ports, subdetector, *versions, tests, clock, image)
-        lent = node.Lent(image, {PM: [], DM: [], IO: []}, [0] * 12288)
+        lent = node.Lent(image, {PM: [], DM: [], IO: []}, [0] * 32768, [0] * 12288)
         for _ in range(chance.randrange(3)):
             state, _ = node.request(state, lent, clock, 0, 3, 1, [])
         ticks, link = chance.getrandbits(32), chance.randrange(ports)

@@ -1,5 +1,5 @@
-"""The whole node, from document 01: its state, the refusals, requests, own commands, and the five calls start, request, reply, poll
-and erase. A call takes a node and what it is lent, and hands back the next node with the answer; lent lists change in place, and
+"""The whole node, from document 01 and request 1 of 02: its state, the refusals, requests, own commands, and the five calls start,
+request, reply, poll and erase. A call takes a node and what it is lent, and hands back the next node with the answer; lent lists change in place, and
 only if the call is accepted. An answer is a tuple: ("refused", number), ("started",), ("reply", BC, words in the reply buffer),
 ("ask", slave, word from which the request is sent on), ("waiting",), or ("erased", words set)."""
 
@@ -9,12 +9,13 @@ from typing import Optional
 from files import DM, IO, PM, file_length, name_of, sealed, segment_at, segments_of
 from flash import BAD, EMPTY, GOOD, SECTORS, SIZES, STATUS, attributed, blank, directory_of, entry, entry_of, extent, laid, named
 from flash import place_for, sector_to_erase, status_in, store, words_in
-from group import ABORT, AREA, END, ERROR, Answer, ending, fragment, is_late, single, slaves_of, tally_with, zero_length
+from group import ABORT, AREA, END, ERROR, NEXT, Answer, ending, fragment, is_late, single, slaves_of, tally_with, zero_length
 from memory import fits, load, perform, read
 
 CDP, CDDC = 1, 2
 SLAVES = 24
 ALL = (1 << SLAVES) - 1  # the mask of all slaves
+JOINED = 32768  # words of a file that comes in several packets, at most: so many are lent to join them in
 
 
 # The state.
@@ -45,6 +46,14 @@ class Pending:
 
 
 @dataclass(frozen=True)
+class Write:
+    """A File Write of which a first packet came and no last one yet (02, request 1)."""
+
+    link: int
+    joined: int  # words so far, in the lent area
+
+
+@dataclass(frozen=True)
 class Node:
     kind: int = 0
     ports: int = 0
@@ -61,6 +70,7 @@ class Node:
     directory: tuple = (0,) * 32
     erasing: Optional[Erasing] = None
     pending: Optional[Pending] = None
+    write: Optional[Write] = None
 
 
 ZEROS = Node()  # what a refused start hands back
@@ -72,6 +82,7 @@ class Lent:
 
     flash: list
     memories: dict  # by the names PM, DM and IO
+    area: list  # in which the packets of a File Write are joined
     reply: list
 
 
@@ -80,7 +91,7 @@ def more(count):
     return min(count + 1, 0xFFFF)
 
 
-# Call refusals: the first cause that holds, of those that the call has, in the order of the table.
+# Call refusals: the first cause that holds, of those that the call has, in the order of the table; 8 comes behind 3.
 
 
 def flash_refused(flash, node):
@@ -93,6 +104,10 @@ def buffer_refused(reply):
 
 def memories_refused(memories):
     return len(memories[PM]) > 32768 or len(memories[DM]) > 32768 or len(memories[IO]) > 4096
+
+
+def area_refused(area):
+    return len(area) < JOINED
 
 
 def start_refused(kind, ports, subdetector):
@@ -118,12 +133,18 @@ def erasing_refused(node):
     return sector not in SECTORS or done >= len(extent(node.flash_words, sector))
 
 
+def write_refused(node):
+    return node.write.link >= node.ports or node.write.joined > JOINED
+
+
 def state_refused(node):
     if start_refused(node.kind, node.ports, node.subdetector) or node.mode not in range(4):
         return True
     if node.flash_words not in SIZES or any(mask > ALL for mask in node.masks):
         return True
     if node.erasing is not None and erasing_refused(node):
+        return True
+    if node.write is not None and write_refused(node):
         return True
     return node.pending is not None and pending_refused(node)
 
@@ -325,7 +346,7 @@ def attribute_set(node, lent, now, link, parameters):
     return with_entry(node, sector, entry(sector, header, GOOD)), END
 
 
-ANY = range(8192)
+ANY = range(JOINED + 1)  # as many as come
 COMMANDS = {  # by request ID: the command and its parameter counts
     0x0C: (read_status, (0,)),
     0x0D: (ping, range(8001)),
@@ -350,9 +371,8 @@ OF_MASKS = (0x17, 0x57)
 NOT_WHILE_ERASING = (0x05, 0x45, 0x06, 0x46, 0x47, 0x48)
 
 
-def own_command(node, lent, now, link, packet):
+def own_command(node, lent, now, link, number, parameters):
     """Step 6, and the reply."""
-    number, parameters = packet[0] >> 8, packet[1:]
     if number not in COMMANDS or number in OF_MASKS and node.kind == CDP:
         return node, zero_reply(ABORT)
     if node.erasing is not None and number in NOT_WHILE_ERASING:
@@ -400,19 +420,73 @@ def forwarded(node, now, link, packet):
     return replace(node, pending=Pending(link, slave, now, group)), ("ask", slave, stripped)
 
 
+# 02, request 1: a File Write in several packets.
+
+
+def of_link(kept, link):
+    """Whether a pending request or a standing write is there, and that link's."""
+    return kept is not None and kept.link == link
+
+
+def without_words(node, link, bc):
+    """Step 2: what is that link's is dropped, a pending request, a standing write, or both."""
+    pending, write = of_link(node.pending, link), of_link(node.write, link)
+    if bc != 0b10 or not pending and not write:
+        return node, zero_reply(ABORT)
+    return replace(node, pending=None if pending else node.pending, write=None if write else node.write), zero_reply(END)
+
+
+def broken_off(node):
+    """ERROR to a packet with words that ends the write of its own link."""
+    return counted(replace(node, write=None))
+
+
+def joined(node, lent, link, before, words):
+    """The words stand behind those joined before."""
+    lent.area[before:before + len(words)] = words
+    return replace(node, write=Write(link, before + len(words)))
+
+
+def first_packet(node, lent, link, packet):
+    """BC 10: it is for File Write alone, its header word whole."""
+    if of_link(node.write, link):
+        return broken_off(node)
+    if packet[0] != 0x452E:
+        return counted(node)
+    if node.write is not None:
+        return node, zero_reply(ABORT)
+    return joined(node, lent, link, 0, packet[1:]), zero_reply(NEXT)
+
+
+def later_packet(node, lent, now, link, is_last, packet):
+    """BC 00 or 01: all words of it are joined. The last one is answered as the joined words in one packet would be."""
+    if not of_link(node.write, link):
+        return counted(node)
+    if node.write.joined + len(packet) > JOINED:
+        return replace(node, write=None), zero_reply(ABORT)
+    node = joined(node, lent, link, node.write.joined, packet)
+    if not is_last:
+        return node, zero_reply(NEXT)
+    return own_command(replace(node, write=None), lent, now, link, 0x45, lent.area[:node.write.joined])
+
+
 def answered(node, lent, now, link, bc, receive_error, packet):
     """Steps 1 to 6."""
     if receive_error:
         return counted(node)
     if not packet:
-        if bc & 3 == 0b10 and node.pending is not None and node.pending.link == link:
-            return replace(node, pending=None), zero_reply(END)
-        return node, zero_reply(ABORT)
-    if len(packet) > 8192 or bc & 3 != 0b11:
+        return without_words(node, link, bc)
+    if len(packet) > 8192:
         return counted(node)
+    if bc == 0b10:
+        return first_packet(node, lent, link, packet)
+    if bc != 0b11:
+        return later_packet(node, lent, now, link, bc == 0b01, packet)
+    if of_link(node.write, link):
+        return broken_off(node)
     first = packet[0] & 0xFF
     if first == 0x2E:
-        return own_command(node, lent, now, link, packet)
+        return own_command(node, lent, now, link, packet[0] >> 8, packet[1:])
     if first < SLAVES or first in (0x40, 0x23, 0x2A):
         return forwarded(node, now, link, packet)
     return counted(node)
@@ -470,13 +544,14 @@ def request(node, lent, now, link, bc, receive_error, packet):
         (1, flash_refused(lent.flash, node)),
         (2, buffer_refused(lent.reply)),
         (3, memories_refused(lent.memories)),
+        (8, area_refused(lent.area)),
         (4, link >= node.ports),
         (5, state_refused(node)),
         (6, len(packet) > 0 and node.pending is not None),
     )
     if refusal:
         return node, ("refused", refusal)
-    return answered(node, lent, now, link, bc, receive_error, packet)
+    return answered(node, lent, now, link, bc & 3, receive_error, packet)
 
 
 def reply(node, buffer, now, slave, bc, receive_error, rx_status, rx_address, words):

@@ -7,6 +7,8 @@ from scripts_memory import headers, loads, long_segments, runs_of_memory, segmen
 from scripts_requests import command_numbers, counts, first_bytes, lengths, small_commands
 from scripts_slaves import groups, room, singles, tallies, times
 from scripts_states import refusals, soup, start_refusals, states
+from scripts_writes import areas, divisions, kept_writes, long_reads, many_packets, most_words, others_meanwhile, packet_cases
+from scripts_writes import while_erasing, with_a_request_pending
 from words import words_of
 
 SCRIPTS = (
@@ -16,6 +18,8 @@ SCRIPTS = (
     runs_of_memory, segments, headers, long_segments, loads,
     groups, room, times, tallies, singles,
     soup,
+    packet_cases, areas, kept_writes, many_packets, divisions, long_reads, most_words, while_erasing, with_a_request_pending,
+    others_meanwhile,
 )
 
 

@@ -7,13 +7,14 @@ from build import file_of, segment
 from files import DM, IO, PM
 from flash import SIZES
 from node import CDDC
-from node_lines import BUFFER, DATA, DIGEST, ERASE, FILL, FLASH, LEND, PENDING_GROUP, PENDING_SLAVE, POKE, POLL, PROGRAM, REGISTERS
-from node_lines import REPLY, REQUEST, SCALARS, SET, START, STATE, Program, halves
+from node_lines import BUFFER, DATA, DIGEST, ERASE, FILL, FLASH, LEND, NO_WRITE, PENDING_GROUP, PENDING_SLAVE, POKE, POLL, PROGRAM
+from node_lines import REGISTERS, REPLY, REQUEST, SCALARS, SET, START, STATE, WRITE, Program, halves
 from runs import check_sequence
 from words import line_of, run_of
 
 BENCH, FULL = SIZES
 OWN = 0x2E
+SHOW_AREA = 32
 CHANGES = {0x45: 1, 0x48: 1, 0x50: 2, 0x51: 4, 0x0F: 8, 0x46: 14}  # the memories that a command can change
 
 
@@ -77,8 +78,12 @@ class Script:
     def set_group(self, link, slave, at, asked, first=1, words=0, tally=0):
         self.set(PENDING_GROUP, at, link, slave, *halves(asked), first, *halves(words), tally)
 
-    def lend(self, flash=BENCH, pm=64, dm=64, io=64, reply=12288):
-        self.put(LEND, *[half for count in (flash, pm, dm, io, reply) for half in halves(count)])
+    def set_write(self, link=None, joined=0):
+        """A write of a link stands, or none does."""
+        self.set(NO_WRITE) if link is None else self.set(WRITE, joined, link)
+
+    def lend(self, flash=BENCH, pm=64, dm=64, io=64, reply=12288, area=32768):
+        self.put(LEND, *[half for count in (flash, pm, dm, io, reply, area) for half in halves(count)])
 
     def digest(self, memory, at, count):
         self.put(DIGEST, memory, *halves(at), *halves(count))
@@ -94,7 +99,7 @@ class Script:
 
     def request(self, packet, link=0, bc=3, error=0, show=None):
         if show is None:
-            show = self.usual(packet)
+            show = self.usual(packet) | (self.pick.choice((0, 0, SHOW_AREA)) if bc & 3 != 3 else 0)
         return self.call(REQUEST, show, *halves(self.now()), *halves(link), bc, error, *run(packet).line())
 
     def usual(self, packet):
@@ -223,7 +228,7 @@ class Script:
 
     def ends(self):
         """All words of all memories, and the node's."""
-        for memory, count in enumerate((len(self.program.lent[FLASH]), 32784, 32784, 4112, 12304)):
+        for memory, count in enumerate((len(self.program.lent[FLASH]), 32784, 32784, 4112, 12304, 32784)):
             self.digest(memory, 0, count)
         self.state()
 

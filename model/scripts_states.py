@@ -8,7 +8,7 @@ from script import BENCH, FULL, command
 from scripts_flash import flash_step
 from scripts_slaves import slave_answers
 
-EVERYTHING = 0b11111  # every memory's digest
+EVERYTHING = 0b111111  # every memory's digest
 
 
 def out_of_range(s):
@@ -38,6 +38,8 @@ def out_of_range(s):
         lambda: s.set_group(0, slave, s.clock, asked, words=12288 - 5 * left - 6),
         lambda: s.set_group(0, slave, s.clock, asked, words=pick.choice((12288, 65536, 2**32 - 1, 2**32 - 5 * left - 7))),
         lambda: s.set_group(0, slave, s.clock, asked, first=pick.choice((0, 3, 255))),
+        lambda: s.set_write(pick.choice((node.ports, node.ports + 1, 255)), pick.choice((0, 7, 32768))),
+        lambda: s.set_write(pick.randrange(max(node.ports, 1)), pick.choice((32769, 65535, 65536, 2**31, 2**32 - 1))),
     ]
     pick.choice(ways)()
 
@@ -65,6 +67,7 @@ def within_range(s):
         lambda: s.set(ERASING, pick.randrange(len(extent(node.flash_words, sector))), sector),
         lambda: s.set_slave(link, pick.choice((0, slave, 23)), s.clock),
         lambda: s.set_group(link, slave, s.clock, asked, pick.choice((1, 2)), pick.choice((0, words)), pick.randrange(7)),
+        lambda: s.set_write(link, pick.choice((0, 1, 100, 32767, 32768))),
     ]
     pick.choice(ways)()
 
@@ -74,12 +77,13 @@ def refusals(s):
     pick = s.pick
     sizes = (BENCH, FULL)
     for turn in range(3):
-        for causes in (*range(64), 1, 2, 4, 4, 4, 8, 16, 32):
+        for causes in (*range(128), 1, 2, 4, 4, 4, 8, 16, 16, 32, 64):
             size = sizes[turn == 2 and causes % 4 == 0]
             ports = pick.randrange(1, 5)
             s.fresh(pick.choice((CDP, CDDC)), ports, size, pm=pick.choice((0, 8, 32768)), dm=64, io=64)
             lent = {"flash": size, "pm": pick.choice((0, 100, 32768)), "dm": pick.choice((0, 1, 32768))}
             lent |= {"io": pick.choice((0, 4096)), "reply": pick.choice((12288, 12289, 12304))}
+            lent |= {"area": pick.choice((32768, 32769, 32784))}
             if causes & 1:
                 lent["flash"] = pick.choice((0, 1, size - 1, size + 1, FULL + BENCH - size))
             if causes & 2:
@@ -87,6 +91,8 @@ def refusals(s):
             if causes & 4:
                 name = pick.choice(("pm", "dm", "io"))
                 lent[name] = {"pm": 32769, "dm": 32769, "io": 4097}[name]
+            if causes & 64:
+                lent["area"] = pick.choice((0, 1, 32767))
             if causes & 32:
                 s.set_group(0, 5, s.clock, 1 << 5 | 1 << 9) if pick.randrange(2) else s.set_slave(0, 5, s.clock)
             if causes & 16:
@@ -150,6 +156,8 @@ def any_calls(s, count):
         pick.choice([
             lambda: s.request(command(pick.choice((0x0C, 0x07, 0x12, 0x17, 0x0C))), link),
             lambda: s.request([], link, pick.choice((2, 2, 2, 0, 1, 3))),
+            lambda: s.request(command(0x45, *s.anything(pick.randrange(4))), link, 2),
+            lambda: s.request(s.anything(pick.randrange(1, 4)), s.node.write.link if s.node.write else link, pick.randrange(2)),
             lambda: s.request([0x2A, *command(0x0C)], link),
             lambda: s.request([0x052A, pick.randrange(65536)], link, pick.randrange(4), pick.choice((0, 0, 1))),
             lambda: s.poll(),
@@ -182,7 +190,7 @@ def soup(s):
             way = pick.randrange(12)
             if way < 6:
                 link = pick.randrange(max(s.node.ports, 1))
-                s.request(packet, link, pick.choice((3, 3, 3, 3, 3, 2, 1)), int(pick.randrange(12) == 0))
+                s.request(packet, link, pick.choice((3, 3, 3, 3, 3, 2, 1, 0)), int(pick.randrange(12) == 0))
             elif way < 8:
                 any_calls(s, 1)
             elif way == 8:

@@ -1,16 +1,18 @@
 #!/usr/bin/env python3
-"""The model against document 01: each of its examples, the lines of the bench, and what it says of every call."""
+"""The model against documents 01 and 02: each example of 01, the lines of the bench, what 01 says of every call, and what 02 says of
+files that come in several packets."""
 
 import random
 import unittest
+from dataclasses import replace
 
 from build import file_of, segment
 from fcs import fcs
 from files import DM, IO, PM
 from flash import SECTORS, address_of, attributed, directory_of, extent
-from group import ABORT, AREA, END, ERROR, Answer, fragment, is_late
+from group import ABORT, AREA, END, ERROR, NEXT, Answer, fragment, is_late
 from memory import index, read
-from node import CDDC, CDP, ZEROS, Lent, Pending, erase, poll, reply, request, start
+from node import CDDC, CDP, ZEROS, Lent, Pending, Write, erase, poll, reply, request, start
 from node_lines import FLASH, POKE
 from script import Script
 from scripts_flash import flash_step
@@ -21,7 +23,7 @@ BENCH = 32768
 
 
 def lent(flash=BENCH):
-    return Lent([0xFFFF] * flash, {PM: [0] * 8192, DM: [0] * 32768, IO: [0] * 64}, [0] * AREA)
+    return Lent([0xFFFF] * flash, {PM: [0] * 8192, DM: [0] * 32768, IO: [0] * 64}, [0] * 32768, [0] * AREA)
 
 
 def started(kind=CDDC, flash=BENCH, clock=0):
@@ -103,7 +105,7 @@ class CheckSequence(unittest.TestCase):
 class Digest(unittest.TestCase):
     def test_rule(self):
         pick = random.Random(2)
-        for length in (0, 1, 2, 92, 12288):
+        for length in (0, 1, 2, 96, 12288):
             words = [pick.randrange(65536) for _ in range(length)]
             value = 1
             for word in words:
@@ -199,6 +201,164 @@ class Calls(unittest.TestCase):
         self.assertEqual(reply(node, memories.reply, 0, 4, 3, 0, 0, 0, []), (node, ("refused", 7)))
         node, answer = request(node, memories, 0, 1, 2, 0, [])
         self.assertEqual((answer, node.pending), (("reply", END, 0), None))
+
+
+def long_file(length, pick):
+    """A file of so many words, in DM segments of 16,000 words and a rest."""
+    segments = []
+    for at in range(1, length, 16000):
+        count = min(length - at, 16000)
+        segments.append(segment(DM, 0x2000, [pick.randrange(65536) for _ in range(count - 3)]))
+    return file_of(segments, name=0x42)
+
+
+class Packets(unittest.TestCase):
+    """02, request 1, sentence by sentence."""
+
+    FIRST, MIDDLE, LAST, WHOLE = 2, 0, 1, 3
+
+    def setUp(self):
+        self.node, self.lent = started()
+        self.file = file_of([segment(DM, 0x2000, [1, 2, 3]), segment(IO, 0, [0x1005, 7])], name=0x42)
+
+    def send(self, link, bc, words, error=0):
+        """What a packet is answered, how many errors it added, and the write that stands behind it."""
+        before, held = self.node.amswire, list(self.lent.area)
+        self.node, answer = request(self.node, self.lent, 0, link, bc, error, list(words))
+        self.area_stayed = held == self.lent.area
+        self.assertEqual((answer[0], answer[2]), ("reply", 0))
+        return answer[1], self.node.amswire - before, self.node.write
+
+    def standing(self, link=1, joined=5):
+        """A write stands that five words were joined of."""
+        self.node = replace(self.node, write=Write(link, joined))
+
+    def test_three_packets(self):
+        self.assertEqual(self.send(1, self.FIRST, [0x452E, *self.file[:4]]), (NEXT, 0, Write(1, 4)))
+        self.assertEqual(self.lent.area[:5], [*self.file[:4], 0])
+        self.assertEqual(self.send(1, self.MIDDLE, self.file[4:7]), (NEXT, 0, Write(1, 7)))
+        self.assertEqual(self.send(1, self.LAST, self.file[7:]), (END, 0, None))
+        self.assertEqual(self.lent.flash[2048:2048 + len(self.file) + 1], [*self.file, 0xFFFF])
+        self.assertEqual(list(self.node.directory), directory_of(self.lent.flash))
+
+    def test_any_division(self):
+        pick = random.Random(3)
+        for size, length in ((BENCH, 12), (BENCH, 2048), (262144, 8191), (262144, 32768), (262144, 20000)):
+            file = long_file(length, pick)
+            results = []
+            for _ in range(4):
+                self.node, self.lent = started(flash=size)
+                cuts = {pick.randrange(1, length) for _ in range(pick.randrange(1, 9))}
+                cuts = sorted({0, *cuts, *range(8000, length, 8000), length})
+                for at, end in zip(cuts, cuts[1:]):
+                    bc = self.FIRST if at == 0 else self.LAST if end == length else self.MIDDLE
+                    words = ([0x452E] if at == 0 else []) + file[at:end]
+                    self.assertEqual(self.send(2, bc, words)[0], END if end == length else NEXT)
+                results.append((self.node, self.lent.flash))
+            if length < 8192:
+                self.node, self.lent = started(flash=size)
+                self.assertEqual(self.send(2, self.WHOLE, [0x452E, *file])[0], END)
+                results.append((self.node, self.lent.flash))
+            self.assertTrue(all(result == results[0] for result in results))
+
+    def test_one_word_joins_none(self):
+        self.assertEqual(self.send(0, self.FIRST, [0x452E]), (NEXT, 0, Write(0, 0)))
+        self.assertTrue(self.area_stayed)
+        self.assertEqual(self.send(0, self.LAST, self.file), (END, 0, None))
+
+    def test_nothing_is_tested_of_a_first_or_middle_packet(self):
+        self.assertEqual(self.send(0, self.FIRST, [0x452E, 0xFFFF]), (NEXT, 0, Write(0, 1)))
+        self.assertEqual(self.send(0, self.MIDDLE, [0x452E]), (NEXT, 0, Write(0, 2)))
+        self.assertEqual(self.send(0, self.LAST, [0]), (ABORT, 0, None))
+
+    def test_first_packets(self):
+        self.assertEqual(self.send(0, self.FIRST, [0x052E, 0x0420]), (ERROR, 1, None))
+        self.assertEqual(self.send(0, self.FIRST, [0x452F, 0x0420]), (ERROR, 1, None))
+        self.standing()
+        self.assertEqual(self.send(0, self.FIRST, [0x052E, 0x0420]), (ERROR, 1, Write(1, 5)))
+        self.assertEqual(self.send(0, self.FIRST, [0x452E, 0x3421]), (ABORT, 0, Write(1, 5)))
+        for words in ([0x452E, 0x3421], [0x052E, 0x0420]):
+            self.standing()
+            self.assertEqual(self.send(1, self.FIRST, words), (ERROR, 1, None))
+            self.assertTrue(self.area_stayed)
+
+    def test_later_packets(self):
+        for bc in (self.MIDDLE, self.LAST):
+            self.node = replace(self.node, write=None)
+            self.assertEqual(self.send(1, bc, [7]), (ERROR, 1, None))
+            self.standing()
+            self.assertEqual(self.send(0, bc, [7]), (ERROR, 1, Write(1, 5)))
+            self.standing(joined=32767)
+            self.assertEqual(self.send(1, bc, [7, 7]), (ABORT, 0, None))
+            self.assertTrue(self.area_stayed)
+        self.standing(joined=32767)
+        self.assertEqual(self.send(1, self.MIDDLE, [7]), (NEXT, 0, Write(1, 32768)))
+        self.assertEqual(self.lent.area[-1], 7)
+
+    def test_whole_packets(self):
+        self.standing()
+        self.assertEqual(self.send(0, self.WHOLE, [0x522E, 1]), (END, 0, Write(1, 5)))
+        self.assertEqual(self.send(1, self.WHOLE, [0x522E, 2]), (ERROR, 1, None))
+        self.assertEqual(self.node.mode, 1)
+
+    def test_receive_errors_and_lengths_keep_the_write(self):
+        self.standing()
+        for bc in range(4):
+            self.assertEqual(self.send(1, bc, [0x452E], error=1), (ERROR, 1, Write(1, 5)))
+            self.assertEqual(self.send(1, bc, [], error=1), (ERROR, 1, Write(1, 5)))
+            self.assertEqual(self.send(1, bc, [0x452E] * 8193), (ERROR, 1, Write(1, 5)))
+        self.assertEqual(self.send(1, self.MIDDLE, [0x452E] * 8192), (NEXT, 0, Write(1, 8197)))
+
+    def test_no_words(self):
+        for link, bc, answer, stays in ((1, 2, END, False), (0, 2, ABORT, True), (1, 0, ABORT, True), (1, 1, ABORT, True), (1, 3, ABORT, True)):
+            self.standing()
+            self.assertEqual(self.send(link, bc, []), (answer, 0, Write(1, 5) if stays else None))
+        for holder in (1, 2):
+            self.standing()
+            self.node = replace(self.node, pending=Pending(holder, 5, 0))
+            self.assertEqual(self.send(1, 2, []), (END, 0, None))
+            self.assertEqual(self.node.pending, None if holder == 1 else Pending(2, 5, 0))
+        self.standing()
+        self.assertEqual(self.send(2, 2, []), (END, 0, Write(1, 5)))
+        self.assertIsNone(self.node.pending)
+
+    def test_an_erasure(self):
+        self.node, answer = request(self.node, self.lent, 0, 3, 3, 0, own(0x47, 0x1C00))
+        self.assertEqual(answer, ("reply", END, 0))
+        self.assertEqual(self.send(1, self.FIRST, [0x452E, *self.file[:4]])[0], NEXT)
+        self.assertEqual(self.send(1, self.MIDDLE, self.file[4:5])[0], NEXT)
+        self.assertEqual(self.send(1, self.LAST, self.file[5:]), (ABORT, 0, None))
+        self.assertEqual(self.lent.flash, [0xFFFF] * BENCH)
+
+    def test_refusals(self):
+        self.standing()
+        self.lent.area.pop()
+        for link in (1, 4):
+            self.assertEqual(request(self.node, self.lent, 0, link, 0, 0, [1]), (self.node, ("refused", 8)))
+        self.assertEqual(request(replace(self.node, mode=4), self.lent, 0, 0, 0, 0, [1])[1], ("refused", 8))
+        memories = {PM: [0] * 32769, DM: [], IO: []}
+        self.assertEqual(request(self.node, replace(self.lent, memories=memories), 0, 0, 0, 0, [1])[1], ("refused", 3))
+        self.lent.area += [0, 0]
+        for write in (Write(4, 0), Write(0, 32769)):
+            node = replace(self.node, write=write)
+            self.assertEqual(request(node, self.lent, 0, 0, 3, 0, own(0x0C)), (node, ("refused", 5)))
+            self.assertEqual(erase(node, self.lent.flash, 1), (node, ("refused", 5)))
+            self.assertEqual(poll(node, self.lent.reply, 1), (node, ("refused", 5)))
+        node = replace(self.node, pending=Pending(2, 5, 0))
+        self.assertEqual(request(node, self.lent, 0, 1, 0, 0, [1]), (node, ("refused", 6)))
+        self.assertIsNone(started()[0].write)
+
+    def test_a_long_file_is_not_read(self):
+        for length in (12286, 12287):
+            self.node, self.lent = started(flash=262144)
+            file = long_file(length, random.Random(4))
+            self.assertEqual(self.send(0, self.FIRST, [0x452E, *file[:8000]])[0], NEXT)
+            self.assertEqual(self.send(0, self.LAST, file[8000:])[0], END)
+            self.node, answer = request(self.node, self.lent, 0, 0, 3, 0, own(0x05, 0x0420))
+            self.assertEqual(answer, ("reply", 3, 12288) if length == 12286 else ("reply", ABORT, 0))
+            self.assertEqual(self.node.flash_errors, 0)
+            if length == 12286:
+                self.assertEqual(self.lent.reply[:length], file)
 
 
 if __name__ == "__main__":

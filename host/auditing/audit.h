@@ -129,7 +129,7 @@ struct entry {
 
 void node_blank(struct logodwen_node *node);
 uint32_t node_start(struct logodwen_node *node);
-uint64_t node_write(struct logodwen_node *node, const uint8_t *words, size_t count);
+uint64_t node_write(struct logodwen_node *node, const uint8_t *words, size_t count, size_t *sent); /* in packets until one isn't NEXT */
 uint64_t node_read(struct logodwen_node *node, unsigned name);
 uint64_t node_erase(struct logodwen_node *node, struct erasure erasure);
 uint32_t node_erase_on(struct logodwen_node *node); /* goes on to the end; how many words were set */

@@ -15,9 +15,12 @@ static uint64_t request(struct logodwen_node *node, const uint8_t *packet, size_
     return logodwen_node_send(node, 0, 0, packet, words);
 }
 
-uint64_t node_write(struct logodwen_node *node, const uint8_t *words, size_t count) {
-    static uint8_t packet[2 + IMAGE_BYTES];
-    return request(node, packet, logodwen_make_with(packet, sizeof packet / 2, LOGODWEN_ID_FILE_WRITE, words, count)); /* of any length */
+uint64_t node_write(struct logodwen_node *node, const uint8_t *words, size_t count, size_t *sent) {
+    static uint8_t packet[LOGODWEN_REQUEST_BYTES];
+    *sent = 0;
+    if (count == 0)
+        return request(node, packet, logodwen_make_command(packet, LOGODWEN_ID_FILE_WRITE));
+    return logodwen_node_write(node, 0, 0, packet, LOGODWEN_REQUEST_WORDS, words, count, sent);
 }
 
 uint64_t node_read(struct logodwen_node *node, unsigned name) {

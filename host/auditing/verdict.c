@@ -1,5 +1,5 @@
-/* The verdict on an image. The node's answers decide. Beside them stands a forecast, worked out here from 01, that knows why an image is
-   refused; where the two disagree the verdict is DISPUTED, since then the node or this program has a fault. */
+/* The verdict on an image. The node's answers decide. Beside them stands a forecast, worked out here from 01 and 02, that knows why an
+   image is refused; where the two disagree the verdict is DISPUTED, since then the node or this program has a fault. */
 #include "audit.h"
 
 /* What File Write answers by the rules, and the verdict that goes with it. */
@@ -10,7 +10,7 @@ struct forecast {
     char why[TEXT];
 };
 
-static struct forecast refused(enum verdict verdict, unsigned bc) { return (struct forecast){.verdict = verdict, .bc = bc}; }
+static struct forecast refused(enum verdict verdict) { return (struct forecast){.verdict = verdict, .bc = LOGODWEN_BC_ABORT}; }
 
 /* The answer to a valid file: its name must be unused, and an empty sector have room. A file that no sector has room for is told apart
    from one that other files leave no room for. */
@@ -19,28 +19,34 @@ static struct forecast foretell_valid(const struct entry *directory, const struc
     unsigned place = directory_place(directory, image->words);
     struct forecast forecast = {.verdict = AGREES, .bc = LOGODWEN_BC_END, .sector = place};
     if (image->words > LOGODWEN_FILE_WORDS) {
-        forecast = refused(TOO_LARGE, LOGODWEN_BC_ABORT);
+        forecast = refused(TOO_LARGE);
         say(forecast.why, "%zu words; " FLASH_HOLDS, image->words);
     } else if (holder != 0) {
-        forecast = refused(NAME_USED, LOGODWEN_BC_ABORT);
+        forecast = refused(NAME_USED);
         say(forecast.why, "sector %u has this name; erase it first (--erase %02X), or audit this image alone", holder, name);
     } else if (place == 0) {
-        forecast = refused(NO_ROOM, LOGODWEN_BC_ABORT);
+        forecast = refused(NO_ROOM);
         say(forecast.why, "no empty sector has room for %zu words; erase a file first (--erase NAME), or audit this image alone",
             image->words);
     }
     return forecast;
 }
 
-/* The answer to any image: a request that is too long is an ERROR, and a file must be valid and exact. */
+/* The answer to any image: one that is too long for the packets to join is never looked at, and a file must be valid and exact. */
 static struct forecast foretell(const struct entry *directory, const struct image *image) {
-    struct forecast forecast = refused(TOO_LARGE, LOGODWEN_BC_ERROR);
-    if (image->words + 1 > LOGODWEN_REQUEST_WORDS) {
-        say(forecast.why, "%zu words; a request has at most 8,192, so File Write takes at most 8,191; " FLASH_HOLDS, image->words);
+    struct forecast forecast = refused(TOO_LARGE);
+    if (image->words > LOGODWEN_AREA_WORDS) {
+        say(forecast.why, "%zu words; File Write takes at most 32,768, in several packets; " FLASH_HOLDS, image->words);
         return forecast;
     }
-    forecast = refused(INVALID, LOGODWEN_BC_ABORT);
+    forecast = refused(INVALID);
     return rules_is_file(image->bytes, image->words, forecast.why) ? foretell_valid(directory, image) : forecast;
+}
+
+/* How many words of an image are sent: all, or up to the packet that makes them more than 32,768, the fifth. */
+static size_t words_to_send(const struct image *image) {
+    size_t most = 5 * LOGODWEN_REQUEST_WORDS - 1; /* the first packet begins with a word that is not the image's */
+    return image->words < most ? image->words : most;
 }
 
 /* Whether as many words were read as were signed; if not, the first place that only one of the two has. */
@@ -95,8 +101,14 @@ static enum verdict write_and_read_back(struct logodwen_node *node, const struct
     }
     struct forecast forecast = foretell(directory, image);
     char answer[TEXT];
-    uint64_t answered = node_write(node, image->bytes, image->words);
+    size_t sent, to_send = words_to_send(image);
+    uint64_t answered = node_write(node, image->bytes, image->words, &sent);
     node_answer_text(answered, answer);
+    if (sent != to_send) {
+        say(finding->detail, "File Write in packets was answered %s after %zu words; by the rules it is NEXT, up to %zu", answer, sent,
+            to_send);
+        return DISPUTED;
+    }
     if (logodwen_answer(answered) != LOGODWEN_REPLY || logodwen_words(answered) != 0 || logodwen_bc(answered) != forecast.bc) {
         say(finding->detail, "File Write was answered %s; by the rules it is %s; %s", answer, bare[forecast.bc],
             forecast.verdict == AGREES ? "the image is valid and has room" : forecast.why);

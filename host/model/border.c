@@ -1,9 +1,9 @@
-/* The model at the C border: runs of bytes for words, 172 bytes for the node. */
+/* The model at the C border: runs of bytes for words, 180 bytes for the node. */
 #include "model.h"
 
 #include <string.h>
 
-enum { STATE = 172 };
+enum { STATE = 180 };
 static const struct limits border = {8192, 8192, 4096, 32768, false};
 
 static struct run words_of(uint8_t *bytes, size_t length) { return (struct run){bytes, length / 2}; }
@@ -44,6 +44,11 @@ static bool decoded(const uint8_t *state, struct node *node) {
         node->masks[i] = long_at(state, 44 + 4 * (size_t)i);
     for (int i = 0; i < 32; i++)
         node->directory[i] = word_at(state + 108, (size_t)i);
+    node->writing = state[172] != 0;
+    node->writer = state[173];
+    node->joined = long_at(state, 176);
+    if (state[172] > 1 || word_at(state + 174, 0) != 0 || (!node->writing && (node->writer != 0 || node->joined != 0)))
+        return false;
     if (!node->erasing && node->done != 0)
         return false;
     if (node->pending == PENDING_NOTHING && (node->link != 0 || node->slave != 0 || node->asked_at != 0))
@@ -77,6 +82,10 @@ static void encode(const struct node *node, uint8_t *state) {
         put_long(state, 44 + 4 * (size_t)i, node->masks[i]);
     for (int i = 0; i < 32; i++)
         put_word(state + 108, (size_t)i, node->directory[i]);
+    state[172] = node->writing;
+    state[173] = (uint8_t)node->writer;
+    put_word(state + 174, 0, 0);
+    put_long(state, 176, node->joined);
 }
 
 /* The node to make a call on. Where the bytes are no state's, its kind is none, so 5 refuses it; 1 and 4, which come first, still
@@ -113,9 +122,10 @@ static uint64_t kept(const struct node *node, uint64_t answer, uint8_t *state) {
 
 uint64_t model_request(uint32_t now, uint32_t link, uint32_t bc, uint32_t receive_error, const uint8_t *packet, size_t packet_len,
                        uint8_t *state, size_t state_len, uint8_t *flash, size_t flash_len, uint8_t *pm, size_t pm_len, uint8_t *dm,
-                       size_t dm_len, uint8_t *io, size_t io_len, uint8_t *reply, size_t reply_len) {
-    struct lent lent = {
-        words_of(flash, flash_len), {pm, pm_len / 4}, words_of(dm, dm_len), words_of(io, io_len), words_of(reply, reply_len)};
+                       size_t dm_len, uint8_t *io, size_t io_len, uint8_t *area, size_t area_len, uint8_t *reply,
+                       size_t reply_len) {
+    struct lent lent = {words_of(flash, flash_len), {pm, pm_len / 4},         words_of(dm, dm_len),
+                        words_of(io, io_len),       words_of(area, area_len), words_of(reply, reply_len)};
     struct node node = node_for_call(state, state_len, lent.flash.words);
     if (state_len != STATE)
         link = 0;

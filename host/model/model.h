@@ -1,5 +1,5 @@
-/* An independent node in plain C, written from document 01 and not from the proved code: the second hand of the differential test,
-   and what `make perf` compares with. Lent runs are bytes, low byte of each word first; lengths are in words. */
+/* An independent node in plain C, written from documents 01 and 02 and not from the proved code: the second hand of the
+   differential test, and what `make perf` compares with. Lent runs are bytes, low byte of each word first; lengths are in words. */
 #ifndef MODEL_H
 #define MODEL_H
 
@@ -10,7 +10,7 @@
 enum { CDP = 1, CDDC = 2 };
 enum { NEXT = 0, ERROR = 1, ABORT = 2, END = 3, DATA = 3 }; /* the BC of a reply */
 enum { PENDING_NOTHING = 0, PENDING_SLAVE = 1, PENDING_GROUP = 2 };
-enum { AREA = 12288, SLAVES = 24, SECTOR_FIRST = 3, SECTOR_LAST = 10 };
+enum { AREA = 12288, JOIN_AREA = 32768, SLAVES = 24, SECTOR_FIRST = 3, SECTOR_LAST = 10 };
 enum { BENCH = 32768, FULL = 262144 };
 
 /* A lent run: its bytes, and how many words they are; a PM word is four bytes, any other two. */
@@ -20,7 +20,7 @@ struct run {
 };
 
 struct lent {
-    struct run flash, pm, dm, io, reply;
+    struct run flash, pm, dm, io, area, reply;
 };
 
 /* How much of each memory may be lent, and whether the flash may be full size: 01's table, and less at the C border. */
@@ -40,6 +40,8 @@ struct node {
     uint32_t sector, done; /* while erasing */
     uint32_t pending, link, slave, asked_at;
     uint32_t asked, from, built, tally; /* of a group */
+    bool writing;                       /* a File Write in several packets stands (02, request 1) */
+    uint32_t writer, joined;            /* its link, and the words joined so far */
 };
 
 /* Words in bytes. */
@@ -111,7 +113,7 @@ uint32_t model_start(uint32_t kind, uint32_t ports, uint32_t subdetector, uint16
                      size_t state_len);
 uint64_t model_request(uint32_t now, uint32_t link, uint32_t bc, uint32_t receive_error, const uint8_t *packet, size_t packet_len,
                        uint8_t *state, size_t state_len, uint8_t *flash, size_t flash_len, uint8_t *pm, size_t pm_len, uint8_t *dm,
-                       size_t dm_len, uint8_t *io, size_t io_len, uint8_t *reply, size_t reply_len);
+                       size_t dm_len, uint8_t *io, size_t io_len, uint8_t *area, size_t area_len, uint8_t *reply, size_t reply_len);
 uint64_t model_reply(uint32_t now, uint32_t slave, uint32_t bc, uint32_t receive_error, uint16_t rx_status, uint16_t rx_address,
                      const uint8_t *packet, size_t packet_len, uint8_t *state, size_t state_len, uint8_t *reply, size_t reply_len);
 uint64_t model_poll(uint32_t now, uint8_t *state, size_t state_len, uint8_t *reply, size_t reply_len);

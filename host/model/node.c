@@ -1,4 +1,4 @@
-/* 01 'Call refusals', 'Requests', 'Group assembly', 'State and status reply': the node and its five calls. */
+/* 01 'Call refusals', 'Requests', 'Group assembly', 'State and status reply', and 02, request 1: the node and its five calls. */
 #include "model.h"
 
 #include <string.h>
@@ -70,6 +70,8 @@ static bool is_state_wrong(const struct node *node) {
         if (node->done >= model_sector_size(node->flash_words, node->sector))
             return true;
     }
+    if (node->writing && (node->writer >= node->ports || node->joined > JOIN_AREA))
+        return true;
     if (node->pending == PENDING_NOTHING)
         return false;
     if (node->pending > PENDING_GROUP || node->link >= node->ports || node->slave >= SLAVES)
@@ -367,6 +369,75 @@ static void drop(struct node *node) {
     node->link = node->slave = node->asked_at = node->asked = node->from = node->built = node->tally = 0;
 }
 
+static uint64_t error_of(struct node *node) {
+    count_error(&node->amswire_errors);
+    return reply_of(ERROR, 0);
+}
+
+static void drop_write(struct node *node) {
+    node->writing = false;
+    node->writer = node->joined = 0;
+}
+
+/* Step 2. */
+static uint64_t no_words(struct node *node, uint32_t link, unsigned bc) {
+    bool has_request = node->pending != PENDING_NOTHING && node->link == link, has_write = node->writing && node->writer == link;
+    if (bc != 2 || (!has_request && !has_write))
+        return reply_of(ABORT, 0);
+    if (has_request)
+        drop(node);
+    if (has_write)
+        drop_write(node);
+    return reply_of(END, 0);
+}
+
+/* Steps 4 to 6. */
+static uint64_t whole(struct node *node, uint32_t now, uint32_t link, const uint8_t *packet, size_t n, const struct lent *lent) {
+    unsigned first = packet[0];
+    if (first == 0x2E)
+        return finished(node, command(node, packet[1], (struct parameters){packet + 2, n - 1}, now, link, lent), lent->reply.bytes);
+    if (first < SLAVES || first == 0x40 || first == 0x23 || first == 0x2A)
+        return forward(node, now, link, packet, n);
+    return error_of(node);
+}
+
+/* Step 3: a packet with words and without a receive error. By 02, request 1, a File Write may come in several: first BC 10, then
+   00, last 01. What goes wrong with one of another link leaves the write that stands. */
+static uint64_t with_words(struct node *node, uint32_t now, uint32_t link, unsigned bc, const uint8_t *packet, size_t n,
+                           const struct lent *lent) {
+    if (n > 8192)
+        return error_of(node);
+    bool is_writer = node->writing && node->writer == link, is_first = (bc & 2) != 0, is_last = (bc & 1) != 0;
+    if (is_first == is_writer) { /* the writing link begins anew, or a link goes on that has begun nothing */
+        if (is_writer)
+            drop_write(node);
+        return error_of(node);
+    }
+    if (is_first && is_last)
+        return whole(node, now, link, packet, n, lent);
+    if (is_first) {
+        if (word_at(packet, 0) != 0x452E)
+            return error_of(node);
+        if (node->writing)
+            return reply_of(ABORT, 0);
+        node->writing = true;
+        node->writer = link;
+        packet += 2; /* the header word is not joined */
+        n--;
+    }
+    if (n > JOIN_AREA - node->joined) {
+        drop_write(node);
+        return reply_of(ABORT, 0);
+    }
+    memcpy(lent->area.bytes + 2 * (size_t)node->joined, packet, 2 * n);
+    node->joined += (uint32_t)n;
+    if (!is_last)
+        return reply_of(NEXT, 0);
+    struct parameters file = {lent->area.bytes, node->joined};
+    drop_write(node);
+    return finished(node, command(node, 0x45, file, now, link, lent), lent->reply.bytes);
+}
+
 uint64_t model_node_request(const struct limits *limits, struct node *node, uint32_t now, uint32_t link, uint32_t bc,
                             uint32_t receive_error, const uint8_t *packet, size_t n, const struct lent *lent) {
     if (!is_flash_size(limits, lent->flash.words) || lent->flash.words != node->flash_words)
@@ -375,32 +446,17 @@ uint64_t model_node_request(const struct limits *limits, struct node *node, uint
         return 2;
     if (lent->pm.words > limits->pm || lent->dm.words > limits->dm || lent->io.words > limits->io)
         return 3;
+    if (lent->area.words < JOIN_AREA)
+        return 8;
     if (link >= node->ports)
         return 4;
     if (is_state_wrong(node))
         return 5;
     if (n > 0 && node->pending != PENDING_NOTHING)
         return 6;
-    bc &= 3;
-    if (receive_error != 0) {
-        count_error(&node->amswire_errors);
-        return reply_of(ERROR, 0);
-    }
-    if (n == 0) {
-        if (bc != 2 || node->pending == PENDING_NOTHING || node->link != link)
-            return reply_of(ABORT, 0);
-        drop(node);
-        return reply_of(END, 0);
-    }
-    unsigned first = packet[0];
-    bool known = first == 0x2E || first < SLAVES || first == 0x40 || first == 0x23 || first == 0x2A;
-    if (n > 8192 || bc != 3 || !known) {
-        count_error(&node->amswire_errors);
-        return reply_of(ERROR, 0);
-    }
-    if (first != 0x2E)
-        return forward(node, now, link, packet, n);
-    return finished(node, command(node, packet[1], (struct parameters){packet + 2, n - 1}, now, link, lent), lent->reply.bytes);
+    if (receive_error != 0)
+        return error_of(node);
+    return n == 0 ? no_words(node, link, bc & 3) : with_words(node, now, link, bc & 3, packet, n, lent);
 }
 
 /* Slave replies. */

@@ -16,21 +16,23 @@ static const double SHORT = 4.00, LONG = 1.30;
 /* Everything that a call is lent. */
 static struct {
     uint8_t state[LOGODWEN_STATE_BYTES], flash[LOGODWEN_FLASH_BYTES], pm[LOGODWEN_PM_BYTES], dm[LOGODWEN_DM_BYTES],
-        io[LOGODWEN_IO_BYTES], reply[LOGODWEN_REPLY_BYTES];
+        io[LOGODWEN_IO_BYTES], area[LOGODWEN_AREA_BYTES], reply[LOGODWEN_REPLY_BYTES];
 } lent, first, after; /* as it stands, as a turn begins, and as the proved call left it */
 
 static uint64_t answered;
 
 static uint8_t *state = lent.state; /* the state that is lent: that one, or one of many */
 
-static void request(bool plain, const uint8_t *packet, size_t words) {
-    answered = plain ? model_request(0, 0, LOGODWEN_BC_WHOLE, 0, packet, 2 * words, state, sizeof lent.state, lent.flash,
+static void packet_with(bool plain, uint32_t bc, const uint8_t *packet, size_t words) {
+    answered = plain ? model_request(0, 0, bc, 0, packet, 2 * words, state, sizeof lent.state, lent.flash,
                                      sizeof lent.flash, lent.pm, sizeof lent.pm, lent.dm, sizeof lent.dm, lent.io, sizeof lent.io,
-                                     lent.reply, sizeof lent.reply)
-                     : logodwen_request(0, 0, LOGODWEN_BC_WHOLE, 0, packet, 2 * words, state, sizeof lent.state, lent.flash,
+                                     lent.area, sizeof lent.area, lent.reply, sizeof lent.reply)
+                     : logodwen_request(0, 0, bc, 0, packet, 2 * words, state, sizeof lent.state, lent.flash,
                                         sizeof lent.flash, lent.pm, sizeof lent.pm, lent.dm, sizeof lent.dm, lent.io, sizeof lent.io,
-                                        lent.reply, sizeof lent.reply);
+                                        lent.area, sizeof lent.area, lent.reply, sizeof lent.reply);
 }
+
+static void request(bool plain, const uint8_t *packet, size_t words) { packet_with(plain, LOGODWEN_BC_WHOLE, packet, words); }
 
 static void reply(bool plain, unsigned slave, const uint8_t *packet, size_t words) {
     answered = plain ? model_reply(0, slave, LOGODWEN_BC_WHOLE, 0, 0, 0, packet, 2 * words, state, sizeof lent.state, lent.reply,
@@ -241,6 +243,34 @@ static void one_group(void) {
     state = lent.state;
 }
 
+/* A packet of 8,192 words in the middle of a file, as its fourth and as its second: a packet costs what it brings, and nothing for what
+   joined before it. */
+
+static uint8_t middle[LOGODWEN_REQUEST_BYTES];
+
+static void joins_behind(uint32_t joined) {
+    memcpy(state, first.state, sizeof first.state);
+    state[LOGODWEN_AT_WRITE] = 1;
+    logodwen_put_pm(state + LOGODWEN_AT_JOINED, 0, joined);
+    packet_with(false, LOGODWEN_BC_MIDDLE, middle, LOGODWEN_REQUEST_WORDS);
+}
+
+static void joins(bool is_second) { joins_behind(is_second ? 8191 : 8191 + 2 * 8192); }
+
+static int perf_joining(void) {
+    static const struct row row = {"a middle packet of 8,192 words, the fourth", as_first, joins, 20, 1.20};
+    for (size_t i = 0; i < sizeof middle; i++)
+        middle[i] = (uint8_t)(i * 29u);
+    for (int is_second = 0; is_second < 2; is_second++) {
+        as_first();
+        joins(is_second != 0);
+        const uint8_t *joined = lent.area + 2 * (is_second ? 8191 : 8191 + 2 * 8192);
+        if (!logodwen_is_next(answered) || memcmp(joined, middle, sizeof middle) != 0)
+            return measure_differs(row.what);
+    }
+    return measure_against(&row, "the second");
+}
+
 int perf_border_runs(void) {
     const struct row rows[] = {
         {"Mode Read", as_first, reads_mode, TIMES, SHORT},
@@ -298,5 +328,5 @@ int perf_border_runs(void) {
         if (answered != said || memcmp(&after, &lent, sizeof after) != 0 || memcmp(left, state, sizeof left) != 0)
             return measure_differs(rows[i].what);
     }
-    return measure(rows, count);
+    return measure(rows, count) + perf_joining();
 }

@@ -17,7 +17,7 @@ static double seconds(const struct row *row, bool plain) {
     return (double)(to.tv_sec - from.tv_sec) + (double)(to.tv_nsec - from.tv_nsec) * 1e-9;
 }
 
-static int measure_row(const struct row *row) {
+int measure_against(const struct row *row, const char *other) {
     double proved = 1e9, plain = 1e9;
     for (int turn = 0; turn < TURNS; turn++) {
         double a = seconds(row, false), b = seconds(row, true);
@@ -26,7 +26,7 @@ static int measure_row(const struct row *row) {
     }
     double ratio = proved / plain;
     int over = ratio > row->limit;
-    printf("%-44s %9.2f us   plain C %9.2f us   ratio %5.2f   limit %.2f%s\n", row->what, proved / row->times * 1e6,
+    printf("%-44s %9.2f us   %s %9.2f us   ratio %5.2f   limit %.2f%s\n", row->what, proved / row->times * 1e6, other,
            plain / row->times * 1e6, ratio, row->limit, over ? "   EXCEEDED" : "");
     fflush(stdout);
     return over;
@@ -35,7 +35,7 @@ static int measure_row(const struct row *row) {
 int measure(const struct row *rows, size_t count) {
     int over = 0;
     for (size_t i = 0; i < count; i++)
-        over += measure_row(&rows[i]);
+        over += measure_against(&rows[i], "plain C");
     return over;
 }
 

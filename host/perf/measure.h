@@ -18,6 +18,9 @@ struct row {
 /* Times the rows and prints them. Answers how many are above their limits. */
 int measure(const struct row *rows, size_t count);
 
+/* A row that compares one work of the proved code with another, which has a name, in the place of plain C. */
+int measure_against(const struct row *row, const char *other);
+
 /* Says that the two differ, and answers 1: no time is worth anything then. */
 int measure_differs(const char *what);
 

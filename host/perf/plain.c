@@ -62,3 +62,34 @@ size_t plain_file_end(const uint16_t *words, size_t n) {
     }
     return at;
 }
+
+size_t plain_sector_start(size_t flash, size_t sector) { return sector == 3 ? flash / 16 : (sector - 3) * (flash / 8); }
+
+size_t plain_sector_size(size_t flash, size_t sector) { return sector == 3 ? flash / 16 : flash / 8; }
+
+uint16_t plain_sector_address(size_t sector) { return (uint16_t)(sector == 3 ? 0x200 : (sector - 3) * 0x400); }
+
+bool plain_is_empty(const uint16_t *sector, size_t n) {
+    for (size_t i = 0; i < n; i++)
+        if (sector[i] != 0xFFFF)
+            return false;
+    return true;
+}
+
+void plain_lay_file(uint16_t *words, size_t n) {
+    enum { LONGEST = 16383 };
+    size_t at = 1;
+    unsigned segments = 0;
+    while (at < n) {
+        size_t left = n - at - 2, length = left <= LONGEST ? left : left - LONGEST < 4 ? LONGEST - 4 : LONGEST;
+        uint16_t *body = words + at + 2;
+        words[at] = (uint16_t)(0x4000 | length);
+        words[at + 1] = 0x8123;
+        for (size_t i = 0; i < length - 1; i++)
+            body[i] = (uint16_t)((at + i) * 40503u + 12345u);
+        body[length - 1] = plain_fcs(body, length - 1);
+        at += 2 + length;
+        segments++;
+    }
+    words[0] = (uint16_t)(0x3210 | segments);
+}

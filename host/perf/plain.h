@@ -2,6 +2,7 @@
 #ifndef LOGODWEN_PLAIN_H
 #define LOGODWEN_PLAIN_H
 
+#include <stdbool.h>
 #include <stddef.h>
 #include <stdint.h>
 
@@ -10,5 +11,15 @@ uint16_t plain_fcs(const uint16_t *words, size_t n);
 
 /* The length of the valid file that a run starts with, or 0. */
 size_t plain_file_end(const uint16_t *words, size_t n);
+
+/* Where a sector begins, and how many words it has, of a flash of so many; its address. */
+size_t plain_sector_start(size_t flash, size_t sector);
+size_t plain_sector_size(size_t flash, size_t sector);
+uint16_t plain_sector_address(size_t sector);
+
+bool plain_is_empty(const uint16_t *sector, size_t n);
+
+/* Lays a file of DM segments that fills a run. */
+void plain_lay_file(uint16_t *words, size_t n);
 
 #endif

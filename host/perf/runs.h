@@ -5,6 +5,7 @@
 int perf_fcs_runs(void);
 int perf_image_runs(void);
 int perf_flash_runs(void);
+int perf_packet_runs(void);
 int perf_memory_runs(void);
 int perf_group_runs(void);
 int perf_border_runs(void);

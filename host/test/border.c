@@ -1,6 +1,6 @@
-/* Tests of the border: each refusal and their order, odd lengths, NULL with length 0, guard bytes round every run, alignment, the
-   parts of what is answered, and the layout of the state. Every run stands between guard bytes; after each call they are looked at,
-   and after a refused one every byte of every run too. */
+/* Tests of the border: each refusal and their order, odd lengths, NULL with length 0, guard bytes round every run, alignment, files
+   in several packets, the parts of what is answered, and the layout of the state. Every run stands between guard bytes; after each
+   call they are looked at, and after a refused one every byte of every run too. */
 #include "../../include/logodwen.h"
 
 #include <stdio.h>
@@ -20,12 +20,12 @@ static void check(int holds, const char *text, int line) {
 
 /* Runs. */
 
-enum { STATE, FLASH, PM, DM, IO, REPLY, PACKET, RUNS };
+enum { STATE, FLASH, PM, DM, IO, AREA, REPLY, PACKET, RUNS };
 enum { GUARD = 64 };
-static const char *const names[RUNS] = {"state", "flash", "pm", "dm", "io", "reply", "packet"};
-static const size_t rooms[RUNS] = {LOGODWEN_STATE_BYTES + 8,      LOGODWEN_FLASH_BYTES + 8, LOGODWEN_PM_BYTES + 16,
-                                   LOGODWEN_DM_BYTES + 8,         LOGODWEN_IO_BYTES + 8,    LOGODWEN_REPLY_BYTES + 8,
-                                   LOGODWEN_SLAVE_REPLY_BYTES + 8};
+static const char *const names[RUNS] = {"state", "flash", "pm", "dm", "io", "area", "reply", "packet"};
+static const size_t rooms[RUNS] = {LOGODWEN_STATE_BYTES + 8, LOGODWEN_FLASH_BYTES + 8,      LOGODWEN_PM_BYTES + 16,
+                                   LOGODWEN_DM_BYTES + 8,    LOGODWEN_IO_BYTES + 8,         LOGODWEN_AREA_BYTES + 8,
+                                   LOGODWEN_REPLY_BYTES + 8, LOGODWEN_SLAVE_REPLY_BYTES + 8};
 static uint8_t *blocks[RUNS], *runs[RUNS], *copies[RUNS]; /* a block holds guard bytes, a run, guard bytes */
 static size_t lengths[RUNS];
 
@@ -49,7 +49,8 @@ static void lay_out(size_t shift) {
     }
     memset(runs[STATE], 0, rooms[STATE]);
     memset(runs[FLASH], 0xFF, rooms[FLASH]);
-    static const size_t usual[RUNS] = {LOGODWEN_STATE_BYTES, LOGODWEN_FLASH_BYTES, 256, 128, 128, LOGODWEN_REPLY_BYTES, 0};
+    static const size_t usual[RUNS] = {LOGODWEN_STATE_BYTES, LOGODWEN_FLASH_BYTES, 256, 128, 128,
+                                       LOGODWEN_AREA_BYTES,  LOGODWEN_REPLY_BYTES, 0};
     memcpy(lengths, usual, sizeof lengths);
 }
 
@@ -95,7 +96,7 @@ static uint64_t request_at(uint32_t now, uint32_t link, uint32_t bc, uint32_t er
     remember();
     uint64_t answered = logodwen_request(now, link, bc, error, lent(PACKET), lengths[PACKET], lent(STATE), lengths[STATE],
                                          lent(FLASH), lengths[FLASH], lent(PM), lengths[PM], lent(DM), lengths[DM], lent(IO),
-                                         lengths[IO], lent(REPLY), lengths[REPLY]);
+                                         lengths[IO], lent(AREA), lengths[AREA], lent(REPLY), lengths[REPLY]);
     look_round(logodwen_refusal(answered), line);
     return answered;
 }
@@ -151,6 +152,17 @@ static void file_write(uint16_t header) {
     logodwen_put(runs[PACKET], 6, logodwen_fcs(runs[PACKET] + 8, 2));
 }
 
+/* Whether a write stands, of this link with so many words joined; or none. */
+static int is_standing(unsigned link, uint32_t words) {
+    const uint8_t *at = runs[STATE] + LOGODWEN_AT_WRITE;
+    return at[0] == 1 && at[1] == link && at[2] == 0 && at[3] == 0 && state_long(LOGODWEN_AT_JOINED) == words;
+}
+
+static int is_none_standing(void) {
+    static const uint8_t none[LOGODWEN_STATE_BYTES - LOGODWEN_AT_WRITE];
+    return memcmp(runs[STATE] + LOGODWEN_AT_WRITE, none, sizeof none) == 0;
+}
+
 /* Tests. */
 
 static void test_start(void) {
@@ -166,6 +178,7 @@ static void test_start(void) {
         CHECK(state[at] == 0);
     for (size_t at = LOGODWEN_AT_ERASED; at < LOGODWEN_AT_DIRECTORY; at++)
         CHECK(state[at] == 0);
+    CHECK(is_none_standing());
     for (unsigned i = 0; i < 8; i++) {
         static const uint16_t addresses[8] = {0x0200, 0x0400, 0x0800, 0x0C00, 0x1000, 0x1400, 0x1800, 0x1C00};
         const uint8_t *entry = state + LOGODWEN_AT_DIRECTORY + 8 * i;
@@ -210,23 +223,27 @@ static void lend_with(unsigned causes) {
         lengths[REPLY] = LOGODWEN_REPLY_BYTES - 1;
     if (causes & 4)
         lengths[PM] = LOGODWEN_PM_BYTES + 4;
+    if (causes & 0x80)
+        lengths[AREA] = LOGODWEN_AREA_BYTES - 1;
     if (causes & 0x10)
         runs[STATE][LOGODWEN_AT_MODE] = 4;
 }
 
 static unsigned first_of(unsigned causes, unsigned tested) {
-    for (unsigned number = 1; number <= 7; number++)
-        if (causes & tested & 1u << (number - 1))
-            return number;
+    static const unsigned order[8] = {1, 2, 3, 8, 4, 5, 6, 7};
+    for (size_t i = 0; i < 8; i++)
+        if (causes & tested & 1u << (order[i] - 1))
+            return order[i];
     return 0;
 }
 
 static void test_order(void) {
-    for (unsigned causes = 0; causes < 64; causes++) {
+    for (unsigned turn = 0; turn < 128; turn++) {
+        unsigned causes = turn % 64 | turn / 64 * 0x80;
         lend_with(causes);
         uint32_t link = causes & 8 ? 2 : 0;
         uint64_t answered = REQUEST(1000, link, LOGODWEN_BC_WHOLE, 0);
-        CHECK(logodwen_refusal(answered) == first_of(causes, 0x3F));
+        CHECK(logodwen_refusal(answered) == first_of(causes, 0xBF));
         CHECK(logodwen_refusal(answered) == 0 || answered == logodwen_refusal(answered));
         lend_with(causes);
         CHECK(logodwen_refusal(ERASE(1)) == first_of(causes, 0x11));
@@ -263,10 +280,11 @@ static void test_each_refusal(void) {
     CHECK(REQUEST(1000, 0, LOGODWEN_BC_WHOLE, 0) == with_words(3));
     memset(runs[STATE], 0, LOGODWEN_STATE_BYTES); /* zero is no node's state */
     CHECK(REQUEST(1000, 0, LOGODWEN_BC_WHOLE, 0) == LOGODWEN_REFUSED_FLASH_SIZE);
-    CHECK(ERASE(1) == LOGODWEN_REFUSED_FLASH_SIZE && POLL(0) == LOGODWEN_REFUSED_STATE && SLAVE_REPLY(0, 0, 3, 0) == LOGODWEN_REFUSED_STATE);
+    CHECK(ERASE(1) == LOGODWEN_REFUSED_FLASH_SIZE && POLL(0) == LOGODWEN_REFUSED_STATE
+          && SLAVE_REPLY(0, 0, 3, 0) == LOGODWEN_REFUSED_STATE);
 }
 
-/* Of another length than 172 bytes, the state's part of 1 and 4 is left out. */
+/* Of another length than 180 bytes, the state's part of 1 and 4 is left out. */
 static void test_state_length(void) {
     for (size_t length = LOGODWEN_STATE_BYTES - 2; length <= LOGODWEN_STATE_BYTES + 2; length++) {
         lend_with(0);
@@ -306,6 +324,37 @@ static void test_state_bytes(void) {
     CHECK(state_word(LOGODWEN_AT_START_TESTS) == 0xF0FF);
 }
 
+/* A write that stands has a link that is a port, and at most 32,768 words joined; where none stands all eight bytes are 0. */
+static void check_write(uint8_t stands, uint8_t link, uint8_t zero, uint8_t another, uint32_t words, unsigned expected) {
+    const uint8_t bytes[4] = {stands, link, zero, another};
+    lend_with(0);
+    memcpy(runs[STATE] + LOGODWEN_AT_WRITE, bytes, sizeof bytes);
+    logodwen_put_pm(runs[STATE] + LOGODWEN_AT_JOINED, 0, words);
+    CHECK(logodwen_refusal(REQUEST(1000, 1, LOGODWEN_BC_END, 1)) == expected && logodwen_refusal(ERASE(1)) == expected);
+    unsigned unasked = expected == 0 ? LOGODWEN_REFUSED_UNASKED : expected;
+    CHECK(POLL(1000) == unasked && SLAVE_REPLY(1000, 5, LOGODWEN_BC_END, 0) == unasked);
+    CHECK(expected != 0 || (stands ? is_standing(link, words) : is_none_standing()));
+}
+
+static void test_write_bytes(void) {
+    check_write(0, 0, 0, 0, 0, 0);
+    for (uint8_t link = 0; link < 2; link++) {
+        check_write(1, link, 0, 0, 0, 0);
+        check_write(1, link, 0, 0, 1, 0);
+        check_write(1, link, 0, 0, LOGODWEN_AREA_WORDS, 0);
+    }
+    static const uint32_t words[] = {LOGODWEN_AREA_WORDS + 1, 65535, 65536, 0x1000000, 0x80000000, 0xFFFFFFFF};
+    for (size_t i = 0; i < sizeof words / sizeof *words; i++) {
+        check_write(1, 0, 0, 0, words[i], LOGODWEN_REFUSED_STATE);
+        check_write(0, 0, 0, 0, words[i], LOGODWEN_REFUSED_STATE);
+    }
+    static const uint8_t wrong[][4] = {{2, 0, 0, 0}, {255, 0, 0, 0}, {1, 2, 0, 0}, {1, 255, 0, 0}, {1, 0, 1, 0},
+                                       {1, 0, 0, 1}, {0, 1, 0, 0},   {0, 0, 1, 0}, {0, 0, 0, 128}};
+    for (size_t i = 0; i < sizeof wrong / sizeof *wrong; i++)
+        check_write(wrong[i][0], wrong[i][1], wrong[i][2], wrong[i][3], 0, LOGODWEN_REFUSED_STATE);
+    check_write(0, 0, 0, 0, 1, LOGODWEN_REFUSED_STATE);
+}
+
 /* An unfinished last word is ignored, and stays. (look_round sees that it does.) */
 static void test_odd_lengths(void) {
     for (size_t extra = 0; extra < 4; extra++) {
@@ -315,6 +364,7 @@ static void test_odd_lengths(void) {
         lengths[IO] = 128 + extra % 2;
         lengths[FLASH] = LOGODWEN_FLASH_BYTES + extra % 2;
         lengths[REPLY] = LOGODWEN_REPLY_BYTES + extra % 2;
+        lengths[AREA] = LOGODWEN_AREA_BYTES + extra;
         file_write(0x7211);
         lengths[PACKET] += extra % 2;
         CHECK(REQUEST(1000, 0, LOGODWEN_BC_WHOLE, 0) == zero_length(LOGODWEN_BC_END));
@@ -340,6 +390,9 @@ static void test_null(void) {
     lengths[REPLY] = 0;
     CHECK(REQUEST(1000, 0, LOGODWEN_BC_WHOLE, 0) == LOGODWEN_REFUSED_REPLY_SIZE && POLL(0) == LOGODWEN_REFUSED_REPLY_SIZE);
     CHECK(SLAVE_REPLY(0, 0, 0, 0) == LOGODWEN_REFUSED_REPLY_SIZE);
+    lengths[REPLY] = LOGODWEN_REPLY_BYTES;
+    lengths[AREA] = 0;
+    CHECK(REQUEST(1000, 0, LOGODWEN_BC_WHOLE, 0) == LOGODWEN_REFUSED_AREA_SIZE);
     lengths[FLASH] = 0;
     CHECK(REQUEST(1000, 0, LOGODWEN_BC_WHOLE, 0) == LOGODWEN_REFUSED_FLASH_SIZE && ERASE(1) == LOGODWEN_REFUSED_FLASH_SIZE);
     lengths[STATE] = 0;
@@ -389,6 +442,188 @@ static void test_group(void) {
     CHECK(POLL(0x36) == LOGODWEN_REFUSED_UNASKED);
 }
 
+/* Files in several packets. */
+
+/* A first packet of this link, of two words that begin no file, on a node with two links. */
+static void begin_write(uint32_t link) {
+    lend_with(0);
+    PACKET_OF(0x452E, 0xDEAD, 0xBEEF);
+    CHECK(REQUEST(1000, link, LOGODWEN_BC_FIRST, 0) == zero_length(LOGODWEN_BC_NEXT) && is_standing(link, 2));
+}
+
+static void test_area(void) {
+    static const size_t short_ones[] = {0, 1, 2, LOGODWEN_AREA_BYTES - 2, LOGODWEN_AREA_BYTES - 1};
+    for (size_t i = 0; i < sizeof short_ones / sizeof *short_ones; i++)
+        for (uint32_t bc = 0; bc < 4; bc++) {
+            begin_write(1);
+            lengths[AREA] = short_ones[i];
+            CHECK(REQUEST(1000, 1, bc, 0) == LOGODWEN_REFUSED_AREA_SIZE && REQUEST(1000, 0, bc, 1) == LOGODWEN_REFUSED_AREA_SIZE);
+            lengths[PACKET] = 0;
+            CHECK(REQUEST(1000, 1, bc, 0) == LOGODWEN_REFUSED_AREA_SIZE && is_standing(1, 2));
+            CHECK(ERASE(1) == 0 && POLL(1000) == LOGODWEN_REFUSED_UNASKED); /* these aren't lent it */
+        }
+}
+
+/* Words join behind each other, whatever they are, and no other word of the area changes. */
+static void test_joining(void) {
+    begin_write(1);
+    CHECK(logodwen_get(runs[AREA], 0) == 0xDEAD && logodwen_get(runs[AREA], 1) == 0xBEEF && is_same(AREA, 4, rooms[AREA]));
+    PACKET_OF(0x452E, 0x3333);
+    lengths[PACKET]++; /* an odd byte is no word */
+    CHECK(REQUEST(1000, 1, 0x100 | LOGODWEN_BC_MIDDLE, 0) == zero_length(LOGODWEN_BC_NEXT) && is_standing(1, 4));
+    CHECK(logodwen_get(runs[AREA], 2) == 0x452E && logodwen_get(runs[AREA], 3) == 0x3333);
+    CHECK(is_same(AREA, 0, 4) && is_same(AREA, 8, rooms[AREA]));
+    PACKET_OF(0x4444);
+    CHECK(REQUEST(1000, 1, LOGODWEN_BC_LAST, 0) == zero_length(LOGODWEN_BC_ABORT) && is_none_standing()); /* no file */
+    CHECK(logodwen_get(runs[AREA], 4) == 0x4444 && is_same(AREA, 0, 8) && is_same(AREA, 10, rooms[AREA]));
+    CHECK(is_same(FLASH, 0, rooms[FLASH]) && state_word(LOGODWEN_AT_AMSWIRE_ERRORS) == 0
+          && state_word(LOGODWEN_AT_FLASH_ERRORS) == 0);
+    PACKET_OF(0x452E);
+    CHECK(REQUEST(1000, 0, LOGODWEN_BC_FIRST, 0) == zero_length(LOGODWEN_BC_NEXT) && is_standing(0, 0));
+    CHECK(is_same(AREA, 0, rooms[AREA]));
+}
+
+/* A file in three packets is written as in one, with every run at every shift from an aligned place. */
+static void test_divisions(void) {
+    for (size_t first = 1; first <= 6; first++)
+        for (size_t second = 1; first + second <= 6; second++) {
+            static uint8_t state[LOGODWEN_STATE_BYTES], flash[LOGODWEN_FLASH_BYTES]; /* as one packet leaves them */
+            lay_out(first + second);
+            CHECK(START(LOGODWEN_CDDC, 4, 0) == LOGODWEN_DONE);
+            file_write(0x7211);
+            CHECK(REQUEST(0, 3, LOGODWEN_BC_WHOLE, 0) == zero_length(LOGODWEN_BC_END));
+            memcpy(state, runs[STATE], sizeof state);
+            memcpy(flash, runs[FLASH], sizeof flash);
+            lay_out(first + second);
+            CHECK(START(LOGODWEN_CDDC, 4, 0) == LOGODWEN_DONE);
+            lengths[AREA] = LOGODWEN_AREA_BYTES + first; /* an odd byte is ignored, and stays */
+            file_write(0x7211);
+            uint8_t words[14];
+            memcpy(words, runs[PACKET], sizeof words);
+            lengths[PACKET] = 2 * first;
+            CHECK(REQUEST(0, 3, LOGODWEN_BC_FIRST, 0) == zero_length(LOGODWEN_BC_NEXT) && is_standing(3, (uint32_t)first - 1));
+            memcpy(runs[PACKET], words + 2 * first, lengths[PACKET] = 2 * second);
+            CHECK(REQUEST(9, 3, LOGODWEN_BC_MIDDLE, 0) == zero_length(LOGODWEN_BC_NEXT));
+            CHECK(is_standing(3, (uint32_t)(first + second) - 1));
+            memcpy(runs[PACKET], words + 2 * (first + second), lengths[PACKET] = 2 * (7 - first - second));
+            CHECK(REQUEST(8, 3, LOGODWEN_BC_LAST, 0) == zero_length(LOGODWEN_BC_END) && is_none_standing());
+            CHECK(memcmp(state, runs[STATE], sizeof state) == 0 && memcmp(flash, runs[FLASH], sizeof flash) == 0);
+            CHECK(memcmp(runs[AREA], words + 2, sizeof words - 2) == 0);
+        }
+}
+
+/* Up to 32,768 words join; one more, or any number more, is ABORT and drops the write. */
+static void test_longest(void) {
+    for (unsigned turn = 0; turn < 4; turn++) {
+        lend_with(0);
+        PACKET_OF(0x452E);
+        lengths[PACKET] = LOGODWEN_REQUEST_BYTES;
+        CHECK(REQUEST(1000, 1, LOGODWEN_BC_FIRST, 0) == zero_length(LOGODWEN_BC_NEXT) && is_standing(1, 8191));
+        for (uint32_t joined = 16383; joined < 32768; joined += 8192)
+            CHECK(REQUEST(1000, 1, LOGODWEN_BC_MIDDLE, 0) == zero_length(LOGODWEN_BC_NEXT) && is_standing(1, joined));
+        lengths[PACKET] = LOGODWEN_REQUEST_BYTES + 2; /* too long for a packet */
+        CHECK(REQUEST(1000, 1, turn, 0) == zero_length(LOGODWEN_BC_ERROR) && is_standing(1, 32767)
+              && is_same(AREA, 0, rooms[AREA]));
+        CHECK(state_word(LOGODWEN_AT_AMSWIRE_ERRORS) == 1);
+        lengths[PACKET] = 2;
+        CHECK(REQUEST(1000, 1, LOGODWEN_BC_MIDDLE, 0) == zero_length(LOGODWEN_BC_NEXT) && is_standing(1, 32768));
+        CHECK(logodwen_get(runs[AREA], 32767) == logodwen_get(runs[PACKET], 0));
+        lengths[PACKET] = turn < 2 ? 2 : LOGODWEN_REQUEST_BYTES;
+        CHECK(REQUEST(1000, 1, turn % 2, 0) == zero_length(LOGODWEN_BC_ABORT) && is_none_standing()
+              && is_same(AREA, 0, rooms[AREA]));
+        CHECK(state_word(LOGODWEN_AT_AMSWIRE_ERRORS) == 1 && is_same(FLASH, 0, rooms[FLASH]));
+        CHECK(REQUEST(1000, 1, LOGODWEN_BC_LAST, 0) == zero_length(LOGODWEN_BC_ERROR)
+              && state_word(LOGODWEN_AT_AMSWIRE_ERRORS) == 2);
+    }
+}
+
+/* What another link sends leaves the write that stands, and the area. */
+static void test_other_link(void) {
+    begin_write(1);
+    uint16_t errors = 0;
+    for (uint32_t bc = 0; bc < 3; bc++) {
+        PACKET_OF(0x452E, 0x1111);
+        unsigned expected = bc == LOGODWEN_BC_FIRST ? LOGODWEN_BC_ABORT : LOGODWEN_BC_ERROR;
+        errors += expected == LOGODWEN_BC_ERROR;
+        CHECK(REQUEST(1000, 0, bc, 0) == zero_length(expected) && state_word(LOGODWEN_AT_AMSWIRE_ERRORS) == errors);
+        PACKET_OF(0x122E);
+        CHECK(REQUEST(1000, 0, bc, 0) == zero_length(LOGODWEN_BC_ERROR) && state_word(LOGODWEN_AT_AMSWIRE_ERRORS) == ++errors);
+        lengths[PACKET] = 0;
+        CHECK(REQUEST(1000, 0, bc, 0) == zero_length(LOGODWEN_BC_ABORT) && is_standing(1, 2));
+    }
+    file_write(0x7211); /* whole requests go on */
+    CHECK(REQUEST(1000, 0, LOGODWEN_BC_WHOLE, 0) == zero_length(LOGODWEN_BC_END) && is_standing(1, 2));
+    PACKET_OF(0x052E, 0x0210);
+    CHECK(REQUEST(1000, 0, LOGODWEN_BC_WHOLE, 0) == with_words(8) && is_standing(1, 2));
+    PACKET_OF(0x472E, 0x0211);
+    CHECK(REQUEST(1000, 0, LOGODWEN_BC_WHOLE, 0) == zero_length(LOGODWEN_BC_END) && ERASE(7) == (uint64_t)7 << 32
+          && is_standing(1, 2));
+    PACKET_OF(0x0405, 0x122E);
+    CHECK(REQUEST(1000, 0, LOGODWEN_BC_WHOLE, 0) == ask(5, 1) && is_standing(1, 2));
+    for (uint32_t bc = 0; bc < 4; bc++) /* pending: no packet of words is taken */
+        CHECK(REQUEST(1000, 1, bc, 0) == LOGODWEN_REFUSED_BUSY && REQUEST(1000, 0, bc, 0) == LOGODWEN_REFUSED_BUSY);
+    CHECK(POLL(1001) == (uint64_t)LOGODWEN_WAITING << 8 && SLAVE_REPLY(1001, 5, LOGODWEN_BC_WHOLE, 0) == with_words(2));
+    CHECK(is_standing(1, 2) && logodwen_get(runs[AREA], 0) == 0xDEAD && logodwen_get(runs[AREA], 1) == 0xBEEF);
+    PACKET_OF(0x3333); /* and the write, while the erasure runs too */
+    CHECK(REQUEST(1000, 1, LOGODWEN_BC_MIDDLE, 0) == zero_length(LOGODWEN_BC_NEXT) && is_standing(1, 3));
+}
+
+/* A file is written as in one packet: an erasure in progress is ABORT, at the last packet and not before. */
+static void test_while_erasing(void) {
+    lend_with(0);
+    PACKET_OF(0x472E, 0x0200);
+    CHECK(REQUEST(1000, 0, LOGODWEN_BC_WHOLE, 0) == zero_length(LOGODWEN_BC_END));
+    file_write(0x7211);
+    lengths[PACKET] = 12;
+    CHECK(REQUEST(1000, 0, LOGODWEN_BC_FIRST, 0) == zero_length(LOGODWEN_BC_NEXT) && is_standing(0, 5));
+    uint16_t last = logodwen_get(runs[PACKET], 6);
+    PACKET_OF(last);
+    CHECK(REQUEST(1000, 0, LOGODWEN_BC_LAST, 0) == zero_length(LOGODWEN_BC_ABORT) && is_none_standing());
+    file_write(0x7211);
+    lengths[PACKET] = 12;
+    CHECK(REQUEST(1000, 0, LOGODWEN_BC_FIRST, 0) == zero_length(LOGODWEN_BC_NEXT) && ERASE(2048) == (uint64_t)2048 << 32);
+    PACKET_OF(last);
+    CHECK(REQUEST(1000, 0, LOGODWEN_BC_LAST, 0) == zero_length(LOGODWEN_BC_END) && is_none_standing());
+}
+
+/* From the writing link: what keeps the write, and what drops it. */
+static void test_drops(void) {
+    for (uint32_t bc = 0; bc < 4; bc++) {
+        begin_write(1);
+        CHECK(REQUEST(1000, 1, bc, 0x100) == zero_length(LOGODWEN_BC_ERROR) && is_standing(1, 2)); /* receive errors */
+        lengths[PACKET] = 0;
+        CHECK(REQUEST(1000, 1, bc, 1) == zero_length(LOGODWEN_BC_ERROR) && is_standing(1, 2));
+        CHECK(state_word(LOGODWEN_AT_AMSWIRE_ERRORS) == 2);
+        if (bc == LOGODWEN_BC_ABORT) {
+            CHECK(REQUEST(1000, 1, bc, 0) == zero_length(LOGODWEN_BC_END) && is_none_standing());
+            CHECK(REQUEST(1000, 1, bc, 0) == zero_length(LOGODWEN_BC_ABORT));
+        } else {
+            CHECK(REQUEST(1000, 1, bc, 0) == zero_length(LOGODWEN_BC_ABORT) && is_standing(1, 2));
+        }
+        CHECK(is_same(AREA, 0, rooms[AREA]) && state_word(LOGODWEN_AT_AMSWIRE_ERRORS) == 2);
+    }
+    static const uint16_t begins[] = {0x452E, 0x122E, 0x0405};
+    for (size_t i = 0; i < 3; i++)
+        for (uint32_t bc = LOGODWEN_BC_FIRST; bc <= LOGODWEN_BC_WHOLE; bc++) {
+            begin_write(0);
+            PACKET_OF(begins[i], 0x122E);
+            CHECK(REQUEST(1000, 0, bc, 0) == zero_length(LOGODWEN_BC_ERROR) && is_none_standing());
+            CHECK(state_word(LOGODWEN_AT_AMSWIRE_ERRORS) == 1 && is_same(AREA, 0, rooms[AREA]) && is_same(FLASH, 0, rooms[FLASH]));
+        }
+    for (unsigned links = 0; links < 4; links++) { /* link 0 has a pending request, a link a write; a link drops what it has */
+        uint8_t writer = links & 1, dropper = links >> 1;
+        lend_with(0x20);
+        runs[STATE][LOGODWEN_AT_WRITE] = 1;
+        runs[STATE][LOGODWEN_AT_WRITE_LINK] = writer;
+        logodwen_put(runs[STATE] + LOGODWEN_AT_JOINED, 0, 7);
+        lengths[PACKET] = 0;
+        int drops = dropper == 0 || writer == 1;
+        CHECK(REQUEST(1000, dropper, LOGODWEN_BC_ABORT, 0) == zero_length(drops ? LOGODWEN_BC_END : LOGODWEN_BC_ABORT));
+        CHECK((runs[STATE][LOGODWEN_AT_PENDING] == 0) == (dropper == 0));
+        CHECK(writer == dropper ? is_none_standing() : is_standing(writer, 7));
+    }
+}
+
 static void test_slave_length(void) {
     lend_with(0x20);
     lengths[PACKET] = LOGODWEN_SLAVE_REPLY_BYTES + 3;
@@ -409,9 +644,12 @@ static void test_texts(void) {
     CHECK(strcmp(logodwen_reply_text(zero_length(0)), "NEXT") == 0 && strcmp(logodwen_reply_text(zero_length(1)), "ERROR") == 0);
     CHECK(strcmp(logodwen_reply_text(zero_length(2)), "ABORT") == 0 && strcmp(logodwen_reply_text(zero_length(3)), "END") == 0);
     CHECK(strcmp(logodwen_reply_text(with_words(1)), "DATA") == 0 && strcmp(logodwen_reply_text(5), "not a reply") == 0);
-    for (unsigned refusal = 1; refusal <= 7; refusal++)
+    CHECK(logodwen_is_next(zero_length(0)) && !logodwen_is_next(zero_length(3)) && !logodwen_is_next(LOGODWEN_REFUSED_BUSY));
+    CHECK(!logodwen_is_next((uint64_t)LOGODWEN_REPLY << 8 | (uint64_t)1 << 32)
+          && !logodwen_is_next((uint64_t)LOGODWEN_WAITING << 8));
+    for (unsigned refusal = 1; refusal <= 8; refusal++)
         CHECK((unsigned)(logodwen_refusal_text(refusal)[0] - '0') == refusal);
-    CHECK(strcmp(logodwen_refusal_text(0), "done") == 0 && strcmp(logodwen_refusal_text(8), "not a refusal") == 0);
+    CHECK(strcmp(logodwen_refusal_text(0), "done") == 0 && strcmp(logodwen_refusal_text(9), "not a refusal") == 0);
     CHECK(logodwen_slave(ask(23, 2)) == 23 && logodwen_from(ask(23, 2)) == 2 && logodwen_answer(ask(23, 2)) == LOGODWEN_ASK);
     CHECK(logodwen_bc(ask(2, 1)) == LOGODWEN_NONE && logodwen_words(ask(2, 1)) == 0);
     CHECK(logodwen_slave(zero_length(2)) == LOGODWEN_NONE && logodwen_from(with_words(3)) == LOGODWEN_NONE);
@@ -419,7 +657,7 @@ static void test_texts(void) {
         CHECK(logodwen_bc(other) == LOGODWEN_NONE && logodwen_slave((uint64_t)LOGODWEN_WAITING << 8) == LOGODWEN_NONE
               && logodwen_from(other << 32) == LOGODWEN_NONE);
     static const uint8_t text[8] = {0x32, 0x31, 0x34, 0x33, 0x36, 0x35, 0x38, 0x37};
-    CHECK(logodwen_fcs(text, 4) == 0xA12B && logodwen_fcs(NULL, 0) == 0xFFFF && logodwen1_fcs(text, 7) == logodwen_fcs(text, 3));
+    CHECK(logodwen_fcs(text, 4) == 0xA12B && logodwen_fcs(NULL, 0) == 0xFFFF && logodwen2_fcs(text, 7) == logodwen_fcs(text, 3));
 }
 
 int main(void) {
@@ -429,10 +667,18 @@ int main(void) {
     test_each_refusal();
     test_state_length();
     test_state_bytes();
+    test_write_bytes();
     test_odd_lengths();
     test_null();
     test_alignment();
     test_group();
+    test_area();
+    test_joining();
+    test_divisions();
+    test_longest();
+    test_other_link();
+    test_while_erasing();
+    test_drops();
     test_slave_length();
     test_texts();
     for (int run = 0; run < RUNS; run++) {

@@ -31,15 +31,17 @@ static uint32_t wild(void) {
 
 /* What is lent, twice: to the library and to the model. Guard bytes stand behind each run. */
 
-enum { STATE_RUN, FLASH_RUN, PM_RUN, DM_RUN, IO_RUN, REPLY_RUN, RUNS };
+enum { STATE_RUN, FLASH_RUN, PM_RUN, DM_RUN, IO_RUN, AREA_RUN, REPLY_RUN, RUNS };
 enum { GUARD = 16 };
-static const char *const run_names[RUNS] = {"state", "flash", "pm", "dm", "io", "reply"};
+static const char *const run_names[RUNS] = {"state", "flash", "pm", "dm", "io", "area", "reply"};
 static const size_t room[RUNS] = {LOGODWEN_STATE_BYTES + 8, LOGODWEN_FLASH_BYTES + 8, LOGODWEN_PM_BYTES + 8,
-                                  LOGODWEN_DM_BYTES + 8,    LOGODWEN_IO_BYTES + 8,    LOGODWEN_REPLY_BYTES + 8};
+                                  LOGODWEN_DM_BYTES + 8,    LOGODWEN_IO_BYTES + 8,    LOGODWEN_AREA_BYTES + 8,
+                                  LOGODWEN_REPLY_BYTES + 8};
 static uint8_t *library[RUNS], *model[RUNS]; /* two worlds */
 static size_t lent_bytes[RUNS];
 
-static const size_t usual_bytes[RUNS] = {LOGODWEN_STATE_BYTES, LOGODWEN_FLASH_BYTES, 0, 0, 0, LOGODWEN_REPLY_BYTES};
+static const size_t usual_bytes[RUNS] = {LOGODWEN_STATE_BYTES, LOGODWEN_FLASH_BYTES, 0, 0, 0,
+                                         LOGODWEN_AREA_BYTES,  LOGODWEN_REPLY_BYTES};
 
 /* Where a length of 0 is lent, sometimes as NULL. */
 static uint8_t *lend(uint8_t *const *world, int run) { return lent_bytes[run] == 0 ? NULL : world[run]; }
@@ -56,9 +58,9 @@ static void put_state_long(size_t at, uint32_t value) {
 static uint64_t seed;
 static unsigned long calls;
 static char call_text[256];
-static uint64_t answered;              /* the last one */
-static unsigned long tallies[5][8][4]; /* by call, by refusal, by answer */
-static unsigned long commands[256][3]; /* own commands answered with words, END, ABORT */
+static uint64_t answered;               /* the last one */
+static unsigned long tallies[5][16][4]; /* by call, by refusal, by answer */
+static unsigned long commands[256][3];  /* own commands answered with words, END, ABORT */
 
 static void differs(const char *what, size_t at, uint64_t by_library, uint64_t by_model) {
     printf("differ: seed %" PRIu64 ", call %lu: %s: %s", seed, calls, call_text, what);
@@ -84,12 +86,102 @@ static void compare(int call, uint64_t by_library, uint64_t by_model, const int 
     for (; *runs >= 0; runs++)
         compare_run(*runs);
     answered = by_model;
-    tallies[call][logodwen_refusal(by_model) & 7][logodwen_answer(by_model) & 3]++;
+    tallies[call][logodwen_refusal(by_model) & 15][logodwen_answer(by_model) & 3]++;
 }
 
 static const int start_runs[] = {STATE_RUN, -1}, slave_runs[] = {STATE_RUN, REPLY_RUN, -1},
                  erase_runs[] = {STATE_RUN, FLASH_RUN, -1},
-                 all_runs[] = {STATE_RUN, FLASH_RUN, PM_RUN, DM_RUN, IO_RUN, REPLY_RUN, -1};
+                 all_runs[] = {STATE_RUN, FLASH_RUN, PM_RUN, DM_RUN, IO_RUN, AREA_RUN, REPLY_RUN, -1};
+
+/* A File Write in several packets that stands, as the state says it, and how many requests of each kind acted on one: by 02,
+   request 1, and by what came of it. The last two kinds, which leave it alone, count as none. */
+
+struct standing {
+    bool stands, pending;
+    uint32_t link, joined, pending_link;
+};
+
+static struct standing standing(void) {
+    const uint8_t *state = model[STATE_RUN];
+    bool is_state = lent_bytes[STATE_RUN] == LOGODWEN_STATE_BYTES;
+    return (struct standing){is_state && state[LOGODWEN_AT_WRITE] == 1, state[LOGODWEN_AT_PENDING] != 0,
+                             state[LOGODWEN_AT_WRITE_LINK], logodwen_get_pm(state + LOGODWEN_AT_JOINED, 0),
+                             state[LOGODWEN_AT_LINK]};
+}
+
+enum write_kind {
+    JOINS,
+    ENDS,
+    LAST_ABORTS,
+    JOINS_TOO_MUCH,
+    BEGINS_ANEW,
+    BEGINS_OTHER,
+    SENDS_WHOLE,
+    DROPS_IT,
+    DROPS_BOTH,
+    NO_WORDS_KEEP,
+    RECEIVED_WRONG,
+    TOO_LONG,
+    OTHER_FIRST,
+    OTHER_FIRST_ERROR,
+    OTHER_LATER,
+    ACTING,
+    OTHER_WHOLE = ACTING,
+    REFUSED,
+    WRITE_KINDS
+};
+static const char *const write_names[WRITE_KINDS] = {
+    [JOINS] = "middle packet joined",
+    [ENDS] = "last packet, END",
+    [LAST_ABORTS] = "last packet, ABORT",
+    [JOINS_TOO_MUCH] = "joined above 32,768 words",
+    [BEGINS_ANEW] = "BC 10 of its link for File Write",
+    [BEGINS_OTHER] = "BC 10 of its link for another command",
+    [SENDS_WHOLE] = "BC 11 of its link",
+    [DROPS_IT] = "dropped by no words",
+    [DROPS_BOTH] = "dropped by no words with the request pending",
+    [NO_WORDS_KEEP] = "no words, kept",
+    [RECEIVED_WRONG] = "receive error",
+    [TOO_LONG] = "packet too long",
+    [OTHER_FIRST] = "BC 10 of another link for File Write",
+    [OTHER_FIRST_ERROR] = "BC 10 of another link, ERROR",
+    [OTHER_LATER] = "BC 00 or 01 of another link",
+    [OTHER_WHOLE] = "BC 11 of another link",
+    [REFUSED] = "refused",
+};
+static unsigned long writes[WRITE_KINDS], writes_begun, later_without_write;
+
+static enum write_kind write_kind(struct standing was, uint32_t link, unsigned bc, bool error, const uint8_t *words, size_t count,
+                                  uint64_t answer) {
+    bool own = was.link == link, of_file_write = count > 0 && words[0] == 0x2E && words[1] == 0x45;
+    if (logodwen_refusal(answer) != 0)
+        return REFUSED;
+    if (error)
+        return RECEIVED_WRONG;
+    if (count == 0)
+        return bc != 2 || !own ? NO_WORDS_KEEP : was.pending && was.pending_link == link ? DROPS_BOTH : DROPS_IT;
+    if (count > LOGODWEN_REQUEST_WORDS)
+        return TOO_LONG;
+    if (bc == 3)
+        return own ? SENDS_WHOLE : OTHER_WHOLE;
+    if (bc == 2)
+        return own ? of_file_write ? BEGINS_ANEW : BEGINS_OTHER : of_file_write ? OTHER_FIRST : OTHER_FIRST_ERROR;
+    if (!own)
+        return OTHER_LATER;
+    if (was.joined + count > LOGODWEN_AREA_WORDS)
+        return JOINS_TOO_MUCH;
+    return bc == 0 ? JOINS : logodwen_bc(answer) == LOGODWEN_BC_END ? ENDS : LAST_ABORTS;
+}
+
+static void count_write(struct standing was, uint32_t link, unsigned bc, bool error, const uint8_t *words, size_t count,
+                        uint64_t answer) {
+    if (was.stands)
+        writes[write_kind(was, link, bc, error, words, count, answer)]++;
+    else if (bc == 2 && standing().stands)
+        writes_begun++;
+    else if (bc < 2 && count > 0 && logodwen_refusal(answer) == 0)
+        later_without_write++;
+}
 
 /* Calls. */
 
@@ -112,20 +204,24 @@ static uint32_t call_start(uint32_t kind, uint32_t ports, uint32_t subdetector) 
 static uint64_t call_request(uint32_t link, uint32_t bc, uint32_t receive_error) {
     snprintf(
         call_text, sizeof call_text,
-        "request(now %08x, link %u, bc %u, error %x, packet %zu bytes from %02x%02x, flash %zu, pm %zu, dm %zu, io %zu, reply %zu)",
+        "request(now %08x, link %u, bc %u, error %x, packet %zu bytes from %02x%02x, flash %zu, pm %zu, dm %zu, io %zu, area %zu, "
+        "reply %zu)",
         now, link, bc, receive_error, packet_bytes, packet[1], packet[0], lent_bytes[FLASH_RUN], lent_bytes[PM_RUN],
-        lent_bytes[DM_RUN], lent_bytes[IO_RUN], lent_bytes[REPLY_RUN]);
+        lent_bytes[DM_RUN], lent_bytes[IO_RUN], lent_bytes[AREA_RUN], lent_bytes[REPLY_RUN]);
     const uint8_t *words = packet_bytes == 0 ? NULL : packet;
-    uint64_t a = logodwen_request(now, link, bc, receive_error, words, packet_bytes, lend(library, STATE_RUN),
-                                  lent_bytes[STATE_RUN], lend(library, FLASH_RUN), lent_bytes[FLASH_RUN], lend(library, PM_RUN),
-                                  lent_bytes[PM_RUN], lend(library, DM_RUN), lent_bytes[DM_RUN], lend(library, IO_RUN),
-                                  lent_bytes[IO_RUN], lend(library, REPLY_RUN), lent_bytes[REPLY_RUN]);
-    uint64_t b =
-        model_request(now, link, bc, receive_error, words, packet_bytes, lend(model, STATE_RUN), lent_bytes[STATE_RUN],
-                      lend(model, FLASH_RUN), lent_bytes[FLASH_RUN], lend(model, PM_RUN), lent_bytes[PM_RUN], lend(model, DM_RUN),
-                      lent_bytes[DM_RUN], lend(model, IO_RUN), lent_bytes[IO_RUN], lend(model, REPLY_RUN), lent_bytes[REPLY_RUN]);
+    struct standing was = standing();
+    uint64_t a =
+        logodwen_request(now, link, bc, receive_error, words, packet_bytes, lend(library, STATE_RUN), lent_bytes[STATE_RUN],
+                         lend(library, FLASH_RUN), lent_bytes[FLASH_RUN], lend(library, PM_RUN), lent_bytes[PM_RUN],
+                         lend(library, DM_RUN), lent_bytes[DM_RUN], lend(library, IO_RUN), lent_bytes[IO_RUN],
+                         lend(library, AREA_RUN), lent_bytes[AREA_RUN], lend(library, REPLY_RUN), lent_bytes[REPLY_RUN]);
+    uint64_t b = model_request(now, link, bc, receive_error, words, packet_bytes, lend(model, STATE_RUN), lent_bytes[STATE_RUN],
+                               lend(model, FLASH_RUN), lent_bytes[FLASH_RUN], lend(model, PM_RUN), lent_bytes[PM_RUN],
+                               lend(model, DM_RUN), lent_bytes[DM_RUN], lend(model, IO_RUN), lent_bytes[IO_RUN],
+                               lend(model, AREA_RUN), lent_bytes[AREA_RUN], lend(model, REPLY_RUN), lent_bytes[REPLY_RUN]);
     compare(1, a, b, all_runs);
-    if (packet_bytes >= 2 && packet[0] == 0x2E && logodwen_refusal(b) == 0 && logodwen_bc(b) != LOGODWEN_BC_ERROR)
+    count_write(was, link, bc & 3, receive_error != 0, words, packet_bytes / 2, b);
+    if (packet_bytes >= 2 && packet[0] == 0x2E && (bc & 3) == 3 && logodwen_refusal(b) == 0 && logodwen_bc(b) != LOGODWEN_BC_ERROR)
         commands[packet[1]][logodwen_words(b) != 0 ? 0 : logodwen_bc(b) == LOGODWEN_BC_END ? 1 : 2]++;
     return b;
 }
@@ -352,6 +448,137 @@ static void step_request(void) {
     call_request(link, bc, one_in(30) ? wild() : 0);
 }
 
+/* The file that comes in several packets, and how many words of it have been sent. It knows nothing of what became of them. */
+static uint8_t image[sizeof packet];
+static size_t image_words, image_sent;
+
+static void new_image(void) {
+    own(0x45);
+    if (one_in(12)) /* up to the most words that are joined, and above */
+        for (unsigned left = one_in(3) ? LOGODWEN_AREA_WORDS - 2 + below(5) : 5000 + below(30000); left > 0; left--)
+            word(any() & 0xFFFF);
+    else
+        put_file(one_in(8) ? some_name() : below(256));
+    if (one_in(10))
+        damage();
+    image_words = packet_bytes < 2 ? 0 : packet_bytes / 2 - 1;
+    image_sent = 0;
+    memcpy(image, packet + 2, 2 * image_words);
+}
+
+/* Puts some more words of the image behind what the packet has, and answers whether all of it is sent then. If it was before, any
+   words follow. */
+static bool put_piece(void) {
+    size_t left = image_words - image_sent, most = LOGODWEN_REQUEST_WORDS - packet_bytes / 2;
+    size_t count = one_in(3) ? 1 + below(5) : one_in(2) ? most - below(3) : 1 + below((uint32_t)left + 1);
+    if (left == 0)
+        for (unsigned i = 1 + below(4); i > 0; i--)
+            word(any() & 0xFFFF);
+    if (count > most)
+        count = most;
+    if (count > left)
+        count = left;
+    memcpy(packet + packet_bytes, image + 2 * image_sent, 2 * count);
+    packet_bytes += 2 * count;
+    image_sent += count;
+    return image_sent == image_words;
+}
+
+/* A first packet; at times its header word is all that it has, or has a wrong bit. */
+static void put_first(void) {
+    own(0x45);
+    if (!one_in(6))
+        put_piece();
+    if (one_in(15))
+        flip(packet, 2);
+}
+
+/* A link below the ports that isn't that one, where there is one. */
+static uint32_t other_link(uint32_t link) {
+    uint32_t ports = model[STATE_RUN][LOGODWEN_AT_PORTS];
+    return ports < 2 ? link + 1 : (link + 1 + below(ports - 1)) % ports;
+}
+
+static void step_first_packet(void) {
+    uint32_t ports = model[STATE_RUN][LOGODWEN_AT_PORTS], link = below(ports == 0 ? 1 : ports);
+    new_image();
+    put_first();
+    uint32_t bc = one_in(20) ? below(4) : one_in(10) ? wild() << 2 | 2 : 2;
+    call_request(link, bc, one_in(60) ? wild() : 0);
+}
+
+static void step_next_packet(uint32_t link) {
+    packet_bytes = 0;
+    bool over = put_piece();
+    uint32_t bc = over ? !one_in(8) : one_in(20), high = one_in(10) ? wild() << 2 : 0;
+    if (one_in(20))
+        packet[packet_bytes++] = (uint8_t)any(); /* an unfinished last word */
+    call_request(link, high | bc, 0);
+}
+
+/* A packet while a write stands: most go on with it, the others are what 02 has a rule for. If none stands, one begins, mostly. */
+static void step_write(void) {
+    struct standing was = standing();
+    if (!was.stands && !one_in(12)) {
+        step_first_packet();
+        return;
+    }
+    uint32_t other = other_link(was.link), either = one_in(2) ? was.link : other, bc = below(4);
+    switch (was.pending && one_in(2) ? 0 : below(28)) { /* with a request pending, words are refused */
+    case 0:
+    case 1:
+        packet_bytes = below(2);
+        bc = one_in(2) ? 2 : bc;
+        call_request(either, bc, one_in(6) ? wild() : 0);
+        break;
+    case 2:
+        any_packet();
+        call_request(was.link, bc, 1 + wild() % 0xFFFF);
+        break;
+    case 3:
+        own(0x45);
+        for (unsigned left = LOGODWEN_REQUEST_WORDS + below(3); left > 0; left--)
+            word(any() & 0xFFFF);
+        call_request(either, bc, 0);
+        break;
+    case 4:
+        put_first();
+        call_request(was.link, 2, 0);
+        break;
+    case 5:
+        own_command();
+        call_request(was.link, one_in(2) ? 2 : 3, 0);
+        break;
+    case 6:
+    case 7:
+        put_first();
+        call_request(other, 2, 0);
+        break;
+    case 8:
+        own_command();
+        call_request(other, 2, 0);
+        break;
+    case 9:
+    case 10:
+        packet_bytes = 0;
+        put_piece();
+        call_request(other, below(2), 0);
+        break;
+    case 11:
+    case 12:
+    case 13:
+        own_command();
+        call_request(other, 3, 0);
+        break;
+    case 14:
+        if (was.stands)
+            put_state_long(LOGODWEN_AT_JOINED, LOGODWEN_AREA_WORDS - below(one_in(2) ? 6 : LOGODWEN_REQUEST_WORDS));
+        step_next_packet(was.link);
+        break;
+    default: step_next_packet(was.link); break;
+    }
+}
+
 /* What a slave says: nothing, or words that end with their FCS. */
 static void slave_words(void) {
     packet_bytes = 0;
@@ -421,7 +648,7 @@ static void step_state(void) {
     uint8_t before[LOGODWEN_STATE_BYTES];
     memcpy(before, model[STATE_RUN], sizeof before);
     uint32_t set = one_in(4) ? any() : any() & 0xFFFFFF;
-    switch (below(10)) {
+    switch (below(12)) {
     case 0: put_any(0, LOGODWEN_STATE_BYTES, 256); break;
     case 1: put_any(0, 4, 10); break;
     case 2: put_state_long(LOGODWEN_AT_AMSWIRE_ERRORS, one_in(2) ? 0xFFFEFFFE : any()); break;
@@ -433,6 +660,14 @@ static void step_state(void) {
     case 5: put_state_long(LOGODWEN_AT_MASKS + 4 * below(16), set); break;
     case 6: put_any(LOGODWEN_AT_DIRECTORY, 64, 256); break;
     case 7: put_any(LOGODWEN_AT_START_TESTS, 2, 256); break;
+    case 8: put_any(LOGODWEN_AT_WRITE, LOGODWEN_STATE_BYTES - LOGODWEN_AT_WRITE, 4); break;
+    case 9:
+        put_both(STATE_RUN, LOGODWEN_AT_WRITE, (uint8_t)(one_in(8) ? below(256) : 1));
+        put_both(STATE_RUN, LOGODWEN_AT_WRITE_LINK, (uint8_t)below(one_in(8) ? 256 : 4));
+        put_state_long(LOGODWEN_AT_JOINED, one_in(3)    ? LOGODWEN_AREA_WORDS - 3 + below(6)
+                                           : one_in(10) ? wild()
+                                                        : below(LOGODWEN_AREA_WORDS));
+        break;
     default:
         put_both(STATE_RUN, LOGODWEN_AT_PENDING, (uint8_t)(1 + below(2)));
         put_both(STATE_RUN, LOGODWEN_AT_LINK, (uint8_t)below(4));
@@ -443,12 +678,18 @@ static void step_state(void) {
         put_both(STATE_RUN, LOGODWEN_AT_TALLY, (uint8_t)(group ? below(one_in(10) ? 10 : 7) : 0));
         put_state_long(LOGODWEN_AT_ASKED, group ? set | (one_in(10) ? 0 : 1u << model[STATE_RUN][LOGODWEN_AT_SLAVE] % 24) : 0);
         put_state_long(LOGODWEN_AT_BUILT, !group ? 0 : one_in(3) ? 12160 + below(130) : one_in(10) ? any() : below(12000));
+        if (one_in(3)) { /* a write of the same link */
+            put_both(STATE_RUN, LOGODWEN_AT_WRITE, 1);
+            put_both(STATE_RUN, LOGODWEN_AT_WRITE_LINK, model[STATE_RUN][LOGODWEN_AT_LINK]);
+        }
         break;
     }
     for (int turn = 0; turn < 3; turn++) {
-        int kind = (int)below(5);
+        int kind = (int)below(7);
         if (kind == 0)
             step_request();
+        else if (kind >= 5)
+            step_write();
         else if (kind == 1)
             step_slave();
         else if (kind == 2)
@@ -469,11 +710,11 @@ static void step_lengths(void) {
     memcpy(before, lent_bytes, sizeof before);
     for (unsigned turn = 1 + below(2); turn > 0; turn--) {
         int run = (int)below(RUNS);
-        static const size_t most[RUNS] = {LOGODWEN_STATE_BYTES, LOGODWEN_FLASH_BYTES, LOGODWEN_PM_BYTES,
-                                          LOGODWEN_DM_BYTES,    LOGODWEN_IO_BYTES,    LOGODWEN_REPLY_BYTES};
+        static const size_t most[RUNS] = {LOGODWEN_STATE_BYTES, LOGODWEN_FLASH_BYTES, LOGODWEN_PM_BYTES,   LOGODWEN_DM_BYTES,
+                                          LOGODWEN_IO_BYTES,    LOGODWEN_AREA_BYTES,  LOGODWEN_REPLY_BYTES};
         lent_bytes[run] = one_in(5) ? 0 : one_in(4) ? below((uint32_t)room[run]) : most[run] - 4 + below(9);
     }
-    int kind = (int)below(6);
+    int kind = (int)below(8);
     if (kind == 0)
         step_start();
     else if (kind == 1)
@@ -482,13 +723,22 @@ static void step_lengths(void) {
         step_reply();
     else if (kind == 3)
         step_erase();
-    else
+    else if (kind < 6)
         step_request();
+    else
+        step_write();
     memcpy(lent_bytes, before, sizeof before);
 }
 
-/* Flash words that no call stored, with a new start or without. */
+static void blank(void) {
+    memset(library[FLASH_RUN], 0xFF, LOGODWEN_FLASH_BYTES);
+    memset(model[FLASH_RUN], 0xFF, LOGODWEN_FLASH_BYTES);
+}
+
+/* Flash words that no call stored, or a blank flash, with a new start or without. */
 static void step_flash(void) {
+    if (one_in(4))
+        blank();
     size_t at = one_in(4) ? below(LOGODWEN_FLASH_BYTES) : 4096 * (1 + below(15));
     at += at + 24 < LOGODWEN_FLASH_BYTES ? below(24) : 0;
     put_both(FLASH_RUN, at, one_in(3) ? 0xFF : model[FLASH_RUN][at] ^ (uint8_t)(1 << below(8)));
@@ -516,8 +766,10 @@ static void step(void) {
         one_in(2) ? (void)call_poll() : step_erase();
     else if (one_in(100))
         step_start();
-    else
+    else if (standing().stands ? one_in(6) : !one_in(3))
         step_request();
+    else
+        step_write();
 }
 
 /* A fresh node on a flash that is blank or left from before, with other memories. */
@@ -527,12 +779,11 @@ static void fresh(void) {
     lent_bytes[PM_RUN] = below(large ? LOGODWEN_PM_BYTES + 3 : 400);
     lent_bytes[DM_RUN] = below(large ? LOGODWEN_DM_BYTES + 1 : 400);
     lent_bytes[IO_RUN] = below(large ? LOGODWEN_IO_BYTES + 1 : 400);
+    lent_bytes[AREA_RUN] += below(4);
     lent_bytes[REPLY_RUN] += below(4);
     lent_bytes[FLASH_RUN] += below(2);
-    if (one_in(2)) {
-        memset(library[FLASH_RUN], 0xFF, LOGODWEN_FLASH_BYTES);
-        memset(model[FLASH_RUN], 0xFF, LOGODWEN_FLASH_BYTES);
-    }
+    if (one_in(2))
+        blank();
     now = one_in(2) ? 0xFFFFFFFFu - below(300) : any();
     start(one_in(4) ? LOGODWEN_CDP : LOGODWEN_CDDC);
 }
@@ -556,7 +807,7 @@ static void print_tallies(void) {
             printf(" done %lu", tallies[call][0][0]);
         else
             printf(" reply %lu, ask %lu, waiting %lu", tallies[call][0][1], tallies[call][0][2], tallies[call][0][3]);
-        for (int refusal = 1; refusal < 8; refusal++)
+        for (int refusal = 1; refusal < 9; refusal++)
             if (tallies[call][refusal][0] != 0)
                 printf(", refused by %d %lu", refusal, tallies[call][refusal][0]);
         printf("\n");
@@ -565,6 +816,13 @@ static void print_tallies(void) {
         if (commands[id][0] != 0 || commands[id][1] != 0)
             printf("  command %02X: words %lu, END %lu, ABORT %lu\n", (unsigned)id, commands[id][0], commands[id][1],
                    commands[id][2]);
+    unsigned long acting = 0;
+    for (int kind = 0; kind < ACTING; kind++)
+        acting += writes[kind];
+    printf("  writes begun %lu, middle or last packets without one %lu\n", writes_begun, later_without_write);
+    printf("  standing writes: %lu requests act on one\n", acting);
+    for (int kind = 0; kind < WRITE_KINDS; kind++)
+        printf("  standing write, %s: %lu\n", write_names[kind], writes[kind]);
 }
 
 /* A number of digits alone, at most 18 of them. */

@@ -116,6 +116,21 @@ static bool is_long_request(const char *name) {
     return laid != SIZE_MAX;
 }
 
+/* A file in packets: the first number is the room, and each packet is printed behind its BC and its length. */
+static void make_packets(void) {
+    size_t room = given[0], words = count - 1, laid;
+    uint8_t *packet = block_of(room), *file = words_from(1);
+    uint32_t bc;
+    for (size_t at = 0; (laid = logodwen_make_file_packet(packet, room, file, words, &at, &bc)) != 0;) {
+        printf("%X %X ", (unsigned)bc, (unsigned)laid);
+        for (size_t i = 0; i < laid; i++)
+            printf("%X ", (unsigned)logodwen_get(packet, i));
+    }
+    printf("%X\n", (unsigned)bc); /* of no packet any more */
+    free(packet);
+    free(file);
+}
+
 /* Files. */
 
 static void add_segment(struct logodwen_file *file, const uint32_t *numbers) {
@@ -233,6 +248,8 @@ static void of_words(const char *name) {
 static void answer_line(const char *name) {
     if (strcmp(name, "file") == 0)
         build_file();
+    else if (strcmp(name, "packets") == 0)
+        make_packets();
     else if (strcmp(name, "read_file") == 0)
         read_file();
     else if (strcmp(name, "read_status") == 0)
@@ -350,11 +367,75 @@ static void try_sequence(unsigned long turn) {
     for (size_t i = 0; i <= 2 * words; i++)
         bytes[i] = (uint8_t)any();
     uint16_t expected = model_fcs(bytes, words);
-    if (logodwen_fcs(bytes, words) != expected || logodwen1_fcs(bytes, 2 * words + 1) != expected)
+    if (logodwen_fcs(bytes, words) != expected || logodwen2_fcs(bytes, 2 * words + 1) != expected)
         differs("a check sequence", turn);
     if (logodwen_is_sealed(bytes, words) != (words >= 2 && model_fcs(bytes, words - 1) == word_at(bytes, words - 1)))
         differs("whether a reply is sealed", turn);
     free(bytes);
+}
+
+/* A file of some segments, seldom damaged. */
+static size_t build_by_chance(uint8_t *bytes, size_t room) {
+    uint16_t data[40];
+    struct logodwen_file file;
+    for (size_t i = 0; i < 40; i++)
+        data[i] = (uint16_t)any();
+    logodwen_file_begin(&file, bytes, room, any() % 2, any() % 4, any() % 256);
+    for (unsigned left = 1 + any() % 3; left > 0; left--)
+        logodwen_file_dm(&file, 0, 0x2000, data, 1 + any() % 40);
+    if (any() % 8 == 0)
+        bytes[any() % (2 * file.words)] ^= 1;
+    return file.words;
+}
+
+/* A file in packets of any length is written as the model writes it in one, and nothing of one that is dropped stays but in the area. */
+static void try_write(unsigned long turn) {
+    enum { ROOM = 130 };
+    static const struct logodwen_given kind = {LOGODWEN_CDP, 2, 0, 0, 0, 0, 0};
+    static struct logodwen_node ours, other; /* in packets, and in one by the model */
+    uint8_t file[2 * ROOM], whole[2 * ROOM + 2];
+    if (turn % 16 == 0) {
+        logodwen_node_blank(&ours);
+        logodwen_node_start(&ours, &kind);
+        other = ours;
+    }
+    size_t words = build_by_chance(file, ROOM), length = logodwen_make_file_write(whole, ROOM + 1, file, words);
+    size_t room = 2 + any() % (words + 2);
+    uint32_t link = any() % 2;
+    uint8_t *packet = block_of(room);
+    size_t sent;
+    uint64_t answered = logodwen_node_write(&ours, 0, link, packet, room, file, words, &sent);
+    uint64_t expected = model_request(0, link, LOGODWEN_BC_WHOLE, 0, whole, 2 * length, other.state, sizeof other.state, other.flash,
+                                      sizeof other.flash, NULL, 0, NULL, 0, NULL, 0, other.area, sizeof other.area, other.reply,
+                                      sizeof other.reply);
+    if (answered != expected || sent != words || memcmp(ours.state, other.state, sizeof other.state) != 0
+        || memcmp(ours.flash, other.flash, sizeof other.flash) != 0)
+        differs("a file in packets", turn);
+    bool is_next = logodwen_is_next(logodwen_node_request(&ours, 0, link, LOGODWEN_BC_FIRST, 0, whole, length));
+    if (!is_next || logodwen_bc(logodwen_node_drop(&ours, 0, 1 - link)) != LOGODWEN_BC_ABORT
+        || logodwen_bc(logodwen_node_drop(&ours, 0, link)) != LOGODWEN_BC_END)
+        differs("a file that is dropped", turn);
+    if (memcmp(ours.state, other.state, sizeof other.state) != 0 || memcmp(ours.flash, other.flash, sizeof other.flash) != 0)
+        differs("what a dropped file leaves", turn);
+    free(packet);
+}
+
+/* Around the longest request, and the longest file in packets: on a bench flash all are ABORT, and stop where one is. */
+static void try_long_writes(void) {
+    static const size_t lengths[] = {0, 8191, 8192, 8193, 16383, 16384, 32767, 32768, 32769, 40959, 40960};
+    static const struct logodwen_given kind = {LOGODWEN_CDP, 1, 0, 0, 0, 0, 0};
+    static struct logodwen_node node, before;
+    static uint8_t file[2 * 40960], packet[LOGODWEN_REQUEST_BYTES];
+    logodwen_node_blank(&node);
+    logodwen_node_start(&node, &kind);
+    for (size_t i = 0; i < sizeof lengths / sizeof *lengths; i++) {
+        before = node;
+        size_t sent, expected = lengths[i] < 40959 ? lengths[i] : 40959; /* up to the fifth packet */
+        uint64_t answered = logodwen_node_write(&node, 0, 0, packet, LOGODWEN_REQUEST_WORDS, file, lengths[i], &sent);
+        if (sent != expected || strcmp(logodwen_reply_text(answered), "ABORT") != 0 || memcmp(node.state, before.state, sizeof node.state) != 0
+            || memcmp(node.flash, before.flash, sizeof node.flash) != 0)
+            differs("a long file", (unsigned long)lengths[i]);
+    }
 }
 
 int main(int arguments, char **argument) {
@@ -368,7 +449,9 @@ int main(int arguments, char **argument) {
         try_file(turn);
         try_group(turn);
         try_sequence(turn);
+        try_write(turn);
     }
+    try_long_writes();
     printf("helpers: %lu turns by chance as the model has them\n", turns);
     return 0;
 }

@@ -6,9 +6,9 @@
 #include <stdlib.h>
 #include <string.h>
 
-enum { FLASH, PROGRAM, DATA_MEMORY, REGISTERS, BUFFER, MEMORIES };
-enum { MOST_WORDS = 1024, MOST_RUN = 65552 };
-static const size_t rooms[MEMORIES] = {262160, 32784, 32784, 4112, 12304};
+enum { FLASH, PROGRAM, DATA_MEMORY, REGISTERS, BUFFER, JOINING, MEMORIES };
+enum { MOST_WORDS = 1024, MOST_RUN = 65552, NODE_WORDS = 96 };
+static const size_t rooms[MEMORIES] = {262160, 32784, 32784, 4112, 12304, 32784};
 static const struct limits wide = {32768, 32768, 4096, SIZE_MAX, true};
 
 static uint8_t *memories[MEMORIES];
@@ -67,15 +67,14 @@ static unsigned digest_of(int memory, size_t at, size_t count) {
     return value;
 }
 
-/* The node's 92 words. */
+/* The node's words. */
 static void put_halves(uint16_t **to, uint32_t value) {
     *(*to)++ = (uint16_t)(value >> 16);
     *(*to)++ = (uint16_t)value;
 }
 
-static void words_of_node(uint16_t words[92]) {
+static void words_of_node(uint16_t words[NODE_WORDS]) {
     uint16_t *to = words;
-    memset(words, 0, 92 * sizeof *words);
     *to++ = (uint16_t)node.kind;
     *to++ = (uint16_t)node.ports;
     *to++ = (uint16_t)node.subdetector;
@@ -102,20 +101,23 @@ static void words_of_node(uint16_t words[92]) {
     *to++ = (uint16_t)node.from;
     put_halves(&to, node.built);
     *to++ = (uint16_t)node.tally;
+    *to++ = node.writing;
+    *to++ = (uint16_t)node.writer;
+    put_halves(&to, node.joined);
 }
 
 static void print_node(void) {
-    uint16_t words[92];
+    uint16_t words[NODE_WORDS];
     words_of_node(words);
-    for (int i = 0; i < 92; i++)
+    for (int i = 0; i < NODE_WORDS; i++)
         printf(i == 0 ? "%04x" : " %04x", words[i]);
 }
 
 static unsigned digest_of_node(void) {
-    uint16_t words[92];
+    uint16_t words[NODE_WORDS];
     unsigned value = 1;
     words_of_node(words);
-    for (int i = 0; i < 92; i++)
+    for (int i = 0; i < NODE_WORDS; i++)
         value = digest_word(value, words[i]);
     return value;
 }
@@ -178,6 +180,15 @@ static void set(void) {
         node.sector = index;
         node.done = value;
         break;
+    case 18:
+        node.writing = false;
+        node.writer = node.joined = 0;
+        break;
+    case 19:
+        node.writing = true;
+        node.writer = index;
+        node.joined = value;
+        break;
     default: set_pending(field - 15, index, value); break;
     }
 }
@@ -195,7 +206,8 @@ static uint64_t start(void) {
 
 static uint64_t request(void) {
     uint32_t now = (uint32_t)number(2), link = (uint32_t)number(2), bc = (uint32_t)number(1), error = (uint32_t)number(1);
-    struct lent lent = {lent_run(FLASH), lent_run(PROGRAM), lent_run(DATA_MEMORY), lent_run(REGISTERS), lent_run(BUFFER)};
+    struct lent lent = {lent_run(FLASH),     lent_run(PROGRAM), lent_run(DATA_MEMORY),
+                        lent_run(REGISTERS), lent_run(JOINING), lent_run(BUFFER)};
     return model_node_request(&wide, &node, now, link, bc, error, run_bytes, run_of_line(run_bytes), &lent);
 }
 
@@ -240,7 +252,7 @@ static void call(int does) {
     print_answer(does, answer);
     for (int memory = 0; memory < MEMORIES; memory++)
         if (show >> memory & 1)
-            printf(" %c %04x", "fpdir"[memory], digest_of(memory, 0, lent_words[memory]));
+            printf(" %c %04x", "fpdira"[memory], digest_of(memory, 0, lent_words[memory]));
 }
 
 static void lend(void) {

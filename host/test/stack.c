@@ -38,6 +38,10 @@ static void requests(void) {
     logodwen_file_dm(&file, 0, 0x2000, data, 99);
     logodwen_file_io(&file, data, 100);
     request(logodwen_make_file_write(packet, ROOM, image, file.words));
+    logodwen_put(image, 0, (uint16_t)(logodwen_get(image, 0) ^ 0x0100)); /* another name: and in packets */
+    size_t sent;
+    logodwen_node_write(&node, 0, 0, packet, 100, image, file.words, &sent);
+    logodwen_node_write(&node, 0, 0, packet, ROOM, image, ROOM, &sent);
     request(logodwen_make_status(packet));
     request(logodwen_make_summary(packet));
     request(logodwen_make_mode_read(packet));

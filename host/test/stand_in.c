@@ -1,5 +1,5 @@
-/* The model in the place of the archive, under the archive's names: for the tests of the C side where no archive can be linked (under
-   a sanitizer on Arm), and, with FAULT above 0, for the tests that the differential test and the audit notice a fault. */
+/* The model in the place of the archive, under the archive's names: for the tests of the C side where no archive can be linked
+   (under a sanitizer on Arm), and, with FAULT above 0, for the tests that the differential test and the audit notice a fault. */
 #include "../../include/logodwen.h"
 #include "../model/model.h"
 
@@ -10,6 +10,7 @@
 #endif
 enum { NO_FAULT, STALE_DIRECTORY, REFUSED_YET_CHANGED, ODD_BYTE_CLEARED, CLOCK_COMPARED, TALLY_FORGOTTEN };
 enum { READ_WRONG = 6, READ_SHORT, READ_UNSEALED, NOTHING_STORED, ALL_ACCEPTED, ALL_REFUSED }; /* of File Read and File Write */
+enum { FIRST_JUDGED = 12, HEADER_JOINED, OTHER_LET_IN, JOINED_TOO_MUCH };                      /* of a file in several packets */
 
 static bool is_own(const uint8_t *packet, size_t packet_len, unsigned id) {
     return packet_len >= 2 && packet[0] == 0x2E && packet[1] == id;
@@ -35,33 +36,58 @@ static uint64_t write_with_fault(uint64_t answered) {
     return LOGODWEN_REPLY << 8 | (FAULT == ALL_ACCEPTED ? LOGODWEN_BC_END : LOGODWEN_BC_ABORT) << 16;
 }
 
-uint32_t logodwen1_start(uint32_t kind, uint32_t ports, uint32_t subdetector, uint16_t program_version,
+/* The state of a write that stands, NULL where none does. */
+static uint8_t *standing(uint8_t *state, size_t state_len) {
+    return state_len == LOGODWEN_STATE_BYTES && state[LOGODWEN_AT_WRITE] == 1 ? state : NULL;
+}
+
+/* The answer NEXT to a first packet, with a fault: it is ABORT where the file's first word can't begin one, or that packet's header
+   word counts among the words joined. */
+static uint64_t first_with_fault(uint64_t answered, const uint8_t *packet, size_t packet_len, uint8_t *state) {
+    struct logodwen_header header;
+    if (FAULT == FIRST_JUDGED && packet_len >= 4 && !logodwen_read_header(logodwen_get(packet, 1), &header))
+        return LOGODWEN_REPLY << 8 | LOGODWEN_BC_ABORT << 16;
+    if (FAULT == HEADER_JOINED)
+        logodwen_put_pm(state + LOGODWEN_AT_JOINED, 0, (uint32_t)(packet_len / 2));
+    return answered;
+}
+
+uint32_t logodwen2_start(uint32_t kind, uint32_t ports, uint32_t subdetector, uint16_t program_version,
                          uint16_t subdetector_version, uint16_t start_tests, uint32_t clock, const uint8_t *flash, size_t flash_len,
                          uint8_t *state, size_t state_len) {
     return model_start(kind, ports, subdetector, program_version, subdetector_version, start_tests, clock, flash, flash_len, state,
                        state_len);
 }
 
-uint64_t logodwen1_request(uint32_t now, uint32_t link, uint32_t bc, uint32_t receive_error, const uint8_t *packet,
+uint64_t logodwen2_request(uint32_t now, uint32_t link, uint32_t bc, uint32_t receive_error, const uint8_t *packet,
                            size_t packet_len, uint8_t *state, size_t state_len, uint8_t *flash, size_t flash_len, uint8_t *pm,
-                           size_t pm_len, uint8_t *dm, size_t dm_len, uint8_t *io, size_t io_len, uint8_t *reply,
-                           size_t reply_len) {
+                           size_t pm_len, uint8_t *dm, size_t dm_len, uint8_t *io, size_t io_len, uint8_t *area, size_t area_len,
+                           uint8_t *reply, size_t reply_len) {
     static uint8_t spare_state[LOGODWEN_STATE_BYTES], spare_flash[LOGODWEN_FLASH_BYTES];
     bool is_write = is_own(packet, packet_len, 0x45), is_read = is_own(packet, packet_len, 0x05);
     if (FAULT == NOTHING_STORED && is_write && state_len == sizeof spare_state && flash_len == sizeof spare_flash) {
         state = memcpy(spare_state, state, state_len);
         flash = memcpy(spare_flash, flash, flash_len);
     }
+    const uint8_t *written = standing(state, state_len);
+    uint32_t joined = written == NULL ? 0 : logodwen_get_pm(written + LOGODWEN_AT_JOINED, 0);
+    if (FAULT == OTHER_LET_IN && written != NULL && packet_len >= 2 && (bc & 2) == 0)
+        link = written[LOGODWEN_AT_WRITE_LINK];
     uint64_t answered = model_request(now, link, bc, receive_error, packet, packet_len, state, state_len, flash, flash_len, pm,
-                                      pm_len, dm, dm_len, io, io_len, reply, reply_len);
+                                      pm_len, dm, dm_len, io, io_len, area, area_len, reply, reply_len);
     if (FAULT == ODD_BYTE_CLEARED && logodwen_answer(answered) == LOGODWEN_REPLY && dm_len % 2 == 1)
         dm[dm_len - 1] = 0;
+    if (FAULT == JOINED_TOO_MUCH && (bc & 2) == 0 && joined + packet_len / 2 > LOGODWEN_AREA_WORDS &&
+        logodwen_refusal(answered) == 0)
+        area[LOGODWEN_AREA_BYTES - 1] ^= 1;
+    if (written == NULL && is_write && standing(state, state_len) != NULL)
+        return first_with_fault(answered, packet, packet_len, state);
     if (is_read && logodwen_words(answered) != 0)
         return read_with_fault(answered, reply);
     return is_write && logodwen_answer(answered) == LOGODWEN_REPLY ? write_with_fault(answered) : answered;
 }
 
-uint64_t logodwen1_reply(uint32_t now, uint32_t slave, uint32_t bc, uint32_t receive_error, uint16_t rx_status, uint16_t rx_address,
+uint64_t logodwen2_reply(uint32_t now, uint32_t slave, uint32_t bc, uint32_t receive_error, uint16_t rx_status, uint16_t rx_address,
                          const uint8_t *packet, size_t packet_len, uint8_t *state, size_t state_len, uint8_t *reply,
                          size_t reply_len) {
     uint64_t answered =
@@ -73,13 +99,13 @@ uint64_t logodwen1_reply(uint32_t now, uint32_t slave, uint32_t bc, uint32_t rec
     return answered;
 }
 
-uint64_t logodwen1_poll(uint32_t now, uint8_t *state, size_t state_len, uint8_t *reply, size_t reply_len) {
+uint64_t logodwen2_poll(uint32_t now, uint8_t *state, size_t state_len, uint8_t *reply, size_t reply_len) {
     if (FAULT == CLOCK_COMPARED && state_len == LOGODWEN_STATE_BYTES && now < logodwen_get_pm(state + LOGODWEN_AT_ASKED_AT, 0))
         now = logodwen_get_pm(state + LOGODWEN_AT_ASKED_AT, 0);
     return model_poll(now, state, state_len, reply, reply_len);
 }
 
-uint64_t logodwen1_erase(uint64_t budget, uint8_t *state, size_t state_len, uint8_t *flash, size_t flash_len) {
+uint64_t logodwen2_erase(uint64_t budget, uint8_t *state, size_t state_len, uint8_t *flash, size_t flash_len) {
     uint8_t before[64];
     if (state_len == LOGODWEN_STATE_BYTES)
         memcpy(before, state + LOGODWEN_AT_DIRECTORY, sizeof before);
@@ -89,4 +115,4 @@ uint64_t logodwen1_erase(uint64_t budget, uint8_t *state, size_t state_len, uint
     return answered;
 }
 
-uint16_t logodwen1_fcs(const uint8_t *bytes, size_t len) { return model_fcs(bytes, len / 2); }
+uint16_t logodwen2_fcs(const uint8_t *bytes, size_t len) { return model_fcs(bytes, len / 2); }

@@ -82,8 +82,6 @@ request-verdict link packet state flash pm dm io area reply h room long =
     (flashCause n flash ∷ replyCause 12288 ∷ memoryCause pm dm io ∷ areaCause room ∷ linkCause n link ∷ stateCause n ∷ busyCause n packet ∷ [])
     (flash-no state flash s (none .0), (refl, (memory-no pm dm io (none .1 .1 .0), (le-ltb room 32768 long, (link-no state link s (none .1 .1 .1 .1 .0), (state-no state s, (none .1 .1 .1 .1 .1 .1 .0, tt)))))))
 
--- erase progress
-
 pub reply-verdict : (slave packet : ℕ) (state : List ℕ) (reply : ℕ) → replyCheck slave packet state reply ≡ Verdict.Fine → replyVerdict (nodeIn state) slave 12288 ≡ Verdict.Fine
 unfolding replyCheck replyVerdict
 reply-verdict slave packet state reply h =

@@ -17,6 +17,8 @@ use image::End;
 use image::Memory;
 use memory::Answer;
 
+pub mod packets;
+
 #[no_mangle]
 pub extern "C" fn perf_fcs(words: &[u16]) -> u16
     ensures { λ r. ⌜ r ≡ fcsOf (now (words .entry)) ⌝ }
