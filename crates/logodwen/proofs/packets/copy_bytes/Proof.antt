@@ -1,5 +1,5 @@
--- `logodwen::packets::copy_bytes` meets its contract. The loop's invariant: what is left of the words, laid from here on, gives what all of them give from the start. The measure is
--- what is left of them. Assumes nothing.
+-- `logodwen::packets::copy_bytes` meets its contract, as `base::copy` does. The loop's invariant: what is left of the bytes, laid from here
+-- on, gives what all of them give from the start. The measure is what is left of them. Assumes nothing.
 use Prim.Native.Nat.{_≤_, _-_, _+_}
 use mathlib.Core.Path.{_≡_, refl, sym, ap, _∙_}
 use native.Mathlib.Nat.{add-zero}
