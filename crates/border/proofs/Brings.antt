@@ -1,6 +1,6 @@
 -- What the state bytes say of the write that stands, and what a request that brings a file brings: the words of the file's bytes. Assumes
 -- nothing.
-use Prim.Native.Nat.{ℕ, suc, _+_, _*_, _/_, _%_, _≤_}
+use Prim.Native.Nat.{ℕ, zero, suc, _+_, _*_, _/_, _%_, _≤_}
 use native.Mathlib.Omega.{arith}
 use mathlib.Core.Path.{_≡_, refl, sym, ap, _∙_, subst}
 use mathlib.Core.Bool.{Bool, true, false, _&&_, _||_}
@@ -62,8 +62,8 @@ joined-most state link s h =
 -- the words of bytes one behind the other, the first of whole words
 words-append : (k : ℕ) (a b : List ℕ) → length a ≡ k * 2 → wordsOf 2 (a ++ b) ≡ wordsOf 2 a ++ wordsOf 2 b
 unfolding wordsOf wordsIn
-words-append 0 [] b h = refl
-words-append 0 (x ∷ a) b h = absurd (omega (arith, h))
+words-append zero [] b h = refl
+words-append zero (x ∷ a) b h = absurd (omega (arith, h))
 words-append (suc k) [] b h = absurd (omega (arith, h))
 words-append (suc k) (x ∷ []) b h = absurd (omega (arith, h))
 words-append (suc k) (x ∷ y ∷ a) b h =

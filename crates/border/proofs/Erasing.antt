@@ -47,6 +47,7 @@ use Rattle.logodwen.proofs.Entering.{request-fine, erase-fine}
 use Rattle.codec.proofs.ThereAndBack.{bytes-kept}
 use Rattle.node.specs.Route.{bcOf}
 use Rattle.demands.proofs.Commands.{command-whole}
+use Rattle.demands.specs.Requests.{brought}
 use Rattle.border.specs.Exactly.{entries, eraseCauses}
 use Rattle.border.specs.Host.{Entry, InC, answerOf, numberAfter, stateAfter, flashAfter, onWords, isDone, Step as HostStep}
 use Rattle.border.specs.Kept.{erasingIn}
@@ -55,7 +56,7 @@ use Rattle.border.specs.Files.{sectorIn, sectorByte}
 use Rattle.border.specs.Flash.{stepByte}
 use Rattle.border.specs.Erasing.{blankBytes, Begins, GoesOn, Follows, ErasureFollows, isStart, budgetOf, countOf, Course, HasSet, Erases, Lays, LaysFile, LaysHeader, FlashFollows}
 use Rattle.border.proofs.Runs.{store-laid}
-use Rattle.border.proofs.Exactly.{done-low, refused-exactly}
+use Rattle.border.proofs.Exactly.{done-low, refusal-low, refused-exactly}
 use Rattle.border.proofs.OfState.{state-bytes-exactly}
 use Rattle.border.proofs.Flash.{flash-size}
 use Rattle.border.proofs.Sectors.{empty-bytes, sector-bytes}
@@ -97,7 +98,7 @@ module _ (state flash : List ℕ) (st : Stands state flash) (clock link bc error
   abbrev does : Outcome
   does = requestOf (nodeIn state) clock link bc (isSet errors) (wordsOf 2 packet) (lent (wordsOf 2 flash) (memoryWords m) (furtherWords x) (replyWords reply))
 
-  begins-bytes : InC asks → Made asks state flash → WordsBegin (nodeIn state) (wordsOf 2 flash) (wordsOf 2 packet) does → Begins state flash packet (answerOf entries asks state flash)
+  begins-bytes : InC asks → Made asks state flash → WordsBegin (nodeIn state) (wordsOf 2 flash) bc (wordsOf 2 packet) does → Begins state flash bc packet (answerOf entries asks state flash)
   begins-bytes c made b =
       record {
         command = b .command;
@@ -133,12 +134,12 @@ module _ (state flash : List ℕ) (st : Stands state flash) (clock link bc error
   request-lays = by (entry-step asks state flash)
     where
       by : Step asks state flash
-          → (answerOf entries asks state flash .runs .flash ≡ flash) ⊎ (LaysFile state flash packet (answerOf entries asks state flash) ⊎ LaysHeader state flash packet (answerOf entries asks state flash))
+          → (answerOf entries asks state flash .runs .flash ≡ flash) ⊎ (LaysFile state flash link bc packet x (answerOf entries asks state flash) ⊎ LaysHeader state flash bc packet (answerOf entries asks state flash))
       by (Step.Leaves l) = inl (l .words)
       by (Step.Makes made) =
           ⊎-elim (λ q. inl (made .words (st .below) ∙ ap (λ (x : List ℕ). storeWords 2 x flash) q ∙ bytes-kept 2 flash (st .below)))
           (⊎-elim
-          (λ f. inr (inl (record { command = f .command; sector = f .sector; placed = f .placed; lays = lays-bytes made (f .sector) (drop 1 (wordsOf 2 packet)) (f .lays) })))
+          (λ f. inr (inl (record { command = f .command; sector = f .sector; placed = f .placed; lays = lays-bytes made (f .sector) (brought (nodeIn state) bc (wordsOf 2 packet) (furtherWords x)) (f .lays) })))
           (λ h. inr (inr (record { command = h .command; sector = h .sector; file = h .file; names = h .names; header = h .header; set = h .set; lays = lays-bytes made (h .sector) (h .header ∷ []) (h .lays) }))))
           (words-laid (nodeIn state) clock link bc (isSet errors) (wordsOf 2 packet) (lent (wordsOf 2 flash) (memoryWords m) (furtherWords x) (replyWords reply)))
 
@@ -272,15 +273,6 @@ count-is-answer e state flash done = by (answerIn e state flash) (nothing-cut e 
     by (Answer.Erased count) q = counts 0 count (q .kind) (q .words)
 
 -- an entry that is refused counts nothing
-refusal-low : (r : Refusal) → refusalNumber r < 256
-refusal-low Refusal.FlashSize = omega arith
-refusal-low Refusal.ReplySize = omega arith
-refusal-low Refusal.MemorySize = omega arith
-refusal-low Refusal.Number = omega arith
-refusal-low Refusal.State = omega arith
-refusal-low Refusal.Busy = omega arith
-refusal-low Refusal.Unasked = omega arith
-
 low-counts : (number : ℕ) → number < 256 → countOf number ≡ 0
 low-counts number h =
     let k : number / 256 % 256 ≡ 0 = omega arith in

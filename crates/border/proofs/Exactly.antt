@@ -131,7 +131,7 @@ done-low (Answer.Ask a) h = omega arith
 done-low Answer.Waiting h = refl
 done-low (Answer.Erased count) h = omega arith
 
-refusal-low : (r : Refusal) → refusalNumber r < 256
+pub refusal-low : (r : Refusal) → refusalNumber r < 256
 refusal-low Refusal.FlashSize = omega arith
 refusal-low Refusal.ReplySize = omega arith
 refusal-low Refusal.MemorySize = omega arith
@@ -139,6 +139,7 @@ refusal-low Refusal.Number = omega arith
 refusal-low Refusal.State = omega arith
 refusal-low Refusal.Busy = omega arith
 refusal-low Refusal.Unasked = omega arith
+refusal-low Refusal.AreaSize = omega arith
 
 -- an entry whose call is not refused where its own verdict is fine
 entered-exactly : (tests : List Test) (causes : List Cause) (state : List ℕ) (runs : Lent) (o : Outcome)

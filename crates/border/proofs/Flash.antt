@@ -4,7 +4,7 @@ use Prim.Native.Nat.{ℕ, zero, suc, _+_, _<_}
 use native.Mathlib.Omega.{arith}
 use mathlib.Core.Path.{_≡_, refl, subst}
 use mathlib.Core.List.{List, [], _∷_}
-use lib.ListN.{length, getD, drop}
+use lib.ListN.{length, getD, take, drop}
 use lib.Dec.{leb, eqb}
 use Rattle.base.specs.Words.{blanks, Below}
 use Rattle.base.proofs.Part.{below-take, below-drop, below-append}
@@ -18,11 +18,11 @@ use Rattle.flash.specs.declared.Status.{Status}
 use Rattle.flash.proofs.Attribute.{Cleared, setting-tells}
 use Rattle.flash.proofs.Geometry.{sector-most}
 use Rattle.node.specs.Refusals.{eraseVerdict}
-use Rattle.node.specs.Effect.{Effect, lent, Change, flashAfter}
+use Rattle.node.specs.Effect.{Effect, Lent, lent, Change, flashAfter}
 use Rattle.node.specs.Calls.{judged, lentFlash, requestOf, eraseEffect, eraseOf}
 use Rattle.node.specs.declared.Node.{Node}
 use Rattle.node.specs.declared.Verdict.{Verdict}
-use Rattle.node.proofs.Why.{Why, request-why}
+use Rattle.node.proofs.Why.{Source, Why, request-why}
 use Rattle.demands.specs.Machine.{Call, logodwen, flashOf}
 use Rattle.demands.specs.Reached.{Lends16}
 use Rattle.demands.proofs.Taken.{verdictOn, requestEffect}
@@ -101,32 +101,45 @@ erased-below flash (Erasing.Sector p) budget h =
     below-laid flash (startOf (unitOf flash) (p .sector) + p .done) (blanks (eraseCount (unitOf flash) (Erasing.Sector p) budget)) h
     (blanks-below (eraseCount (unitOf flash) (Erasing.Sector p) budget))
 
-why-below : (c : Change) (n : Node) (flash packet : List ℕ) → Why c n flash packet → Below 65536 packet → Below 65536 flash
-    → Below 65536 (flashAfter c (n .erasing) flash)
-why-below Change.Kept n flash packet w b h = h
-why-below (Change.Wrote s file) n flash packet w b h =
-    stored-below flash s file h (subst (λ (x : List ℕ). Below 65536 x) (w .words) (below-drop 1 packet b))
-why-below (Change.Headed s end header) n flash packet w b h =
-    let first = first-below (sectorOf flash s) (sector-below flash s h) in
-    let cleared = setting-tells (firstOf (sectorOf flash s)) (getD packet 2 0) header (w .set) in
-    stored-below flash s (header ∷ []) h (one-below header (cleared-below first cleared))
-why-below (Change.Begun s) n flash packet w b h = h
-why-below (Change.Blanked budget) n flash packet w b h = absurd w
+-- the file that a request writes, from its packet and the area
+source-below : {n : Node} {link bc : ℕ} {packet : List ℕ} {l : Lent} {file : List ℕ} → Below 65536 packet → Below 65536 (l .further .area)
+    → Source n link bc packet l file → Below 65536 file
+source-below {packet = packet} b a (Source.whole w c) = below-drop 1 packet b
+source-below {packet = packet} {l = l} b a (Source.last {at} k) = below-append (take at (l .further .area)) packet (below-take at (l .further .area) a) b
 
-pub flash-below : (c : Call) (n : Node) (flash : List ℕ) → Lends16 c → Below 65536 flash → Below 65536 (flashOf logodwen c n flash)
+module _ (n : Node) (link bc : ℕ) (packet : List ℕ) (l : Lent) (b : Below 65536 packet) (a : Below 65536 (l .further .area)) (h : Below 65536 (l .flash)) where
+  why-below : (c : Change) → Why c n link bc packet l → Below 65536 (flashAfter c (n .erasing) (l .flash))
+  why-below Change.Kept w = h
+  why-below (Change.Wrote s file) w = stored-below (l .flash) s file h (source-below {l = l} b a (w .source))
+  why-below (Change.Headed s end header) w =
+      let first = first-below (sectorOf (l .flash) s) (sector-below (l .flash) s h) in
+      let cleared = setting-tells (firstOf (sectorOf (l .flash) s)) (getD packet 2 0) header (w .set) in
+      stored-below (l .flash) s (header ∷ []) h (one-below header (cleared-below first cleared))
+  why-below (Change.Begun s) w = h
+  why-below (Change.Blanked budget) w = absurd w
+
+-- an area is lent as 16-bit words
+abbrev pub Areas16 : Call → Type 0
+Areas16 (Call.Start kind ports subdetector program version tests clock) = Unit {0}
+Areas16 (Call.Request clock link bc errors packet m x reply) = Below 65536 (x .area)
+Areas16 (Call.Reply clock slave bc errors status address words reply) = Unit {0}
+Areas16 (Call.Poll clock reply) = Unit {0}
+Areas16 (Call.Erase budget) = Unit {0}
+
+pub flash-below : (c : Call) (n : Node) (flash : List ℕ) → Lends16 c → Areas16 c → Below 65536 flash → Below 65536 (flashOf logodwen c n flash)
 unfolding requestOf eraseOf
-flash-below (Call.Start kind ports subdetector program version tests clock) n flash b h = h
-flash-below (Call.Request clock link bc errors packet m x reply) n flash b h = by (verdictOn n link packet (lent flash m x reply))
+flash-below (Call.Start kind ports subdetector program version tests clock) n flash b a h = h
+flash-below (Call.Request clock link bc errors packet m x reply) n flash b a h = by (verdictOn n link packet (lent flash m x reply))
   where
     e : Effect
     e = requestEffect n clock link bc errors packet (lent flash m x reply)
 
     by : (v : Verdict) → Below 65536 (judged v n (lent flash m x reply) e .after .flash)
-    by Verdict.Fine = why-below (e .change) n flash packet (request-why n (lent flash m x reply) packet clock link bc errors .0) b h
+    by Verdict.Fine = why-below n link bc packet (lent flash m x reply) b a h (e .change) (request-why n link bc packet (lent flash m x reply) clock errors .0)
     by (Verdict.No r) = h
-flash-below (Call.Reply clock slave bc errors status address words reply) n flash b h = h
-flash-below (Call.Poll clock reply) n flash b h = h
-flash-below (Call.Erase budget) n flash b h = by (eraseVerdict n (length flash))
+flash-below (Call.Reply clock slave bc errors status address words reply) n flash b a h = h
+flash-below (Call.Poll clock reply) n flash b a h = h
+flash-below (Call.Erase budget) n flash b a h = by (eraseVerdict n (length flash))
   where
     by : (v : Verdict) → Below 65536 (judged v n (lentFlash flash) (eraseEffect n budget flash) .after .flash)
     by Verdict.Fine = erased-below flash (n .erasing) budget h

@@ -78,7 +78,7 @@ zero-bytes = tested (zeros 24576) refl
 
 ask-in : InC (sends packet)
 unfolding allBelow
-ask-in = (omega arith, omega arith, omega arith, omega arith, tested packet refl, none, none, none, zero-bytes)
+ask-in = (omega arith, omega arith, omega arith, omega arith, tested packet refl, none, none, none, tested (zeros 65536) refl, zero-bytes)
 
 has : Hosted forgetful fresh blank
 has =

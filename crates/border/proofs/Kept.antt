@@ -3,9 +3,10 @@
 use Prim.Native.Nat.{ℕ}
 use native.Mathlib.Omega.{arith}
 use mathlib.Core.Path.{_≡_, refl, sym, ap, _∙_}
-use mathlib.Core.Bool.{false}
+use mathlib.Core.Bool.{true, false, _&&_}
 use mathlib.Core.List.{List, [], _∷_, _++_, append-assoc}
 use lib.ListN.{length, length-append}
+use lib.Dec.{eqb}
 use Rattle.base.specs.Words.{part}
 use Rattle.base.proofs.Part.{part-append}
 use Rattle.flash.specs.Directory.{directoryOf}
@@ -62,7 +63,7 @@ summary-is-true state flash h clock link bc m x reply c whole free done =
     let words : List ℕ = wordsOf 2 flash in
     let d = delivered clock link bc 0 packet m x reply state flash done refl whole free (omega arith) (omega arith) in
     let r =
-    word-summary (nodeIn state) words (s .reached) clock link bc false (wordsOf 2 packet) (memoryWords m) (furtherWords x) (replyWords reply) d refl refl
+    word-summary (nodeIn state) words (s .reached) clock link bc false (wordsOf 2 packet) (memoryWords m) (furtherWords x) (replyWords reply) d (λ i. eqb (whole i) 3 && true) refl
     ∙ ap (λ (e : Erasing). handed (nodeIn state) (lent words (memoryWords m) (furtherWords x) (replyWords reply)) (directoryOf words e)) (erasing-is state) in
     let size = length-directory words (erasingIn state) in
     handed-bytes clock link bc 0 packet m x reply state flash done c (s .below) (directoryOf words (erasingIn state)) (omega arith) r

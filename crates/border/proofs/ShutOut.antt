@@ -62,7 +62,7 @@ first E e =
 
 write-in : InC (sends (fileWrite file))
 unfolding allBelow
-write-in = (omega arith, omega arith, omega arith, omega arith, tested (fileWrite file) refl, none, none, none, tested (zeros 24576) refl)
+write-in = (omega arith, omega arith, omega arith, omega arith, tested (fileWrite file) refl, none, none, none, tested (zeros 65536) refl, tested (zeros 24576) refl)
 
 -- what scans at start only has an empty sector in its directory where the file now stands
 
@@ -144,7 +144,7 @@ modeRead = 0x2E ∷ 0x12 ∷ []
 
 mode-in : InC (sends modeRead)
 unfolding allBelow modeRead
-mode-in = (omega arith, omega arith, omega arith, omega arith, tested modeRead refl, none, none, none, tested (zeros 24576) refl)
+mode-in = (omega arith, omega arith, omega arith, omega arith, tested modeRead refl, none, none, none, tested (zeros 65536) refl, tested (zeros 24576) refl)
 
 erases-unasked : ErasureFollows rogue → ⊥
 unfolding modeRead laid wordsOf wordsIn valueOf

@@ -21,7 +21,7 @@ use Rattle.border.specs.Exactly.{entries}
 use Rattle.border.specs.Host.{Entry, InC, numberAfter, stateAfter, flashAfter, onWords, isDone, Step as HostStep, Hosted}
 use Rattle.border.proofs.Runs.{words-of-below, stored-words, stored-below}
 use Rattle.border.proofs.Fine.{start-bench}
-use Rattle.border.proofs.Flash.{flash-below, flash-size}
+use Rattle.border.proofs.Flash.{Areas16, flash-below, flash-size}
 use Rattle.border.proofs.Typed.{Small, Clocked, start-small, call-small, small-typed}
 use Rattle.border.proofs.Steps.{Made, Step, entry-step, start-taken, refusal-undone, undone-left, undone-flash}
 
@@ -70,6 +70,13 @@ lends (Entry.Reply clock slave bc errors status address packet reply) c = tt
 lends (Entry.Poll clock reply) c = tt
 lends (Entry.Erase budget) c = tt
 
+pub areas : (e : Entry) → InC e → Areas16 (onWords e)
+areas (Entry.Start kind ports subdetector program version tests clock) c = tt
+areas (Entry.Request clock link bc errors packet m x reply) c = words-of-below (x .area) (c .8)
+areas (Entry.Reply clock slave bc errors status address packet reply) c = tt
+areas (Entry.Poll clock reply) c = tt
+areas (Entry.Erase budget) c = tt
+
 clocked : (e : Entry) → InC e → Clocked (onWords e)
 clocked (Entry.Start kind ports subdetector program version tests clock) c = (c .3, c .4, c .5, c .6)
 clocked (Entry.Request clock link bc errors packet m x reply) c = c .0
@@ -88,7 +95,7 @@ made-moves e state flash c s m =
     let words : List ℕ = wordsOf 2 flash in
     let next : Node = nodeAfter logodwen (onWords e) (nodeIn state) words in
     let left : List ℕ = flashOf logodwen (onWords e) (nodeIn state) words in
-    let below = flash-below (onWords e) (nodeIn state) words (lends e c) (words-of-below flash (s .below)) in
+    let below = flash-below (onWords e) (nodeIn state) words (lends e c) (areas e c) (words-of-below flash (s .below)) in
     let after = m .words (s .below) in
     let size = flash-size (onWords e) (nodeIn state) words ∙ length-words-of 2 flash in
     let read = ap (wordsOf 2) after ∙ stored-words left flash below size in

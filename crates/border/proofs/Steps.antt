@@ -167,6 +167,7 @@ refusal-undone Refusal.Number = refl
 refusal-undone Refusal.State = refl
 refusal-undone Refusal.Busy = refl
 refusal-undone Refusal.Unasked = refl
+refusal-undone Refusal.AreaSize = refl
 
 pub done-taken : (a : Answer) → isDone (answerNumber a) ≡ true → isRefused a ≡ false
 done-taken (Answer.Refused r) h = absurd (false≢true (sym (refusal-undone r) ∙ h))

@@ -31,7 +31,7 @@ pub writes : Writes entries
 writes state flash hosted quiet clock link bc packet m x reply c file b free done some even valid unused s t =
     let st = hosted-stands hosted in
     let fine = request-fine link _ state _ _ _ _ _ _ (done-made (Entry.Request clock link bc 0 packet m x reply) state flash done .fine) in
-    let k = brings-told state link bc packet x (c .4) (c .8) even (st .bytes) (fine .area) file b in
+    let k = brings-told state link bc packet x (c .4) (c .8) even (st .bytes) (fine .room) file b in
     let sent : List ℕ = brought (nodeIn state) bc (wordsOf 2 packet) (furtherWords x) in
     let count : length file ≡ length sent * 2 = omega (arith, ap length (k .is), length-words-of 2 file, k .even) in
     let most : length packet / 2 ≤ 8192 = omega (arith, brings-most state link bc packet (x .area) file b, count, t .room, size-most 2048 s) in
