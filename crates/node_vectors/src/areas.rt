@@ -1,4 +1,5 @@
-// The five memories by number, 0 flash, 1 PM, 2 DM, 3 IO, 4 the reply buffer: what lines put there, and the digests of their words.
+// The six memories by number, 0 flash, 1 PM, 2 DM, 3 IO, 4 the reply buffer, 5 the area: what lines put there, and the digests of their
+// words.
 ghost use mathlib.Core.Path.{_≡_};
 ghost use Prim.Native.Nat.{_≤_, _<_};
 ghost use lib.ListN.{length};
@@ -95,6 +96,7 @@ pub fn fill(
     pm: &mut [u32],
     dm: &mut [u16],
     io: &mut [u16],
+    area: &mut [u16],
     reply: &mut [u16],
 ) {
     match feed::item(line, 1) {
@@ -102,7 +104,8 @@ pub fn fill(
         1 => fill_program(line, pm),
         2 => fill_area(line, dm),
         3 => fill_area(line, io),
-        _ => fill_area(line, reply),
+        4 => fill_area(line, reply),
+        _ => fill_area(line, area),
     }
 }
 
@@ -117,13 +120,15 @@ pub fn poke(
     flash: &mut [u16],
     dm: &mut [u16],
     io: &mut [u16],
+    area: &mut [u16],
     reply: &mut [u16],
 ) {
     match feed::item(line, 1) {
         0 => poke_area(line, run, flash),
         2 => poke_area(line, run, dm),
         3 => poke_area(line, run, io),
-        _ => poke_area(line, run, reply),
+        4 => poke_area(line, run, reply),
+        _ => poke_area(line, run, area),
     }
 }
 
@@ -148,6 +153,7 @@ pub fn digest(
     pm: &[u32],
     dm: &[u16],
     io: &[u16],
+    area: &[u16],
     reply: &[u16],
 ) -> u16 {
     match feed::item(line, 1) {
@@ -155,7 +161,8 @@ pub fn digest(
         1 => digest_program(line, pm),
         2 => digest_area(line, dm),
         3 => digest_area(line, io),
-        _ => digest_area(line, reply),
+        4 => digest_area(line, reply),
+        _ => digest_area(line, area),
     }
 }
 
@@ -175,10 +182,19 @@ fn show_program(wanted: u16, letter: &[u8], pm: &[u32]) {
 }
 
 // The digests that the bits of a word ask for.
-pub fn show(wanted: u16, flash: &[u16], pm: &[u32], dm: &[u16], io: &[u16], reply: &[u16]) {
+pub fn show(
+    wanted: u16,
+    flash: &[u16],
+    pm: &[u32],
+    dm: &[u16],
+    io: &[u16],
+    area: &[u16],
+    reply: &[u16],
+) {
     show_area(wanted, b" f ", flash);
     show_program(wanted / 2, b" p ", pm);
     show_area(wanted / 4, b" d ", dm);
     show_area(wanted / 8, b" i ", io);
     show_area(wanted / 16, b" r ", reply);
+    show_area(wanted / 32, b" a ", area);
 }

@@ -1,4 +1,4 @@
-// The node's 92 words, and a node with one field changed.
+// The node's 96 words, and a node with one field changed.
 ghost use mathlib.Core.Path.{_≡_};
 ghost use Prim.Native.Nat.{_≤_, _<_};
 ghost use lib.ListN.{length};
@@ -16,13 +16,15 @@ use node::Ask;
 use node::Counts;
 use node::Gathering;
 use node::Given;
+use node::Joining;
 use node::Node;
 use node::Pending;
+use node::Writing;
 
-fn room() -> [u16; 92]
-    ensures { λ r. ⌜ length r ≡ 92 ⌝ }
+fn room() -> [u16; 96]
+    ensures { λ r. ⌜ length r ≡ 96 ⌝ }
 {
-    [0; 92]
+    [0; 96]
 }
 
 fn put_word(words: &mut [u16], at: usize, word: u16) {
@@ -112,15 +114,27 @@ fn put_pending(words: &mut [u16], pending: Pending) {
     }
 }
 
+fn put_writing(words: &mut [u16], writing: Writing) {
+    match writing {
+        Writing::Nothing => {}
+        Writing::File(joining) => {
+            put_word(words, 92, 1);
+            put_word(words, 93, low(joining.link));
+            put_number(words, 94, small(joining.words));
+        }
+    }
+}
+
 // The node's words.
-pub fn words_of(node: Node) -> [u16; 92]
-    ensures { λ r. ⌜ length r ≡ 92 ⌝ }
+pub fn words_of(node: Node) -> [u16; 96]
+    ensures { λ r. ⌜ length r ≡ 96 ⌝ }
 {
     let masks = node.masks;
     let directory = node.directory;
     let given = node.given;
     let erasing = node.erasing;
     let pending = node.pending;
+    let writing = node.writing;
     let mut words = room();
     put_given(&mut words, given);
     put_word(&mut words, 3, node.mode);
@@ -130,6 +144,7 @@ pub fn words_of(node: Node) -> [u16; 92]
     put_directory(&mut words, directory);
     put_erasing(&mut words, erasing);
     put_pending(&mut words, pending);
+    put_writing(&mut words, writing);
     words
 }
 
@@ -233,6 +248,19 @@ fn pending_with(pending: Pending, line: &[u16]) -> Pending {
     }
 }
 
+fn writing_with(writing: Writing, field: u16, index: u16, value: u32) -> Writing {
+    if field == 18 {
+        return Writing::Nothing;
+    }
+    if field == 19 {
+        return Writing::File(Joining {
+            link: index as u32,
+            words: value as usize,
+        });
+    }
+    writing
+}
+
 // The node with the field changed that a line names.
 pub fn with_field(node: Node, line: &[u16]) -> Node {
     let field = feed::item(line, 1);
@@ -243,10 +271,12 @@ pub fn with_field(node: Node, line: &[u16]) -> Node {
     let given = node.given;
     let erasing = node.erasing;
     let pending = node.pending;
+    let writing = node.writing;
     let masks_after = masks_with(masks, place(field == 11, index), value);
     let directory_after = directory_with(directory, place(field == 12, index), low(value));
     let erasing_after = erasing_with(erasing, field, index, value);
     let pending_after = pending_with(pending, line);
+    let writing_after = writing_with(writing, field, index, value);
     Node {
         masks: masks_after,
         directory: directory_after,
@@ -258,5 +288,6 @@ pub fn with_field(node: Node, line: &[u16]) -> Node {
         },
         erasing: erasing_after,
         pending: pending_after,
+        writing: writing_after,
     }
 }

@@ -51,6 +51,12 @@ fn io_room() -> [u16; 4112]
     [0; 4112]
 }
 
+fn area_room() -> [u16; 32784]
+    ensures { λ r. ⌜ length r ≡ 32784 ⌝ }
+{
+    [0; 32784]
+}
+
 fn reply_room() -> [u16; 12304]
     ensures { λ r. ⌜ length r ≡ 12304 ⌝ }
 {
@@ -76,6 +82,7 @@ struct Lent {
     pm: usize,
     dm: usize,
     io: usize,
+    area: usize,
     reply: usize,
 }
 
@@ -100,13 +107,14 @@ fn request(
     pm: &mut [u32],
     dm: &mut [u16],
     io: &mut [u16],
+    area: &mut [u16],
     reply: &mut [u16],
 ) -> Turn {
     let clock = double(line, 2);
     let link = double(line, 4);
     let bc = feed::item(line, 6) as u32;
     let errors = feed::item(line, 7) != 0;
-    node.request(clock, link, bc, errors, run, flash, pm, dm, io, reply)
+    node.request(clock, link, bc, errors, run, flash, pm, dm, io, area, reply)
 }
 
 fn hear(line: &[u16], run: &[u16], node: Node, reply: &mut [u16]) -> Turn {
@@ -128,11 +136,12 @@ fn call(
     pm: &mut [u32],
     dm: &mut [u16],
     io: &mut [u16],
+    area: &mut [u16],
     reply: &mut [u16],
 ) -> Turn {
     match feed::item(line, 0) {
         1 => start(line, flash),
-        2 => request(line, run, node, flash, pm, dm, io, reply),
+        2 => request(line, run, node, flash, pm, dm, io, area, reply),
         3 => hear(line, run, node, reply),
         4 => node.poll(double(line, 2), reply),
         _ => node.erase(budget(line, 2), flash),
@@ -148,15 +157,16 @@ fn answer(
     pm: &mut [u32],
     dm: &mut [u16],
     io: &mut [u16],
+    area: &mut [u16],
     reply: &mut [u16],
 ) -> Node {
-    let turn = call(line, run, node, flash, pm, dm, io, reply);
+    let turn = call(line, run, node, flash, pm, dm, io, area, reply);
     let next = turn.node;
     let answer = turn.answer;
     let words = words_of(next);
     say_word(feed::digest(&words));
     say_answer(answer, reply);
-    show(feed::item(line, 1), flash, pm, dm, io, reply);
+    show(feed::item(line, 1), flash, pm, dm, io, area, reply);
     next
 }
 
@@ -170,12 +180,14 @@ fn lend(
     pm: &mut [u32],
     dm: &mut [u16],
     io: &mut [u16],
+    area: &mut [u16],
     reply: &mut [u16],
 ) -> Node {
     let f = base::least(lent.flash, flash.len());
     let p = base::least(lent.pm, pm.len());
     let d = base::least(lent.dm, dm.len());
     let i = base::least(lent.io, io.len());
+    let a = base::least(lent.area, area.len());
     let r = base::least(lent.reply, reply.len());
     answer(
         line,
@@ -185,6 +197,7 @@ fn lend(
         &mut pm[0..p],
         &mut dm[0..d],
         &mut io[0..i],
+        &mut area[0..a],
         &mut reply[0..r],
     )
 }
@@ -204,28 +217,29 @@ fn act(
     pm: &mut [u32],
     dm: &mut [u16],
     io: &mut [u16],
+    area: &mut [u16],
     reply: &mut [u16],
 ) -> Node {
     match feed::item(line, 0) {
         6 => {
-            fill(line, flash, pm, dm, io, reply);
+            fill(line, flash, pm, dm, io, area, reply);
             node
         }
         7 => {
-            poke(line, run, flash, dm, io, reply);
+            poke(line, run, flash, dm, io, area, reply);
             node
         }
         8 => with_field(node, line),
         9 => node,
         10 => {
-            say_word(digest(line, flash, pm, dm, io, reply));
+            say_word(digest(line, flash, pm, dm, io, area, reply));
             node
         }
         11 => {
             say_node(node);
             node
         }
-        _ => lend(line, run, node, lent, flash, pm, dm, io, reply),
+        _ => lend(line, run, node, lent, flash, pm, dm, io, area, reply),
     }
 }
 
@@ -239,10 +253,11 @@ fn turn(
     pm: &mut [u32],
     dm: &mut [u16],
     io: &mut [u16],
+    area: &mut [u16],
     reply: &mut [u16],
 ) -> Node {
     let n = run_of(line, run);
-    let next = act(line, &run[0..n], node, lent, flash, pm, dm, io, reply);
+    let next = act(line, &run[0..n], node, lent, flash, pm, dm, io, area, reply);
     io::write_all(1, b"\n");
     next
 }
@@ -255,6 +270,7 @@ fn lent_after(lent: Lent, line: &[u16]) -> Lent {
             pm: count(line, 3),
             dm: count(line, 5),
             io: count(line, 7),
+            area: count(line, 11),
             reply: count(line, 9),
         };
     }
@@ -274,6 +290,7 @@ fn main() {
     let mut pm = pm_room();
     let mut dm = dm_room();
     let mut io = io_room();
+    let mut area = area_room();
     let mut reply = reply_room();
     let mut run = run_room();
     let mut node = zeros();
@@ -282,6 +299,7 @@ fn main() {
         pm: 0,
         dm: 0,
         io: 0,
+        area: 0,
         reply: 0,
     };
     let mut line = feed::before();
@@ -305,6 +323,7 @@ fn main() {
             &mut pm,
             &mut dm,
             &mut io,
+            &mut area,
             &mut reply,
         );
     }

@@ -7,10 +7,13 @@ use Rattle.node_vectors.proofs.main.Statement.{statement}
 use Rattle.node_vectors.proofs.main.Tie as tie
 
 abbrev Inv-loop : tie.InvT-loop
-Inv-loop bytes₀ words₀ flash₀ pm₀ dm₀ io₀ reply₀ run₀ node₀ lent₀ line₀ turns₀ bytes words flash pm dm io reply run node lent line turns = (((length bytes ≡ 65536) × (length words ≡ 200)) × ((length flash ≡ 262160) × (length pm ≡ 32784))) × (((length dm ≡ 32784) × (length io ≡ 4112)) × ((length reply ≡ 12304) × (length run ≡ 65552)))
+Inv-loop bytes₀ words₀ flash₀ pm₀ dm₀ io₀ area₀ reply₀ run₀ node₀ lent₀ line₀ turns₀ bytes words flash pm dm io area reply run node lent line turns =
+    ((length bytes ≡ 65536) × (length words ≡ 200) × (length run ≡ 65552))
+    × ((length flash ≡ 262160) × (length pm ≡ 32784) × (length dm ≡ 32784))
+    × ((length io ≡ 4112) × (length area ≡ 32784) × (length reply ≡ 12304))
 
 abbrev μ-loop : tie.MeasureT-loop
-μ-loop bytes₀ words₀ flash₀ pm₀ dm₀ io₀ reply₀ run₀ node₀ lent₀ line₀ turns₀ bytes words flash pm dm io reply run node lent line turns = turns
+μ-loop bytes₀ words₀ flash₀ pm₀ dm₀ io₀ area₀ reply₀ run₀ node₀ lent₀ line₀ turns₀ bytes words flash pm dm io area reply run node lent line turns = turns
 
 large-buffer-requires : tie.Need-large-buffer-requires Inv-loop μ-loop
 large-buffer-requires c κs = search needs
@@ -29,6 +32,9 @@ dm-room-requires c κs = search needs
 
 io-room-requires : tie.Need-io-room-requires Inv-loop μ-loop
 io-room-requires c κs = search needs
+
+area-room-requires : tie.Need-area-room-requires Inv-loop μ-loop
+area-room-requires c κs = search needs
 
 reply-room-requires : tie.Need-reply-room-requires Inv-loop μ-loop
 reply-room-requires c κs = search needs
@@ -94,31 +100,40 @@ part-turn-end : tie.Need-part-turn-end Inv-loop μ-loop
 part-turn-end c = search needs
 
 slice-aggregate-turn : tie.Need-slice-aggregate-turn Inv-loop μ-loop
-slice-aggregate-turn c = search needs
+slice-aggregate-turn c = sym (c .before .before .before .before .before .before .before .before .before .before .before .before .before .before .before .before .before .loop .inv .0 .2)
 
 slice-aggregate-turn-2 : tie.Need-slice-aggregate-turn-2 Inv-loop μ-loop
-slice-aggregate-turn-2 c = search needs
+slice-aggregate-turn-2 c = sym (c .before .before .before .before .before .before .before .before .before .before .before .before .before .before .before .before .before .before .loop .inv .1 .0)
 
 slice-aggregate-turn-3 : tie.Need-slice-aggregate-turn-3 Inv-loop μ-loop
-slice-aggregate-turn-3 c = search needs
+slice-aggregate-turn-3 c = sym (c .before .before .before .before .before .before .before .before .before .before .before .before .before .before .before .before .before .before .before .loop .inv .1 .1)
 
 slice-aggregate-turn-4 : tie.Need-slice-aggregate-turn-4 Inv-loop μ-loop
-slice-aggregate-turn-4 c = search needs
+slice-aggregate-turn-4 c = sym (c .before .before .before .before .before .before .before .before .before .before .before .before .before .before .before .before .before .before .before .before .loop .inv .1 .2)
 
 slice-aggregate-turn-5 : tie.Need-slice-aggregate-turn-5 Inv-loop μ-loop
-slice-aggregate-turn-5 c = sym (c .before .before .before .before .before .before .before .before .before .before .before .before .before .before .before .before .before .before .before .before .before .loop .inv .1 .0 .1)
+slice-aggregate-turn-5 c = sym (c .before .before .before .before .before .before .before .before .before .before .before .before .before .before .before .before .before .before .before .before .before .loop .inv .2 .0)
 
 slice-aggregate-turn-6 : tie.Need-slice-aggregate-turn-6 Inv-loop μ-loop
-slice-aggregate-turn-6 c = sym (c .before .before .before .before .before .before .before .before .before .before .before .before .before .before .before .before .before .before .before .before .before .before .loop .inv .1 .1 .0)
+slice-aggregate-turn-6 c = sym (c .before .before .before .before .before .before .before .before .before .before .before .before .before .before .before .before .before .before .before .before .before .before .loop .inv .2 .1)
+
+slice-aggregate-turn-7 : tie.Need-slice-aggregate-turn-7 Inv-loop μ-loop
+slice-aggregate-turn-7 c = sym (c .before .before .before .before .before .before .before .before .before .before .before .before .before .before .before .before .before .before .before .before .before .before .before .loop .inv .2 .2)
 
 turn-requires : tie.Need-turn-requires Inv-loop μ-loop
 turn-requires c κs = search needs
 
 loop-less : tie.Need-loop-less Inv-loop μ-loop
-loop-less c = omega (arith, c .before .before .before .before .before .before .before .before .before .before .before .before .before .before .before .before .before .before .before .before .before .before .before .before .before .before .before .before .loop-test .taken)
+loop-less c = omega (arith, c .before .before .before .before .before .before .before .before .before .before .before .before .before .before .before .before .before .before .before .before .before .before .before .before .before .before .before .before .before .before .loop-test .taken)
 
 loop-again : tie.Need-loop-again Inv-loop μ-loop
-loop-again c = (((c .before .before .before .before .before .before .before .before .before .before .before .before .before .before .before .before .before .before .before .before .before .before .before .before .before .before .next-line .kept .0 ∙ c .before .before .before .before .before .before .before .before .before .before .before .before .before .before .before .before .before .before .before .before .before .before .before .before .before .before .before .before .before .loop .inv .0 .0 .0, search needs), (search needs, search needs)), ((search needs, search needs), (search needs, search needs)))
+loop-again c =
+    let v = c .before .before .before .before .before .before .before .before .before .before .before .before .before .before .before .before .before .before .before .before .before .before .before .before .before .before .before .before .before .before .before .loop .inv in
+    let k = c .before .before .before .before .before .before .before .turn .kept in (
+      (c .before .before .before .before .before .before .before .before .before .before .before .before .before .before .before .before .before .before .before .before .before .before .before .before .before .before .before .before .next-line .kept .0 ∙ v .0 .0, c .before .before .before .before .before .before .before .before .before .before .before .before .before .before .before .before .before .before .before .before .before .words-of .kept .1 .0 ∙ v .0 .1, k .1 .0 ∙ v .0 .2),
+      (k .1 .1 .1 .1 .0 ∙ v .1 .0, k .1 .1 .1 .1 .1 .0 ∙ v .1 .1, k .1 .1 .1 .1 .1 .1 .0 ∙ v .1 .2),
+      (k .1 .1 .1 .1 .1 .1 .1 .0 ∙ v .2 .0, k .1 .1 .1 .1 .1 .1 .1 .1 .0 ∙ v .2 .1, k .1 .1 .1 .1 .1 .1 .1 .1 .1 .0 ∙ v .2 .2),
+    )
 
 returns-2 : tie.Need-returns-2 Inv-loop μ-loop
 returns-2 c = search needs
@@ -135,6 +150,7 @@ main-spec =
     pm-room-requires
     dm-room-requires
     io-room-requires
+    area-room-requires
     reply-room-requires
     run-room-requires
     zeros-requires
@@ -162,6 +178,7 @@ main-spec =
     slice-aggregate-turn-4
     slice-aggregate-turn-5
     slice-aggregate-turn-6
+    slice-aggregate-turn-7
     turn-requires
     loop-less
     loop-again
