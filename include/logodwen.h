@@ -77,7 +77,7 @@ extern "C" {
 /* The stack that each entry needs, in bytes. They were measured on the archive, over calls that go through all of an entry's work, in a
    thread with a painted stack (host/test/stack.c), and rounded up; no entry calls itself, so no input makes it more. */
 #define LOGODWEN_STACK_START 73728u
-#define LOGODWEN_STACK_REQUEST 81920u
+#define LOGODWEN_STACK_REQUEST 114688u
 #define LOGODWEN_STACK_REPLY 98304u
 #define LOGODWEN_STACK_POLL 4096u
 #define LOGODWEN_STACK_ERASE 4096u
