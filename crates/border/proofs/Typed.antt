@@ -124,7 +124,7 @@ start-small kind ports subdetector program version tests clock flash (p, v, t, c
     by : (w : Verdict) → Small (startBy w (given kind ports subdetector program version tests clock (length flash)) flash .node)
     by Verdict.Fine =
         record {
-          masks = refl;
+          masks = pick-case (λ (ms : List ℕ). length ms ≡ 16) (eqb kind 2) (λ _. refl) (λ _. refl);
           program = p;
           version = v;
           tests = omega arith;

@@ -31,11 +31,12 @@ entry low high address = low ∷ high ∷ 0 ∷ address ∷ 0 ∷ 0 ∷ 0 ∷ 0 
 abbrev pub empty : ℕ → List ℕ
 empty address = entry 0xFF 0xFF address
 
--- The state bytes, by the entry of sector 3: kind 2, 4 ports, 32,768 words of flash, masks 0, the directory, and no write standing.
+-- The state bytes, by the entry of sector 3: kind 2, 4 ports, 32,768 words of flash, mask 0 full and the others 0, the
+-- directory, and no write standing.
 abbrev pub stateWith : List ℕ → List ℕ
 stateWith third =
     2 ∷ 4
-    ∷ (zeros 19 ++ (0x80 ∷ zeros 86)
+    ∷ (zeros 19 ++ (0x80 ∷ zeros 22) ++ (0xFF ∷ 0xFF ∷ 0xFF ∷ zeros 61)
     ++ third ++ empty 0x04 ++ empty 0x08 ++ empty 0x0C ++ empty 0x10 ++ empty 0x14 ++ empty 0x18 ++ empty 0x1C ++ zeros 8)
 
 -- After the start, and after the File Write.

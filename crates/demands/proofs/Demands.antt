@@ -12,6 +12,7 @@ use Rattle.demands.proofs.Writes.{writes}
 use Rattle.demands.proofs.ReadsBack.{reads-back}
 use Rattle.demands.proofs.Packets.{any-division, left-alone}
 use Rattle.demands.proofs.Asks.{group-is-asked}
+use Rattle.demands.proofs.Starts.{starts-full}
 use Rattle.demands.proofs.Groups.{group-is-its-fragments, asked-in-order, each-asked-once, fragments-stand, nothing-past-the-words}
 use Rattle.demands.proofs.ClosedRun.{closed-run}
 
@@ -28,6 +29,7 @@ demands =
       never-corrupted = never-corrupted;
       good-is-served = good-is-served;
       erases = erases;
+      starts-full = starts-full;
       group-is-asked = group-is-asked;
       group-is-its-fragments = group-is-its-fragments;
       asked-in-order = asked-in-order;

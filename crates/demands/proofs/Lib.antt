@@ -17,6 +17,7 @@ pub mod Writes
 pub mod ReadsBack
 pub mod Packets
 pub mod Slaves
+pub mod Starts
 pub mod Asks
 pub mod Events
 pub mod Groups

@@ -52,8 +52,9 @@ use Rattle.demands.specs.Refusals.{numberOf, RefusedExactly}
 use Rattle.demands.specs.Anchors.{blank, file}
 use Rattle.demands.specs.Files.{fileName, Unused, Takes, IsFile, Writes, ReadsBack, NeverCorrupted, FlashFollows}
 use Rattle.demands.specs.Packets.{Sent, AnyDivision, LeftAlone}
+use Rattle.demands.specs.Groups.{StartsFull}
 use Rattle.demands.specs.ClosedRun.{with, started, written, ClosedRun}
-use Rattle.demands.specs.ShutOut.{refusing, unstarted, aborting, constant, idle, lying, denying, judging, hoarding, mixing, loader, hasty, boasting, dropping, rogue, scanning, ShutOut}
+use Rattle.demands.specs.ShutOut.{refusing, unstarted, aborting, constant, idle, lying, denying, judging, hoarding, mixing, empty, loader, hasty, boasting, dropping, rogue, scanning, ShutOut}
 use Rattle.demands.specs.Flash.{countOf, Course, HasSet, ErasureFollows, Erases}
 use Rattle.demands.proofs.Refusals.{refused-exactly}
 use Rattle.demands.proofs.Held.{named-blank}
@@ -299,6 +300,11 @@ mixes-links w =
     eqb-false 1 0 refl
     (ap joinedIn (w (Call.Request 0 1 0 false (0 ∷ []) (memories [] [] []) (further (replicate 32768 0)) (replicate 12288 0)) standing blank (joining 0 0) refl refl .0))
 
+-- mask 0 after the start of a CDDC
+starts-empty : StartsFull empty → ⊥
+unfolding startVerdict startOf
+starts-empty w = eqb-false 0 0xFFFFFF refl (w 2 4 0 0 0 0 0 blank refl 0)
+
 -- a Load while the erasure is in progress
 loads-half : NeverCorrupted loader → ⊥
 unfolding zeros zeroed packet begun laid headerOk fileEnd isSector bySector sectorOf isEmpty statusOf statusIn fourthWord entryOf entryFor entriesFrom directoryOf entered firstFrom masksOk stateOk startVerdict requestVerdict addressed routeOf sectorAt eraseStartOf loadOf filesOf ownOf startOf requestOf
@@ -350,6 +356,7 @@ shut-out =
       judges-first = judges-first;
       joins-header = joins-header;
       mixes-links = mixes-links;
+      starts-empty = starts-empty;
       loads-half = loads-half;
       erases-all = erases-all;
       sets-nothing = sets-nothing;

@@ -8,7 +8,7 @@ use Rattle.demands.specs.Reached.{NoStaleRecord, SummaryIsTrue}
 use Rattle.demands.specs.Flash.{ErasureFollows, Erases, OneSector, NoBitRises}
 use Rattle.demands.specs.Files.{Writes, ReadsBack, NeverCorrupted, GoodIsServed, FlashFollows}
 use Rattle.demands.specs.Packets.{AnyDivision, LeftAlone}
-use Rattle.demands.specs.Groups.{GroupIsAsked, GroupIsItsFragments, AskedInOrder, EachAskedOnce, FragmentsStand, NothingPastTheWords}
+use Rattle.demands.specs.Groups.{StartsFull, GroupIsAsked, GroupIsItsFragments, AskedInOrder, EachAskedOnce, FragmentsStand, NothingPastTheWords}
 use Rattle.demands.specs.ClosedRun.{ClosedRun}
 
 pub record Demands (M : Machine) : Type 0 where
@@ -30,6 +30,8 @@ pub record Demands (M : Machine) : Type 0 where
   -- An erasure sets the words that its progress is given, from the low end, and counts them, whatever calls come between.
   pub erases : Erases M
   -- A group reply is its slaves' fragments in order, each slave of the set asked once; meanwhile no word is stored past those built.
+  -- Mask 0 of a CDDC starts full.
+  pub starts-full : StartsFull M
   pub group-is-asked : GroupIsAsked M
   pub group-is-its-fragments : GroupIsItsFragments M
   pub asked-in-order : AskedInOrder M

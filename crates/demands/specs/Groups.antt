@@ -2,7 +2,7 @@
 -- assembly'. Assumes nothing.
 use Prim.Native.Nat.{ℕ, _+_, _≤_, _<_}
 use mathlib.Core.Path.{_≡_}
-use mathlib.Core.Bool.{Bool, true, false, _||_, not}
+use mathlib.Core.Bool.{Bool, true, false, _&&_, _||_, not}
 use mathlib.Core.List.{List, [], _∷_}
 use lib.Dec.{leb, eqb}
 use lib.ListN.{length, getD, take}
@@ -25,7 +25,8 @@ use Rattle.node.specs.declared.Answer.{Answer}
 use Rattle.node.specs.declared.Asking.{Asking}
 use Rattle.node.specs.declared.Node.{Node}
 use Rattle.node.specs.declared.Pending.{Pending}
-use Rattle.demands.specs.Machine.{Machine}
+use Rattle.node.specs.declared.Turn.{Turn}
+use Rattle.demands.specs.Machine.{Machine, isRefused}
 use Rattle.demands.specs.Requests.{Delivered}
 use Rattle.demands.specs.Events.{Event, Host, host, hosted, Undropped, heards}
 
@@ -39,6 +40,13 @@ abbrev pub setAsked : Node → List ℕ → ℕ
 setAsked n packet =
     pick (eqb (firstByte (getD packet 0 0)) 0x40) (getD (n .masks) (secondByte (getD packet 0 0)) 0)
     (pick (eqb (firstByte (getD packet 0 0)) 0x23) (maskIn (getD packet 0 0) (getD packet 1 0)) 0xFFFFFF)
+
+-- After an accepted start mask 0 of a CDDC names all 24 slaves; its other masks name none, nor does one of a CDP. 02, request 2.
+abbrev pub StartsFull : Machine → Type 0
+StartsFull M =
+    (kind ports subdetector program version tests clock : ℕ) (flash : List ℕ)
+    → let t : Turn = M .start kind ports subdetector program version tests clock flash in
+    isRefused (t .answer) ≡ false → (i : ℕ) → getD (t .node .masks) i 0 ≡ pick (eqb kind 2 && eqb i 0) 0xFFFFFF 0
 
 -- One word is stripped, two for 23.
 abbrev pub stripped : List ℕ → ℕ

@@ -3,7 +3,7 @@
 use Prim.Native.Nat.{ℕ}
 use mathlib.Core.Bool.{_&&_, not}
 use mathlib.Core.List.{List, []}
-use lib.ListN.{length, getD}
+use lib.ListN.{length, getD, replicate}
 use lib.Dec.{eqb}
 use Rattle.base.specs.Pick.{pick}
 use Rattle.base.specs.Words.{laid}
@@ -15,13 +15,14 @@ use Rattle.flash.specs.declared.Erasing.{Erasing}
 use Rattle.flash.specs.declared.Status.{Status}
 use Rattle.memory.specs.Segment.{memories}
 use Rattle.group.specs.declared.Reply.{Reply}
-use Rattle.node.specs.State.{turn, joining, withFlash, withWriting}
+use Rattle.node.specs.State.{turn, joining, withSettings, withFlash, withWriting}
 use Rattle.node.specs.Route.{bcOf}
 use Rattle.node.specs.Effect.{Lent, lent, further, Outcome, outcome}
 use Rattle.node.specs.Calls.{lentReply, lentFlash, nobody, startOf, requestOf, replyOf, pollOf, eraseOf}
 use Rattle.node.specs.declared.Answer.{Answer}
 use Rattle.node.specs.declared.Node.{Node}
 use Rattle.node.specs.declared.Refusal.{Refusal}
+use Rattle.node.specs.declared.Turn.{Turn}
 use Rattle.node.specs.declared.Writing.{Writing}
 use Rattle.demands.specs.Machine.{Machine}
 use Rattle.demands.specs.Requests.{end, abort, isCommand}
@@ -30,6 +31,7 @@ use Rattle.demands.specs.Refusals.{RefusedExactly}
 use Rattle.demands.specs.Flash.{ErasureFollows, Erases}
 use Rattle.demands.specs.Files.{Writes, ReadsBack, NeverCorrupted, FlashFollows}
 use Rattle.demands.specs.Packets.{AnyDivision, LeftAlone}
+use Rattle.demands.specs.Groups.{StartsFull}
 use Rattle.demands.specs.ClosedRun.{ClosedRun}
 
 -- Once started, always refuses.
@@ -270,6 +272,20 @@ mixing =
       erase = eraseOf;
     }
 
+-- Starts with mask 0 empty.
+abbrev pub hollow : Turn → Turn
+hollow t = turn (withSettings (t .node) (replicate 16 0) (t .node .mode)) (t .answer)
+
+abbrev pub empty : Machine
+empty =
+    record {
+      start = λ kind ports subdetector program version tests clock flash. hollow (startOf kind ports subdetector program version tests clock flash);
+      request = requestOf;
+      reply = replyOf;
+      poll = pollOf;
+      erase = eraseOf;
+    }
+
 -- Each fails a demand.
 pub record ShutOut : Type 0 where
   -- always refuses, by whichever number
@@ -291,6 +307,8 @@ pub record ShutOut : Type 0 where
   pub judges-first : AnyDivision judging → ⊥
   pub joins-header : AnyDivision hoarding → ⊥
   pub mixes-links : LeftAlone mixing → ⊥
+  -- starts with mask 0 empty
+  pub starts-empty : StartsFull empty → ⊥
   -- loads from a half-erased sector
   pub loads-half : NeverCorrupted loader → ⊥
   -- erases all at the first progress call

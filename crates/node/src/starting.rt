@@ -1,6 +1,6 @@
 // Start: what is given, and the state made of it and of the flash.
 ghost use mathlib.Core.Path.{_≡_};
-ghost use Rattle.node.specs.Calls.{started, nobody};
+ghost use Rattle.node.specs.Calls.{startMasks, started, nobody};
 use crate::Counts;
 use crate::Given;
 use crate::Node;
@@ -8,14 +8,25 @@ use crate::Pending;
 use crate::Writing;
 use flash::Erasing;
 
+// The masks at start: mask 0 of a CDDC names all slaves. 02, request 2.
+fn start_masks(kind: u16) -> [u32; 16]
+    ensures { λ r. ⌜ r ≡ startMasks kind ⌝ }
+{
+    if kind == 2 {
+        return [0xFFFFFF, 0, 0, 0, 0, 0, 0, 0, 0, 0, 0, 0, 0, 0, 0, 0];
+    }
+    [0; 16]
+}
+
 // A started node.
 pub fn begin(given: Given, flash: &[u16]) -> Node
     ensures { λ r. ⌜ r ≡ started given (now (flash .entry)) ⌝ }
 {
     let directory = flash::directory::scan(flash, Erasing::Nothing);
+    let masks = start_masks(given.kind);
     let mode = if given.kind == 1 { 2 } else { 0 };
     Node {
-        masks: [0; 16],
+        masks,
         directory,
         given,
         mode,
