@@ -117,8 +117,9 @@ extern "C" {
 
 /* The entries. Names that begin with logodwen2_ are the symbols of the archive; a host writes the short names below. */
 
-/* Starts a node on a flash: reads all of it once, and writes the state. Answers 0, or why it is refused: 1, 4 or 5; the state bytes
-   then stay as they were.
+/* Starts a node on a flash: reads all of it once, and writes the state. Mask 0 of a CDDC then names all 24 slaves, and a host that wants
+   it empty writes zero (logodwen_make_mask_write); its masks 1 to 15, and all masks of a CDP, are 0. Answers 0, or why it is refused: 1,
+   4 or 5; the state bytes then stay as they were.
      kind                  LOGODWEN_CDP or LOGODWEN_CDDC
      ports                 links to masters, 1 to 4
      subdetector           0 to 7
@@ -953,7 +954,7 @@ static inline size_t logodwen_read_fragment(const uint8_t *reply, size_t words, 
 #define LOGODWEN_AT_ASKED 32u               /* 4: group: the slaves, bit s for slave s */
 #define LOGODWEN_AT_ASKED_AT 36u            /* 4: pending: the time when the slave was asked */
 #define LOGODWEN_AT_BUILT 40u               /* 4: group: words gathered so far */
-#define LOGODWEN_AT_MASKS 44u               /* 64: masks 0 to 15, four bytes each */
+#define LOGODWEN_AT_MASKS 44u               /* 64: masks 0 to 15, four bytes each, bit s for slave s */
 #define LOGODWEN_AT_DIRECTORY 108u          /* 64: four words for each of the sectors 3 to 10: first word, address, status, 0 */
 #define LOGODWEN_AT_WRITE 172u              /* 1: 1 if a file comes in several packets, else 0 */
 #define LOGODWEN_AT_WRITE_LINK 173u         /* 1: .. its link; the bytes 174 and 175 are 0 */

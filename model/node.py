@@ -1,7 +1,7 @@
-"""The whole node, from document 01 and request 1 of 02: its state, the refusals, requests, own commands, and the five calls start,
-request, reply, poll and erase. A call takes a node and what it is lent, and hands back the next node with the answer; lent lists change in place, and
-only if the call is accepted. An answer is a tuple: ("refused", number), ("started",), ("reply", BC, words in the reply buffer),
-("ask", slave, word from which the request is sent on), ("waiting",), or ("erased", words set)."""
+"""The whole node, from document 01 and requests 1 and 2 of 02: its state, the refusals, requests, own commands, and the five calls
+start, request, reply, poll and erase. A call takes a node and what it is lent, and hands back the next node with the answer; lent
+lists change in place, and only if the call is accepted. An answer is a tuple: ("refused", number), ("started",), ("reply", BC, words
+in the reply buffer), ("ask", slave, word from which the request is sent on), ("waiting",), or ("erased", words set)."""
 
 from dataclasses import dataclass, replace
 from typing import Optional
@@ -535,6 +535,7 @@ def start(kind, ports, subdetector, program_version, subdetector_version, start_
         start_tests=start_tests & 0x0F00,
         start_clock=clock,
         flash_words=len(flash),
+        masks=(ALL if kind == CDDC else 0,) + (0,) * 15,  # 02, request 2
         directory=tuple(directory_of(flash)),
     ), ("started",)
 

@@ -4,7 +4,7 @@ from node_lines import Program
 from script import Script
 from scripts_flash import bad_sectors, directories, every_sector, files, long_files
 from scripts_memory import headers, loads, long_segments, runs_of_memory, segments
-from scripts_requests import command_numbers, counts, first_bytes, lengths, small_commands
+from scripts_requests import command_numbers, counts, first_bytes, lengths, small_commands, start_masks
 from scripts_slaves import groups, room, singles, tallies, times
 from scripts_states import refusals, soup, start_refusals, states
 from scripts_writes import areas, divisions, kept_writes, long_reads, many_packets, most_words, others_meanwhile, packet_cases
@@ -20,6 +20,7 @@ SCRIPTS = (
     soup,
     packet_cases, areas, kept_writes, many_packets, divisions, long_reads, most_words, while_erasing, with_a_request_pending,
     others_meanwhile,
+    start_masks,
 )
 
 

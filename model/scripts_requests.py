@@ -114,6 +114,33 @@ def small_commands(s):
         s.request(Run(command(0x0D), count, pick.randrange(65536)), show=16)
 
 
+def start_masks(s):
+    """The masks that a start leaves: mask 0 of a CDDC names all slaves, every other mask none (02, request 2). A CDP shows no mask;
+    once it is called a CDDC it does."""
+    for kind, size in ((CDDC, BENCH), (CDP, BENCH), (CDDC, FULL), (CDP, FULL)):
+        s.fresh(kind, 4, size)
+        s.request([0x0040, 0x0C2E], 1)
+        s.state()
+        for slave in range(24):
+            s.reply(slave)
+        for called in (kind, CDDC):
+            s.set("kind", called)
+            s.request(command(0x17), show=16)
+            for mask in range(17):
+                s.request([mask << 8 | 0x40, 0x0C2E])
+                dropped(s)
+            s.state()
+        for mask in (15, 0):  # whoever wants mask 0 empty writes zero first; the next start fills it again
+            s.start(kind)
+            s.state()
+            s.request(command(0x57, mask << 8, 0x0000))
+            s.request([0x0040, 0x0C2E], 2)
+            dropped(s)
+            s.request(command(0x17), show=16)
+        s.start(3)
+        s.state()
+
+
 def counts(s):
     """Both counts stop at FFFF."""
     s.fresh(CDDC, 2)

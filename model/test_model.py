@@ -1,6 +1,6 @@
 #!/usr/bin/env python3
 """The model against documents 01 and 02: each example of 01, the lines of the bench, what 01 says of every call, and what 02 says of
-files that come in several packets."""
+files that come in several packets and of the masks at start."""
 
 import random
 import unittest
@@ -201,6 +201,47 @@ class Calls(unittest.TestCase):
         self.assertEqual(reply(node, memories.reply, 0, 4, 3, 0, 0, 0, []), (node, ("refused", 7)))
         node, answer = request(node, memories, 0, 1, 2, 0, [])
         self.assertEqual((answer, node.pending), (("reply", END, 0), None))
+
+
+class StartMasks(unittest.TestCase):
+    """02, request 2."""
+
+    def masks_read(self, node, memories):
+        node, answer = request(node, memories, 0, 0, 3, 0, own(0x17))
+        self.assertEqual(answer, ("reply", 3, 26))
+        return memories.reply[:24]
+
+    def test_a_cddc(self):
+        for size in (BENCH, 262144):
+            node, memories = started(flash=size)
+            self.assertEqual(node.masks, (0xFFFFFF, 0, 0, 0, 0, 0, 0, 0, 0, 0, 0, 0, 0, 0, 0, 0))
+            self.assertEqual(self.masks_read(node, memories), [0x0001] * 24)
+            for mask in range(1, 16):
+                self.assertEqual(request(node, memories, 0, 0, 3, 0, [mask << 8 | 0x40, 0x0C2E])[1], ("reply", ABORT, 0))
+
+    def test_all_slaves_are_asked(self):
+        node, memories = started()
+        node, answer = request(node, memories, 0, 0, 3, 0, [0x0040, 0x0C2E])
+        for slave in range(24):
+            self.assertEqual(answer, ("ask", slave, 1))
+            node, answer = reply(node, memories.reply, 0, slave, END, 0, 0, 0, [])
+        self.assertEqual((answer, node.pending), (("reply", END, 0), None))
+
+    def test_a_cdp(self):
+        node, memories = started(CDP)
+        self.assertEqual(node.masks, (0,) * 16)
+        self.assertEqual(request(node, memories, 0, 0, 3, 0, own(0x17))[1], ("reply", ABORT, 0))
+        self.assertEqual(request(node, memories, 0, 0, 3, 0, [0x0040, 0x0C2E])[1], ("reply", ABORT, 0))
+        self.assertEqual(self.masks_read(replace(node, kind=CDDC), memories), [0] * 24)
+
+    def test_a_script_that_counts_on_an_empty_mask_0_writes_zero_first(self):
+        node, memories = started()
+        node, answer = request(node, memories, 0, 0, 3, 0, own(0x57, 0x0000, 0x0000))
+        self.assertEqual((answer, node.masks), (("reply", END, 0), (0,) * 16))
+        self.assertEqual(request(node, memories, 0, 0, 3, 0, [0x0040, 0x0C2E])[1], ("reply", ABORT, 0))
+
+    def test_a_refused_start(self):
+        self.assertEqual(start(CDDC, 5, 0, 0, 0, 0, 0, lent().flash)[0].masks, (0,) * 16)
 
 
 def long_file(length, pick):

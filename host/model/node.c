@@ -1,4 +1,4 @@
-/* 01 'Call refusals', 'Requests', 'Group assembly', 'State and status reply', and 02, request 1: the node and its five calls. */
+/* 01 'Call refusals', 'Requests', 'Group assembly', 'State and status reply', and 02, requests 1 and 2: the node and its five calls. */
 #include "model.h"
 
 #include <string.h>
@@ -620,6 +620,8 @@ uint32_t model_node_start(const struct limits *limits, struct node *node, uint32
     node->start_tests = start_tests & 0x0F00;
     node->start_clock = clock;
     node->flash_words = (uint32_t)flash.words;
+    if (kind == CDDC)
+        node->masks[0] = ALL_SLAVES; /* 02, request 2 */
     model_directory(node->directory, flash);
     return 0;
 }

@@ -176,7 +176,7 @@ static void test_start(void) {
     CHECK(state_long(LOGODWEN_AT_CLOCK) == 1000 && state_long(LOGODWEN_AT_FLASH_WORDS) == LOGODWEN_FLASH_WORDS);
     for (size_t at = LOGODWEN_AT_AMSWIRE_ERRORS; at < LOGODWEN_AT_CLOCK; at++)
         CHECK(state[at] == 0);
-    for (size_t at = LOGODWEN_AT_ERASED; at < LOGODWEN_AT_DIRECTORY; at++)
+    for (size_t at = LOGODWEN_AT_ERASED; at < LOGODWEN_AT_MASKS; at++)
         CHECK(state[at] == 0);
     CHECK(is_none_standing());
     for (unsigned i = 0; i < 8; i++) {
@@ -186,6 +186,31 @@ static void test_start(void) {
               && logodwen_get(entry, 3) == 0);
     }
     CHECK(START(LOGODWEN_CDP, 1, 0) == LOGODWEN_DONE && runs[STATE][LOGODWEN_AT_MODE] == 2);
+}
+
+/* Mask 0 of a CDDC names all slaves at start; every other mask is 0, and so are all of a CDP (02, request 2). */
+static void test_start_masks(void) {
+    static const uint32_t kinds[2] = {LOGODWEN_CDP, LOGODWEN_CDDC}, firsts[2] = {0, 0xFFFFFF};
+    lay_out(0);
+    for (unsigned i = 0; i < 4; i++) { /* each after the other too, on the state bytes that it left */
+        CHECK(START(kinds[i % 2], 4, 0) == LOGODWEN_DONE);
+        for (unsigned mask = 0; mask < LOGODWEN_MASKS; mask++)
+            CHECK(state_long(LOGODWEN_AT_MASKS + 4 * mask) == (mask == 0 ? firsts[i % 2] : 0));
+    }
+    PACKET_OF(0x172E);
+    CHECK(REQUEST(1000, 0, LOGODWEN_BC_WHOLE, 0) == with_words(LOGODWEN_SLAVES + 2));
+    for (unsigned slave = 0; slave < LOGODWEN_SLAVES; slave++)
+        CHECK(reply_word(slave) == 0x0001);
+    PACKET_OF(0x0140, 0x122E);
+    CHECK(REQUEST(1000, 0, LOGODWEN_BC_WHOLE, 0) == zero_length(LOGODWEN_BC_ABORT));
+    PACKET_OF(0x0040, 0x122E);
+    CHECK(REQUEST(1000, 0, LOGODWEN_BC_WHOLE, 0) == ask(0, 1) && state_long(LOGODWEN_AT_ASKED) == 0xFFFFFF);
+    lengths[PACKET] = 0;
+    CHECK(REQUEST(1000, 0, LOGODWEN_BC_ABORT, 0) == zero_length(LOGODWEN_BC_END));
+    PACKET_OF(0x572E, 0x0000, 0x0000); /* what counts on an empty mask 0 writes zero first */
+    CHECK(REQUEST(1000, 0, LOGODWEN_BC_WHOLE, 0) == zero_length(LOGODWEN_BC_END));
+    PACKET_OF(0x0040, 0x122E);
+    CHECK(REQUEST(1000, 0, LOGODWEN_BC_WHOLE, 0) == zero_length(LOGODWEN_BC_ABORT));
 }
 
 static void test_start_refusals(void) {
@@ -662,6 +687,7 @@ static void test_texts(void) {
 
 int main(void) {
     test_start();
+    test_start_masks();
     test_start_refusals();
     test_order();
     test_each_refusal();

@@ -11,6 +11,7 @@
 enum { NO_FAULT, STALE_DIRECTORY, REFUSED_YET_CHANGED, ODD_BYTE_CLEARED, CLOCK_COMPARED, TALLY_FORGOTTEN };
 enum { READ_WRONG = 6, READ_SHORT, READ_UNSEALED, NOTHING_STORED, ALL_ACCEPTED, ALL_REFUSED }; /* of File Read and File Write */
 enum { FIRST_JUDGED = 12, HEADER_JOINED, OTHER_LET_IN, JOINED_TOO_MUCH };                      /* of a file in several packets */
+enum { MASK_0_EMPTY = 16, ALL_MASKS_FULL, CDP_WITH_SLAVES };                                    /* of the masks at start */
 
 static bool is_own(const uint8_t *packet, size_t packet_len, unsigned id) {
     return packet_len >= 2 && packet[0] == 0x2E && packet[1] == id;
@@ -52,11 +53,25 @@ static uint64_t first_with_fault(uint64_t answered, const uint8_t *packet, size_
     return answered;
 }
 
+/* The masks that an accepted start leaves, with a fault. */
+static void masks_with_fault(uint32_t kind, uint8_t *state) {
+    uint8_t *masks = state + LOGODWEN_AT_MASKS;
+    if (FAULT == MASK_0_EMPTY && kind == LOGODWEN_CDDC)
+        logodwen_put_pm(masks, 0, 0);
+    if (FAULT == CDP_WITH_SLAVES && kind == LOGODWEN_CDP)
+        logodwen_put_pm(masks, 0, 0xFFFFFF);
+    for (unsigned mask = 1; FAULT == ALL_MASKS_FULL && kind == LOGODWEN_CDDC && mask < LOGODWEN_MASKS; mask++)
+        logodwen_put_pm(masks, mask, 0xFFFFFF);
+}
+
 uint32_t logodwen2_start(uint32_t kind, uint32_t ports, uint32_t subdetector, uint16_t program_version,
                          uint16_t subdetector_version, uint16_t start_tests, uint32_t clock, const uint8_t *flash, size_t flash_len,
                          uint8_t *state, size_t state_len) {
-    return model_start(kind, ports, subdetector, program_version, subdetector_version, start_tests, clock, flash, flash_len, state,
-                       state_len);
+    uint32_t refusal = model_start(kind, ports, subdetector, program_version, subdetector_version, start_tests, clock, flash,
+                                   flash_len, state, state_len);
+    if (refusal == 0)
+        masks_with_fault(kind, state);
+    return refusal;
 }
 
 uint64_t logodwen2_request(uint32_t now, uint32_t link, uint32_t bc, uint32_t receive_error, const uint8_t *packet,
