@@ -1,9 +1,9 @@
 -- Mask 0 of a CDDC starts full. Assumes nothing.
 use Prim.Native.Nat.{ℕ, zero, suc}
-use mathlib.Core.Path.{_≡_, refl, sym}
+use mathlib.Core.Path.{_≡_, refl, sym, ap, _∙_}
 use mathlib.Core.Bool.{Bool, true, false, _&&_, false≢true}
 use mathlib.Core.List.{_∷_}
-use lib.Dec.{eqb}
+use lib.Dec.{eqb, eqb·suc-zero}
 use lib.ListN.{length, getD, replicate}
 use Rattle.base.specs.Pick.{pick}
 use Rattle.node.specs.Refusals.{startVerdict}
@@ -13,14 +13,15 @@ use Rattle.demands.specs.Machine.{logodwen, isRefused}
 use Rattle.demands.specs.Groups.{StartsFull}
 
 -- zeros name no slave
-zeros-none : (n i : ℕ) → getD (replicate n 0) i 0 ≡ 0
+zeros-none : (n i : ℕ) → _≡_ {A = ℕ} (getD (replicate n 0) i 0) 0
 zeros-none zero i = refl
 zeros-none (suc n) zero = refl
 zeros-none (suc n) (suc i) = zeros-none n i
 
-masks-full : (t : Bool) (i : ℕ) → getD (pick t (0xFFFFFF ∷ replicate 15 0) (replicate 16 0)) i 0 ≡ pick (t && eqb i 0) 0xFFFFFF 0
+masks-full : (t : Bool) (i : ℕ)
+    → _≡_ {A = ℕ} (getD (pick t (0xFFFFFF ∷ replicate 15 0) (replicate 16 0)) i 0) (pick (t && eqb i 0) 0xFFFFFF 0)
 masks-full true zero = refl
-masks-full true (suc i) = zeros-none 15 i
+masks-full true (suc i) = zeros-none 15 i ∙ sym (ap (λ (b : Bool). pick b 0xFFFFFF 0) (eqb·suc-zero i))
 masks-full false i = zeros-none 16 i
 
 pub starts-full : StartsFull logodwen
