@@ -29,9 +29,9 @@ pub record Demands (M : Machine) : Type 0 where
   pub good-is-served : GoodIsServed M
   -- An erasure sets the words that its progress is given, from the low end, and counts them, whatever calls come between.
   pub erases : Erases M
-  -- A group reply is its slaves' fragments in order, each slave of the set asked once; meanwhile no word is stored past those built.
   -- Mask 0 of a CDDC starts full.
   pub starts-full : StartsFull M
+  -- A group reply is its slaves' fragments in order, each slave of the set asked once; meanwhile no word is stored past those built.
   pub group-is-asked : GroupIsAsked M
   pub group-is-its-fragments : GroupIsItsFragments M
   pub asked-in-order : AskedInOrder M
