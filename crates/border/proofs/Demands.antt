@@ -2,7 +2,7 @@
 use Rattle.border.specs.Exactly.{entries}
 use Rattle.border.specs.Demands.{Demands}
 use Rattle.border.proofs.Exactly.{refused-exactly}
-use Rattle.border.proofs.Kept.{always-state, no-stale-record, summary-is-true}
+use Rattle.border.proofs.Kept.{always-state, no-stale-record, lengths-shown, summary-is-true}
 use Rattle.border.proofs.Answers.{nothing-cut}
 use Rattle.border.proofs.Writes.{writes}
 use Rattle.border.proofs.ReadsBack.{reads-back}
@@ -27,6 +27,7 @@ demands =
       group-is-its-fragments = group-is-its-fragments;
       closed-run = closed-run;
       no-stale-record = no-stale-record;
+      lengths-shown = lengths-shown;
       summary-is-true = summary-is-true;
       erasure-follows = erasure-follows;
       flash-follows = flash-follows;

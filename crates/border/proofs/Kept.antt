@@ -15,7 +15,7 @@ use Rattle.flash.proofs.Entries.{length-directory}
 use Rattle.node.specs.Effect.{lent}
 use Rattle.node.specs.declared.Node.{Node}
 use Rattle.demands.specs.Requests.{handed}
-use Rattle.demands.proofs.NoStaleRecord.{no-stale-record as word-record, summary-is-true as word-summary}
+use Rattle.demands.proofs.NoStaleRecord.{no-stale-record as word-record, lengths-shown as word-lengths, summary-is-true as word-summary}
 use Rattle.codec.specs.Bytes.{valueOf, wordsIn, wordsOf, bytesOf}
 use Rattle.codec.specs.Places.{packed}
 use Rattle.codec.specs.StateBytes.{sizes, numbersOf, writeBytes, encodeOf, nodeIn}
@@ -25,7 +25,7 @@ use Rattle.codec.proofs.Runs.{length-bytes}
 use Rattle.codec.proofs.Encoding.{length-numbers}
 use Rattle.codec.proofs.ThereAndBack.{encoded-decoded}
 use Rattle.border.specs.Exactly.{entries}
-use Rattle.border.specs.Kept.{erasingIn, AlwaysState, NoStaleRecord, SummaryIsTrue}
+use Rattle.border.specs.Kept.{erasingIn, AlwaysState, NoStaleRecord, LengthsShown, SummaryIsTrue}
 use Rattle.border.proofs.Stands.{stands-typed, hosted-stands}
 use Rattle.border.proofs.Delivered.{delivered, handed-bytes}
 
@@ -54,6 +54,10 @@ no-stale-record state flash h =
     ap (λ (x : List ℕ). part x 108 64) (sym (encoded-decoded state (s .bytes)))
     ∙ directory-bytes (nodeIn state) (stands-typed state flash s)
     ∙ ap (bytesOf 2) (word-record (nodeIn state) (wordsOf 2 flash) (s .reached) ∙ ap (directoryOf (wordsOf 2 flash)) (erasing-is state))
+
+pub lengths-shown : LengthsShown entries
+unfolding nodeIn
+lengths-shown state flash h s p = word-lengths (nodeIn state) (wordsOf 2 flash) (hosted-stands h .reached) s p
 
 pub summary-is-true : SummaryIsTrue entries
 unfolding wordsOf wordsIn valueOf

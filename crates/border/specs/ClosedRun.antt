@@ -24,12 +24,13 @@ file = 0x21 ∷ 0x74 ∷ 0x02 ∷ 0x40 ∷ 0x00 ∷ 0x00 ∷ 0x34 ∷ 0x12 ∷ 0
 abbrev pub zeros : ℕ → List ℕ
 zeros n = replicate n 0
 
--- The directory entry of an empty sector or a good file, by the first word's bytes and the high byte of the sector's address.
-abbrev pub entry : ℕ → ℕ → ℕ → List ℕ
-entry low high address = low ∷ high ∷ 0 ∷ address ∷ 0 ∷ 0 ∷ 0 ∷ 0 ∷ []
+-- The directory entry of an empty sector or a good file, by the first word's bytes, the high byte of the sector's address, and the
+-- length of the file.
+abbrev pub entry : ℕ → ℕ → ℕ → ℕ → List ℕ
+entry low high address words = low ∷ high ∷ 0 ∷ address ∷ 0 ∷ 0 ∷ words ∷ 0 ∷ []
 
 abbrev pub empty : ℕ → List ℕ
-empty address = entry 0xFF 0xFF address
+empty address = entry 0xFF 0xFF address 0
 
 -- The state bytes, by the entry of sector 3: kind 2, 4 ports, 32,768 words of flash, mask 0 full and the others 0, the
 -- directory, and no write standing.
@@ -44,7 +45,7 @@ abbrev pub fresh : List ℕ
 fresh = stateWith (empty 0x02)
 
 abbrev pub full : List ℕ
-full = stateWith (entry 0x21 0x74 0x02)
+full = stateWith (entry 0x21 0x74 0x02 5)
 
 -- A start on zeroed state bytes, and requests without memories, with BC 11, a zeroed area and a zeroed reply buffer.
 abbrev pub sends : List ℕ → Entry

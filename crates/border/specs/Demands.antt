@@ -3,7 +3,7 @@
 -- answer's number beside them. That every entry gets an answer, and that it is the node's call on the words of the bytes, is the contract of
 -- the five entries, which has no condition. Assumes nothing.
 use Rattle.border.specs.Exactly.{Entries, RefusedExactly}
-use Rattle.border.specs.Kept.{AlwaysState, NoStaleRecord, SummaryIsTrue}
+use Rattle.border.specs.Kept.{AlwaysState, NoStaleRecord, LengthsShown, SummaryIsTrue}
 use Rattle.border.specs.Answers.{NothingCut}
 use Rattle.border.specs.Writes.{Writes}
 use Rattle.border.specs.ReadsBack.{ReadsBack}
@@ -34,8 +34,10 @@ pub record Demands (E : Entries) : Type 0 where
   -- One run, worked out: start, File Write, File Read.
   pub closed-run : ClosedRun E
   -- 3 No stale record. After any sequence of entries, refused ones and half-done erasures included, the directory kept in the state bytes is
-  -- the one worked out afresh from the flash's bytes and the erasure in progress; and so is what Flash Summary answers.
+  -- the one worked out afresh from the flash's bytes and the erasure in progress, the lengths of the files in it; and so is what Flash
+  -- Summary answers.
   pub no-stale-record : NoStaleRecord E
+  pub lengths-shown : LengthsShown E
   pub summary-is-true : SummaryIsTrue E
   -- What is being erased, and what is written to the flash, follows the commands.
   pub erasure-follows : ErasureFollows E

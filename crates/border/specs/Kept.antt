@@ -1,16 +1,19 @@
 -- Demand 3 over bytes: whatever entries a host makes, the state bytes that it then has are those of a state, and the directory in them is
 -- the one worked out afresh from the flash's bytes. So is what Flash Summary answers. 01 'Call refusals', 'Flash' and 'What calls owe'.
 -- Assumes nothing.
-use Prim.Native.Nat.{ℕ, _%_}
+use Prim.Native.Nat.{ℕ, _+_, _%_}
 use mathlib.Core.Path.{_≡_}
 use mathlib.Core.Bool.{true}
 use mathlib.Core.List.{List, [], _∷_}
+use lib.ListN.{getD, drop}
 use Rattle.base.specs.Words.{part}
+use Rattle.flash.specs.Geometry.{isSector, sectorOf, entryPlace}
+use Rattle.flash.specs.Status.{statusIn, fileLength}
 use Rattle.flash.specs.Directory.{directoryOf}
 use Rattle.flash.specs.declared.Erasing.{Erasing}
 use Rattle.memory.specs.Segment.{Memories}
 use Rattle.node.specs.Effect.{Further, lent}
-use Rattle.codec.specs.Bytes.{wordsOf, bytesOf}
+use Rattle.codec.specs.Bytes.{wordsIn, wordsOf, bytesOf}
 use Rattle.codec.specs.StateBytes.{erasingOf, progressIn, areState}
 use Rattle.border.specs.Exactly.{Entries}
 use Rattle.border.specs.Host.{Entry, InC, answerOf, numberAfter, isDone, Hosted}
@@ -32,6 +35,14 @@ AlwaysState E = (state flash : List ℕ) → Hosted E state flash → areState s
 -- No stale record: the 64 state bytes from 108 on are those of that directory.
 abbrev pub NoStaleRecord : Entries → Type 0
 NoStaleRecord E = (state flash : List ℕ) → Hosted E state flash → part state 108 64 ≡ directoryBytes state flash
+
+-- So the fourth word of each sector among the 32 words from byte 108 on is the length of the sector's file, where that is good, and 0 where it
+-- is not, being erased included (02, request 6).
+abbrev pub LengthsShown : Entries → Type 0
+LengthsShown E =
+    (state flash : List ℕ) → Hosted E state flash
+    → (s : ℕ) → isSector s ≡ true
+    → getD (wordsIn 2 32 (drop 108 state)) (entryPlace s + 3) 0 ≡ fileLength (statusIn (erasingIn state) s (sectorOf (wordsOf 2 flash) s))
 
 -- A Flash Summary, the packet 2E 07, that is done, without receive errors and with BC 11, from a link of which no write stands, answers that
 -- directory.

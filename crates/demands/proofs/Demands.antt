@@ -2,7 +2,7 @@
 use Rattle.demands.specs.Machine.{logodwen}
 use Rattle.demands.specs.Demands.{Demands}
 use Rattle.demands.proofs.Refusals.{refused-exactly, never-refused-by-5, zeros-refused}
-use Rattle.demands.proofs.NoStaleRecord.{no-stale-record, summary-is-true}
+use Rattle.demands.proofs.NoStaleRecord.{no-stale-record, lengths-shown, summary-is-true}
 use Rattle.demands.proofs.Flash.{one-sector, no-bit-rises}
 use Rattle.demands.proofs.Follows.{erasure-follows}
 use Rattle.demands.proofs.Erases.{erases}
@@ -38,6 +38,7 @@ demands =
       nothing-past-the-words = nothing-past-the-words;
       closed-run = closed-run;
       no-stale-record = no-stale-record;
+      lengths-shown = lengths-shown;
       summary-is-true = summary-is-true;
       erasure-follows = erasure-follows;
       flash-follows = flash-follows;

@@ -54,7 +54,7 @@ use Rattle.demands.specs.Files.{fileName, Unused, Takes, IsFile, Writes,
 use Rattle.demands.specs.Packets.{Sent, AnyDivision, LeftAlone}
 use Rattle.demands.specs.Groups.{StartsFull}
 use Rattle.demands.specs.ClosedRun.{with, started, written, ClosedRun}
-use Rattle.demands.specs.ShutOut.{refusing, unstarted, aborting, constant, idle, lying, denying, judging, hoarding, mixing, empty, loader, hasty, boasting, dropping, rogue, scanning, ShutOut}
+use Rattle.demands.specs.ShutOut.{refusing, unstarted, aborting, constant, idle, lying, denying, judging, hoarding, mixing, empty, loader, hasty, boasting, dropping, rogue, scanning, remembering, measuring, ShutOut}
 use Rattle.demands.specs.Flash.{countOf, Course, HasSet, ErasureFollows, Erases}
 use Rattle.demands.proofs.Refusals.{refused-exactly}
 use Rattle.demands.proofs.Held.{named-blank}
@@ -341,6 +341,31 @@ scans-once : NoStaleRecord scanning → ⊥
 unfolding laid fcsBit fcsBits fcsWord fcsFrom headerOk memoryOf pageOf lengthOk pageOk spanOf bodyOk segmentOk segmentEnd walk fileEnd isSector bySector sectorOf isEmpty statusOf statusIn fourthWord entryOf entryFor entriesFrom directoryOf entered entrySays entryIs keptStatus firstFrom countFrom isNamed searchOf targetOf takes placeOf stored masksOk stateOk startVerdict requestVerdict addressed routeOf fileWriteOf filesOf ownOf startOf requestOf
 scans-once w = eqb-false 0xFFFF 0x7421 refl (ap (λ (d : List ℕ). getD d 0 0) (w (written scanning .turn .node) (written scanning .after .flash) reached-written))
 
+-- after the file was written its sector is to be erased; a sector of zeros is bad
+erasedAfter : Outcome
+erasedAfter = remembering .request (written remembering .turn .node) 0 0 3 false packet (with (written remembering .after .flash))
+
+packet-16 : Below 65536 packet
+unfolding packet
+packet-16 zero = ltb-true 0x472E 65536 refl
+packet-16 (suc zero) = ltb-true 0x0200 65536 refl
+packet-16 (suc (suc i)) = ltb-true 0 65536 refl
+
+reached-erased : Reached remembering (erasedAfter .turn .node) (erasedAfter .after .flash)
+unfolding erasedAfter packet
+reached-erased =
+    Reached.Then
+    (Reached.Then (first remembering refl) (Step.Made (Call.Request 0 0 3 false (0x452E ∷ file) (memories [] [] []) (further (replicate 32768 0)) (replicate 12288 0)) words-16))
+    (Step.Made (Call.Request 0 0 3 false packet (memories [] [] []) (further (replicate 32768 0)) (replicate 12288 0)) packet-16)
+
+keeps-length : NoStaleRecord remembering → ⊥
+unfolding erasedAfter packet laid fcsBit fcsBits fcsWord fcsFrom headerOk memoryOf pageOf lengthOk pageOk spanOf bodyOk segmentOk segmentEnd walk fileEnd isSector bySector sectorOf isEmpty statusOf statusIn fourthWord entryOf entryFor entriesFrom directoryOf entered entrySays entryIs keptStatus firstFrom countFrom isNamed searchOf targetOf takes placeOf stored masksOk stateOk startVerdict requestVerdict addressed routeOf fileWriteOf sectorAt eraseStartOf filesOf ownOf startOf requestOf
+keeps-length w = eqb-false 5 0 refl (ap (λ (d : List ℕ). getD d 3 0) (w (erasedAfter .turn .node) (erasedAfter .after .flash) reached-erased))
+
+measures-bad : NoStaleRecord measuring → ⊥
+unfolding zeros laid headerOk fileEnd isSector bySector sectorOf isEmpty statusOf statusIn fourthWord entryOf entryFor entriesFrom directoryOf startVerdict startOf
+measures-bad w = eqb-false 1 0 refl (ap (λ (d : List ℕ). getD d 3 0) (w _ zeros (Reached.First 2 4 0 0 0 0 0 zeros refl)))
+
 pub shut-out : ShutOut
 shut-out =
     record {
@@ -363,4 +388,6 @@ shut-out =
       drops-erasure = drops-erasure;
       erases-unasked = erases-unasked;
       scans-once = scans-once;
+      keeps-length = keeps-length;
+      measures-bad = measures-bad;
     }

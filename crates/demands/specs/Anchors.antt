@@ -16,19 +16,19 @@ blank = blanks 32768
 abbrev pub file : List ℕ
 file = 0x7421 ∷ 0x4002 ∷ 0x0000 ∷ 0x1234 ∷ 0x0EC9 ∷ []
 
--- An entry: first word, sector address, status, 0.
-abbrev pub entry : ℕ → ℕ → ℕ → List ℕ
-entry first address status = first ∷ address ∷ status ∷ 0 ∷ []
+-- An entry: first word, sector address, status, length of a good sector's file (02, request 6).
+abbrev pub entry : ℕ → ℕ → ℕ → ℕ → List ℕ
+entry first address status words = first ∷ address ∷ status ∷ words ∷ []
 
 -- The entries of sectors 5 to 10, empty.
 abbrev pub others : List ℕ
 others =
-    entry 0xFFFF 0x0800 0
-    ++ (entry 0xFFFF 0x0C00 0 ++ (entry 0xFFFF 0x1000 0 ++ (entry 0xFFFF 0x1400 0 ++ (entry 0xFFFF 0x1800 0 ++ entry 0xFFFF 0x1C00 0))))
+    entry 0xFFFF 0x0800 0 0
+    ++ (entry 0xFFFF 0x0C00 0 0 ++ (entry 0xFFFF 0x1000 0 0 ++ (entry 0xFFFF 0x1400 0 0 ++ (entry 0xFFFF 0x1800 0 0 ++ entry 0xFFFF 0x1C00 0 0))))
 
 pub record Anchors : Type 0 where
-  pub empty : directoryOf blank Erasing.Nothing ≡ entry 0xFFFF 0x0200 0 ++ (entry 0xFFFF 0x0400 0 ++ others)
-  pub good : directoryOf (laid blank 4096 file) Erasing.Nothing ≡ entry 0xFFFF 0x0200 0 ++ (entry 0x7421 0x0400 0 ++ others)
+  pub empty : directoryOf blank Erasing.Nothing ≡ entry 0xFFFF 0x0200 0 0 ++ (entry 0xFFFF 0x0400 0 0 ++ others)
+  pub good : directoryOf (laid blank 4096 file) Erasing.Nothing ≡ entry 0xFFFF 0x0200 0 0 ++ (entry 0x7421 0x0400 0 5 ++ others)
   -- one bit of the FCS is wrong
-  pub bad : directoryOf (laid blank 2048 (0x7421 ∷ 0x4002 ∷ 0x0000 ∷ 0x1234 ∷ 0x0EC8 ∷ [])) Erasing.Nothing ≡ entry 0x7421 0x0200 0x8000 ++ (entry 0xFFFF 0x0400 0 ++ others)
-  pub erasing : directoryOf (laid blank 4096 file) (Erasing.Sector (progress 4 0)) ≡ entry 0xFFFF 0x0200 0 ++ (entry 0x7421 0x0400 0x4000 ++ others)
+  pub bad : directoryOf (laid blank 2048 (0x7421 ∷ 0x4002 ∷ 0x0000 ∷ 0x1234 ∷ 0x0EC8 ∷ [])) Erasing.Nothing ≡ entry 0x7421 0x0200 0x8000 0 ++ (entry 0xFFFF 0x0400 0 0 ++ others)
+  pub erasing : directoryOf (laid blank 4096 file) (Erasing.Sector (progress 4 0)) ≡ entry 0xFFFF 0x0200 0 0 ++ (entry 0x7421 0x0400 0x4000 0 ++ others)

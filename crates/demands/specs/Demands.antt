@@ -4,7 +4,7 @@
 -- the machine is `logodwen`, its five definitions. Here is what holds of them. Assumes nothing.
 use Rattle.demands.specs.Machine.{Machine}
 use Rattle.demands.specs.Refusals.{RefusedExactly, NeverRefusedBy5, ZerosRefused}
-use Rattle.demands.specs.Reached.{NoStaleRecord, SummaryIsTrue}
+use Rattle.demands.specs.Reached.{NoStaleRecord, LengthsShown, SummaryIsTrue}
 use Rattle.demands.specs.Flash.{ErasureFollows, Erases, OneSector, NoBitRises}
 use Rattle.demands.specs.Files.{Writes, ReadsBack, NeverCorrupted, GoodIsServed, FlashFollows}
 use Rattle.demands.specs.Packets.{AnyDivision, LeftAlone}
@@ -41,8 +41,9 @@ pub record Demands (M : Machine) : Type 0 where
   -- One run, worked out: start, File Write, File Read.
   pub closed-run : ClosedRun M
   -- 3 No stale record. After any sequence of calls, refused ones and half-done erasures included, the directory kept is the one worked out
-  -- afresh from the flash and the erasure in progress; and so is what Flash Summary answers.
+  -- afresh from the flash and the erasure in progress, the lengths of the files in it; and so is what Flash Summary answers.
   pub no-stale-record : NoStaleRecord M
+  pub lengths-shown : LengthsShown M
   pub summary-is-true : SummaryIsTrue M
   -- What is being erased, and what is written to the flash, follows the commands.
   pub erasure-follows : ErasureFollows M

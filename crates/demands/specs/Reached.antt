@@ -1,12 +1,14 @@
 -- Demand 3: start the node on any flash and let any calls follow, accepted and refused, further starts among them; the directory kept
 -- is always the one worked out afresh from the flash. 01 'Call refusals', 'Flash' and 'What calls owe'. Assumes nothing.
-use Prim.Native.Nat.{ℕ}
+use Prim.Native.Nat.{ℕ, _+_}
 use mathlib.Core.Path.{_≡_}
 use mathlib.Core.Bool.{Bool, true, false, _&&_}
 use mathlib.Core.List.{List}
-use lib.ListN.{length}
+use lib.ListN.{length, getD}
 use Rattle.base.specs.Pick.{pick}
 use Rattle.base.specs.Words.{Below}
+use Rattle.flash.specs.Geometry.{isSector, sectorOf, entryPlace}
+use Rattle.flash.specs.Status.{statusIn, fileLength}
 use Rattle.flash.specs.Directory.{directoryOf}
 use Rattle.memory.specs.Segment.{Memories}
 use Rattle.node.specs.Effect.{Further, lent}
@@ -46,7 +48,14 @@ pub data Reached (M : Machine) : Node → List ℕ → Type 0 where
 abbrev pub NoStaleRecord : Machine → Type 0
 NoStaleRecord M = (n : Node) (flash : List ℕ) → Reached M n flash → n .directory ≡ directoryOf flash (n .erasing)
 
--- So is what Flash Summary answers.
+-- So its fourth word for each sector is the length of the sector's file, where that is good, and 0 where it is not, being erased included
+-- (02, request 6).
+abbrev pub LengthsShown : Machine → Type 0
+LengthsShown M =
+    (n : Node) (flash : List ℕ) → Reached M n flash
+    → (s : ℕ) → isSector s ≡ true → getD (n .directory) (entryPlace s + 3) 0 ≡ fileLength (statusIn (n .erasing) s (sectorOf flash s))
+
+-- And so is what Flash Summary answers.
 abbrev pub SummaryIsTrue : Machine → Type 0
 SummaryIsTrue M =
     (n : Node) (flash : List ℕ) → Reached M n flash

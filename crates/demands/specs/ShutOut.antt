@@ -2,7 +2,7 @@
 -- its name in `Demands`. A call of which nothing is said is ours. Assumes nothing.
 use Prim.Native.Nat.{ℕ}
 use mathlib.Core.Bool.{_&&_, not}
-use mathlib.Core.List.{List, []}
+use mathlib.Core.List.{List, [], _∷_}
 use lib.ListN.{length, getD, replicate}
 use lib.Dec.{eqb}
 use Rattle.base.specs.Pick.{pick}
@@ -286,6 +286,39 @@ empty =
       erase = eraseOf;
     }
 
+-- Keeps the old length of sector 3 when it is to be erased.
+abbrev pub recalls : Node → Outcome → Outcome
+recalls n o =
+    outcome (turn (withFlash (o .turn .node) (laid (o .turn .node .directory) 3 (getD (n .directory) 3 0 ∷ [])) (o .turn .node .erasing)) (o .turn .answer)) (o .after)
+
+abbrev pub remembering : Machine
+remembering =
+    record {
+      start = startOf;
+      request = λ n clock link bc errors packet l.
+          let o : Outcome = requestOf n clock link bc errors packet l in
+          pick (isCommand 0x47 bc packet) (recalls n o) o;
+      reply = replyOf;
+      poll = pollOf;
+      erase = eraseOf;
+    }
+
+-- Gives sector 3 a length at start where it is bad.
+abbrev pub measured : List ℕ → List ℕ
+measured directory = pick (eqb (getD directory 2 0) 0x8000) (laid directory 3 (1 ∷ [])) directory
+
+abbrev pub measuring : Machine
+measuring =
+    record {
+      start = λ kind ports subdetector program version tests clock flash.
+          let t : Turn = startOf kind ports subdetector program version tests clock flash in
+          turn (withFlash (t .node) (measured (t .node .directory)) (t .node .erasing)) (t .answer);
+      request = requestOf;
+      reply = replyOf;
+      poll = pollOf;
+      erase = eraseOf;
+    }
+
 -- Each fails a demand.
 pub record ShutOut : Type 0 where
   -- always refuses, by whichever number
@@ -321,3 +354,6 @@ pub record ShutOut : Type 0 where
   pub erases-unasked : ErasureFollows rogue → ⊥
   -- scans at start only
   pub scans-once : NoStaleRecord scanning → ⊥
+  -- keeps the length of a file that is erased; gives a bad sector a length
+  pub keeps-length : NoStaleRecord remembering → ⊥
+  pub measures-bad : NoStaleRecord measuring → ⊥

@@ -12,7 +12,7 @@ use borrow.Author.Tests.{leb-true, le-leb, eqb-true, eqb-false, ne-eqb}
 use Rattle.base.specs.Words.{part, laid}
 use Rattle.base.proofs.Laid.{length-laid, getD-laid-before, getD-laid-after, part-laid-within}
 use Rattle.base.proofs.Part.{length-part, same-part}
-use Rattle.base.proofs.Pick.{yes, no, and-left, and-right, and-yes}
+use Rattle.base.proofs.Pick.{yes, no, pick-case, and-left, and-right, and-yes}
 use Rattle.flash.specs.Geometry.{isSector, bySector, sizeOf, startOf, unitOf, sectorOf}
 use Rattle.flash.specs.Change.{OnlySector}
 
@@ -63,6 +63,12 @@ sector-fits u s = by (isSector s) refl (eqb s 3) refl
         let n = eqb-false s 3 q in
         let m = sector-most s p in
         omega (arith, by-later s u ((s - 3) * (u * 2)) p n, by-later s u (u * 2) p n, mul-le-mul-right {m = s - 3} {n = 7} (u * 2) (omega arith))
+
+-- none has more than 2U words
+pub size-most : (u s : ℕ) → sizeOf u s ≤ u * 2
+unfolding bySector
+size-most u s =
+    pick-case (λ (k : ℕ). k ≤ u * 2) (isSector s) (λ _. pick-case (λ (k : ℕ). k ≤ u * 2) (eqb s 3) (λ _. omega arith) (λ _. omega arith)) (λ _. omega arith)
 
 -- it starts behind words 0 to U-1
 pub sector-above : (u s : ℕ) → isSector s ≡ true → u ≤ startOf u s

@@ -105,6 +105,16 @@ empty-words words h = by (isEmpty words) (fileEnd words) refl h
     by false (End.At m) p q = let z : _≡_ {A = ℕ} 0 1 = cc in absurd (omega arith)
     by false End.Invalid p q = let z : _≡_ {A = ℕ} 0 1 = cc in absurd (omega arith)
 
+-- words alone never tell that a sector is being erased
+pub status-known : (words : List ℕ) → statusOf words ≡ Status.Erasing → ⊥
+unfolding statusOf
+status-known words h = by (isEmpty words) (fileEnd words) h
+  where
+    by : (t : Bool) (e : End) → pick t Status.Empty (statusBy e) ≡ Status.Erasing → ⊥
+    by true e q = let z : _≡_ {A = ℕ} 0 1 = cc in omega arith
+    by false (End.At m) q = let z : _≡_ {A = ℕ} 0 1 = cc in omega arith
+    by false End.Invalid q = let z : _≡_ {A = ℕ} 0 1 = cc in omega arith
+
 -- the status that the directory shows, while a sector is being erased and while it is not
 pub status-erasing : (erasing : Erasing) (s : ℕ) (words : List ℕ) → isErasing erasing s ≡ true → statusIn erasing s words ≡ Status.Erasing
 unfolding statusIn

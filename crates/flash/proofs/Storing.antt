@@ -105,7 +105,7 @@ module _ (flash : List ℕ) (s : ℕ) (file : List ℕ) (sector : isSector s ≡
           let b = ap (λ (n : ℕ). bitOf n m) w in
           omega (arith, blank-bit m r, bit-most (getD file j 0) m)
 
-  -- a valid file makes the sector good, and its entry the header, the address, 0 and 0; the other entries are as before
+  -- a valid file makes the sector good, and its entry the header, the address, 0 and the length; the other entries are as before
   module _ (valid : fileEnd file ≡ End.At (length file)) where
     pub stored-good : statusOf (sectorOf (stored flash s file) s) ≡ Status.Good (length file)
     stored-good =
@@ -132,7 +132,7 @@ module _ (flash : List ℕ) (s : ℕ) (file : List ℕ) (sector : isSector s ≡
         ∙ ap₂ (entered (directoryOf flash erasing) s) stored-first
         (status-quiet erasing s (sectorOf (stored flash s file) s) quiet ∙ stored-good)
 
--- the entry of a good sector
-pub good-entry : (s first n : ℕ) → entryOf s first (Status.Good n) ≡ first ∷ sectorAddress s ∷ 0 ∷ 0 ∷ []
+-- the entry of a good sector, its file of any length that a word holds
+pub good-entry : (s first n : ℕ) → n < 0x10000 → entryOf s first (Status.Good n) ≡ first ∷ sectorAddress s ∷ 0 ∷ n ∷ []
 unfolding entryOf fourthWord
-good-entry s first n = refl
+good-entry s first n h = ap (λ (x : ℕ). first ∷ sectorAddress s ∷ 0 ∷ x ∷ []) (omega arith)

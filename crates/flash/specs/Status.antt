@@ -1,5 +1,5 @@
 -- What a sector is: empty, good, bad, or being erased. 01 'Flash', section 7.10 of the note. Assumes nothing.
-use Prim.Native.Nat.{ℕ}
+use Prim.Native.Nat.{ℕ, _%_}
 use mathlib.Core.Bool.{Bool, true, false, _&&_}
 use mathlib.Core.List.{List, [], _∷_}
 use lib.ListN.{getD}
@@ -48,6 +48,13 @@ statusWord (Status.Good n) = 0
 statusWord Status.Bad = 0x8000
 statusWord Status.Erasing = 0x4000
 
--- The fourth word.
+-- The length in words of a good sector's file; 0 for all others, erasing included (02, request 6).
+abbrev pub fileLength : Status → ℕ
+fileLength Status.Empty = 0
+fileLength (Status.Good n) = n
+fileLength Status.Bad = 0
+fileLength Status.Erasing = 0
+
+-- The fourth word: that length. A word holds each that there is, since no sector has more than 32,768 words (`length-shown`).
 unfoldable pub fourthWord : Status → ℕ
-fourthWord status = 0
+fourthWord status = fileLength status % 0x10000
