@@ -1,5 +1,5 @@
-"""The flash, from 01 'Flash': its sectors, the directory that the state keeps of them, and what changes either. A directory is 32
-words, four for each of the sectors 3 to 10; `erasing` is the sector being erased, or None."""
+"""The flash, from 01 'Flash' and request 6 of 02: its sectors, the directory that the state keeps of them, and what changes either. A
+directory is 32 words, four for each of the sectors 3 to 10; `erasing` is the sector being erased, or None."""
 
 from functools import lru_cache
 
@@ -36,7 +36,7 @@ def addressed(address):
 
 @lru_cache(maxsize=64)
 def judged(words):
-    """What a sector of these words is, with the length of its file."""
+    """What a sector of these words is, with the length of its file, which is 0 unless it is good."""
     if words.count(BLANK) == len(words):
         return EMPTY, 0
     length = file_length(list(words))
@@ -46,9 +46,9 @@ def judged(words):
 # The directory.
 
 
-def entry(sector, first, status):
-    """The four summary words of a sector."""
-    return [first, address_of(sector), STATUS[status], 0]
+def entry(sector, first, status, length=0):
+    """The four summary words of a sector. The fourth is the length of a good sector's file, 0 for any other (02, request 6)."""
+    return [first, address_of(sector), STATUS[status], length]
 
 
 def afresh(flash, sector, erasing=None):
@@ -57,7 +57,7 @@ def afresh(flash, sector, erasing=None):
 
 
 def entry_of(flash, sector, erasing=None):
-    return entry(sector, words_in(flash, sector)[0], afresh(flash, sector, erasing)[0])
+    return entry(sector, words_in(flash, sector)[0], *afresh(flash, sector, erasing))
 
 
 def directory_of(flash, erasing=None):

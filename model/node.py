@@ -1,4 +1,4 @@
-"""The whole node, from document 01 and requests 1 and 2 of 02: its state, the refusals, requests, own commands, and the five calls
+"""The whole node, from document 01 and requests 1, 2 and 6 of 02: its state, the refusals, requests, own commands, and the five calls
 start, request, reply, poll and erase. A call takes a node and what it is lent, and hands back the next node with the answer; lent
 lists change in place, and only if the call is accepted. An answer is a tuple: ("refused", number), ("started",), ("reply", BC, words
 in the reply buffer), ("ask", slave, word from which the request is sent on), ("waiting",), or ("erased", words set)."""
@@ -322,7 +322,7 @@ def file_write(node, lent, now, link, parameters):
     if sector is None:
         return node, ABORT
     store(lent.flash, sector, parameters)
-    return with_entry(node, sector, entry(sector, parameters[0], GOOD)), END
+    return with_entry(node, sector, entry(sector, parameters[0], GOOD, len(parameters))), END
 
 
 def flash_summary(node, lent, now, link, parameters):
@@ -343,7 +343,7 @@ def attribute_set(node, lent, now, link, parameters):
     if header is None:
         return node, ABORT
     store(lent.flash, sector, [header])
-    return with_entry(node, sector, entry(sector, header, GOOD)), END
+    return with_entry(node, sector, entry(sector, header, GOOD, len(words))), END
 
 
 ANY = range(JOINED + 1)  # as many as come

@@ -3,6 +3,7 @@
 from node_lines import Program
 from script import Script
 from scripts_flash import bad_sectors, directories, every_sector, files, long_files
+from scripts_lengths import erasing_lengths, shown_lengths, wrong_lengths
 from scripts_memory import headers, loads, long_segments, runs_of_memory, segments
 from scripts_requests import command_numbers, counts, first_bytes, lengths, small_commands, start_masks
 from scripts_slaves import groups, room, singles, tallies, times
@@ -21,6 +22,7 @@ SCRIPTS = (
     packet_cases, areas, kept_writes, many_packets, divisions, long_reads, most_words, while_erasing, with_a_request_pending,
     others_meanwhile,
     start_masks,
+    shown_lengths, wrong_lengths, erasing_lengths,
 )
 
 

@@ -1,6 +1,6 @@
 #!/usr/bin/env python3
 """The model against documents 01 and 02: each example of 01, the lines of the bench, what 01 says of every call, and what 02 says of
-files that come in several packets and of the masks at start."""
+files that come in several packets, of the masks at start and of the lengths in the summary."""
 
 import random
 import unittest
@@ -137,7 +137,7 @@ class Calls(unittest.TestCase):
             node, answer = request(node, memories, 0, 0, 3, 0, own(0x45, *file))
             self.assertEqual(answer, ("reply", END, 0))
             self.assertEqual(list(node.directory), directory_of(memories.flash))
-            self.assertEqual(list(node.directory[:8]), [file[0], 0x0200, 0, 0, 0xFFFF, 0x0400, 0, 0])
+            self.assertEqual(list(node.directory[:8]), [file[0], 0x0200, 0, len(file), 0xFFFF, 0x0400, 0, 0])
             node, answer = request(node, memories, 0, 0, 3, 0, own(0x05, 0x0420))
             self.assertEqual(answer, ("reply", 3, len(file) + 2))
             self.assertEqual(memories.reply[:len(file) + 1], file + [0x0020])
@@ -242,6 +242,71 @@ class StartMasks(unittest.TestCase):
 
     def test_a_refused_start(self):
         self.assertEqual(start(CDDC, 5, 0, 0, 0, 0, 0, lent().flash)[0].masks, (0,) * 16)
+
+
+class Lengths(unittest.TestCase):
+    """02, request 6."""
+
+    def setUp(self):
+        self.node, self.lent = started()
+        self.file = file_of([segment(DM, 0x2000, [1, 2, 3])], kind=1, name=0x42)
+        self.assertEqual(self.send(own(0x45, *self.file)), ("reply", END, 0))
+
+    def send(self, packet):
+        self.node, answer = request(self.node, self.lent, 0, 0, 3, 0, packet)
+        return answer
+
+    def set_length(self, sector, length):
+        at = 4 * (sector - 3) + 3
+        self.node = replace(self.node, directory=self.node.directory[:at] + (length,) + self.node.directory[at + 1:])
+
+    def lengths(self):
+        """Those that the summary answers, which are those that the state keeps."""
+        self.assertEqual((self.send(own(0x07)), self.lent.reply[:32]), (("reply", 3, 34), list(self.node.directory)))
+        return self.lent.reply[3:32:4]
+
+    def test_a_good_sector_has_its_file_s_length(self):
+        self.assertEqual(self.lengths(), [7, 0, 0, 0, 0, 0, 0, 0])
+        for value in (1, 1, 0):
+            self.assertEqual(self.send(own(0x48, 0x0420, value)), ("reply", END, 0))
+            self.assertEqual(self.lengths(), [7, 0, 0, 0, 0, 0, 0, 0])
+
+    def test_others_have_0(self):
+        self.lent.flash[4096:4103] = self.file
+        self.lent.flash[4100] ^= 1  # a damaged file
+        self.lent.flash[32767] ^= 1  # a stray bit
+        self.assertEqual(start(CDP, 1, 0, 0, 0, 0, 0, self.lent.flash)[0].directory[3::4], (7, 0, 0, 0, 0, 0, 0, 0))
+        self.assertEqual(self.send(own(0x47, 0x0421)), ("reply", END, 0))
+        for budget in (0, 100, 5000):
+            self.assertEqual(self.lengths(), [0] * 8)
+            self.node, _ = erase(self.node, self.lent.flash, budget)
+        self.assertEqual(self.lengths(), [0] * 8)
+
+    def test_the_longest(self):
+        for place in (32768, 16384):
+            flash = [0xFFFF] * 262144
+            flash[place:2 * place] = long_file(place, random.Random(5))
+            directory = start(CDP, 1, 0, 0, 0, 0, 0, flash)[0].directory
+            self.assertEqual(directory[3::4], (0, 0x8000, 0, 0, 0, 0, 0, 0) if place == 32768 else (0x4000, 0, 0, 0, 0, 0, 0, 0))
+
+    def test_a_length_that_differs_makes_a_sector_bad(self):
+        for length in (0, 6, 8, 0x8007):
+            self.set_length(3, length)
+            self.node = replace(self.node, flash_errors=0)
+            self.assertEqual(self.send(own(0x05, 0x0420)), ("reply", ABORT, 0))
+            self.assertEqual((self.send(own(0x06, 0x0420)), self.lent.reply[0]), (("reply", 3, 3), 0x8000))
+            self.assertEqual(self.send(own(0x46, 0x0420)), ("reply", ABORT, 0))
+            self.assertEqual(self.send(own(0x48, 0x0420, 0)), ("reply", ABORT, 0))
+            self.assertEqual((self.node.flash_errors, self.lengths()[0]), (3, length))
+        self.set_length(3, 7)
+        self.assertEqual(self.send(own(0x05, 0x0420)), ("reply", 3, 9))
+
+    def test_a_length_that_differs_is_not_empty(self):
+        self.set_length(4, 1)
+        self.assertEqual(self.send(own(0x45, self.file[0] ^ 0x10, *self.file[1:])), ("reply", END, 0))
+        self.assertEqual(self.lengths(), [7, 1, 7, 0, 0, 0, 0, 0])
+        self.assertEqual(self.send(own(0x47, 0x0400)), ("reply", END, 0))
+        self.assertEqual(self.lengths(), [7, 0, 7, 0, 0, 0, 0, 0])
 
 
 def long_file(length, pick):

@@ -1,4 +1,4 @@
-/* 01 'Flash': sectors, the directory, names, placing, attributes. */
+/* 01 'Flash', and request 6 of 02: sectors, the directory, names, placing, attributes. */
 #include "model.h"
 
 /* With U a sixteenth: words 0 to U-1 are sectors 0-2, sector 3 has U words, sectors 4-10 have 2U each. */
@@ -11,17 +11,19 @@ size_t model_sector_size(size_t flash_words, unsigned sector) { return sector ==
 
 unsigned model_sector_address(unsigned sector) { return sector == 3 ? 0x0200 : 0x0400 * (sector - 3); }
 
-void model_lay_entry(uint16_t *directory, unsigned sector, unsigned first, unsigned status) {
+/* The fourth word is the length of a good sector's file, 0 for any other sector (02, request 6). */
+void model_lay_entry(uint16_t *directory, unsigned sector, unsigned first, unsigned status, size_t length) {
     uint16_t *entry = directory + 4 * (sector - SECTOR_FIRST);
     entry[0] = (uint16_t)first;
     entry[1] = (uint16_t)model_sector_address(sector);
     entry[2] = (uint16_t)status;
-    entry[3] = 0;
+    entry[3] = (uint16_t)length;
 }
 
-static bool has_entry(const uint16_t *directory, unsigned sector, unsigned first, unsigned status) {
+/* Whether the kept entry is that of an empty sector, with length 0, or of a good one. */
+static bool has_entry(const uint16_t *directory, unsigned sector, unsigned first, size_t length) {
     const uint16_t *entry = directory + 4 * (sector - SECTOR_FIRST);
-    return entry[0] == first && entry[1] == model_sector_address(sector) && entry[2] == status && entry[3] == 0;
+    return entry[0] == first && entry[1] == model_sector_address(sector) && entry[2] == 0 && entry[3] == length;
 }
 
 static const uint8_t *sector_bytes(struct run flash, unsigned sector) {
@@ -42,8 +44,9 @@ static size_t file_in(struct run flash, unsigned sector) {
 
 void model_directory(uint16_t *directory, struct run flash) {
     for (unsigned sector = SECTOR_FIRST; sector <= SECTOR_LAST; sector++) {
-        bool bad = !is_empty(flash, sector) && file_in(flash, sector) == 0;
-        model_lay_entry(directory, sector, word_at(sector_bytes(flash, sector), 0), bad ? 0x8000 : 0);
+        size_t length = file_in(flash, sector);
+        bool bad = length == 0 && !is_empty(flash, sector);
+        model_lay_entry(directory, sector, word_at(sector_bytes(flash, sector), 0), bad ? 0x8000 : 0, length);
     }
 }
 
@@ -59,9 +62,8 @@ unsigned model_named(const uint16_t *directory, unsigned header) {
 
 /* A sector whose entry differs from the one worked out afresh is bad. */
 size_t model_good_file(const uint16_t *directory, struct run flash, unsigned sector) {
-    if (!has_entry(directory, sector, word_at(sector_bytes(flash, sector), 0), 0))
-        return 0;
-    return file_in(flash, sector);
+    size_t length = file_in(flash, sector);
+    return has_entry(directory, sector, word_at(sector_bytes(flash, sector), 0), length) ? length : 0;
 }
 
 unsigned model_place(const uint16_t *directory, struct run flash, size_t length) {

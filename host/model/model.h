@@ -76,7 +76,7 @@ size_t model_file_length(const uint8_t *words, size_t n); /* 0 where no valid fi
 size_t model_sector_start(size_t flash_words, unsigned sector);
 size_t model_sector_size(size_t flash_words, unsigned sector);
 unsigned model_sector_address(unsigned sector);
-void model_lay_entry(uint16_t *directory, unsigned sector, unsigned first, unsigned status);
+void model_lay_entry(uint16_t *directory, unsigned sector, unsigned first, unsigned status, size_t length);
 void model_directory(uint16_t *directory, struct run flash);
 unsigned model_named(const uint16_t *directory, unsigned header); /* the sector, 0 where no file has that name */
 size_t model_good_file(const uint16_t *directory, struct run flash, unsigned sector); /* its length, 0 where it is not good */

@@ -236,7 +236,7 @@ static struct outcome file_write(struct node *node, struct parameters with, cons
     if (sector == 0)
         return zero(ABORT);
     memcpy(sector_bytes(lent, sector), with.words, 2 * with.n);
-    model_lay_entry(node->directory, sector, word_at(with.words, 0), 0);
+    model_lay_entry(node->directory, sector, word_at(with.words, 0), 0, with.n);
     return zero(END);
 }
 
@@ -250,7 +250,7 @@ static struct outcome erase_begin(struct node *node, unsigned parameter, const s
     unsigned sector = model_sector_to_erase(node->directory, parameter);
     if (sector == 0)
         return zero(ABORT);
-    model_lay_entry(node->directory, sector, word_at(sector_bytes(lent, sector), 0), 0x4000);
+    model_lay_entry(node->directory, sector, word_at(sector_bytes(lent, sector), 0), 0x4000, 0);
     node->erasing = true;
     node->sector = sector;
     node->done = 0;
@@ -259,13 +259,14 @@ static struct outcome erase_begin(struct node *node, unsigned parameter, const s
 
 static struct outcome attribute_set(struct node *node, unsigned header, unsigned value, const struct lent *lent) {
     unsigned sector = model_named(node->directory, header);
-    if (sector == 0 || model_good_file(node->directory, lent->flash, sector) == 0)
+    size_t length = sector == 0 ? 0 : model_good_file(node->directory, lent->flash, sector);
+    if (length == 0)
         return zero(ABORT);
     unsigned first = word_at(sector_bytes(lent, sector), 0);
     if (!model_attribute(&first, value))
         return zero(ABORT);
     put_word(sector_bytes(lent, sector), 0, first);
-    model_lay_entry(node->directory, sector, first, 0);
+    model_lay_entry(node->directory, sector, first, 0, length);
     return zero(END);
 }
 
@@ -638,7 +639,7 @@ uint64_t model_node_erase(const struct limits *limits, struct node *node, uint64
     memset(flash.bytes + 2 * (start + node->done), 0xFF, 2 * count);
     node->done += (uint32_t)count;
     bool over = node->done == size;
-    model_lay_entry(node->directory, node->sector, word_at(flash.bytes, start), over ? 0 : 0x4000);
+    model_lay_entry(node->directory, node->sector, word_at(flash.bytes, start), over ? 0 : 0x4000, 0);
     if (over) {
         node->erasing = false;
         node->sector = node->done = 0;
