@@ -1,6 +1,6 @@
 /* Tests of the border: each refusal and their order, odd lengths, NULL with length 0, guard bytes round every run, alignment, files
-   in several packets, the parts of what is answered, and the layout of the state. Every run stands between guard bytes; after each
-   call they are looked at, and after a refused one every byte of every run too. */
+   in several packets, lengths in the directory, the parts of what is answered, and the layout of the state. Every run stands between
+   guard bytes; after each call they are looked at, and after a refused one every byte of every run too. */
 #include "../../include/logodwen.h"
 
 #include <stdio.h>
@@ -442,6 +442,60 @@ static void test_alignment(void) {
     }
 }
 
+/* The directory: its words, and what becomes of a request on files. */
+
+static uint8_t *entry_word(unsigned sector, size_t place) {
+    return runs[STATE] + LOGODWEN_AT_DIRECTORY + 8 * (sector - LOGODWEN_SECTOR_FIRST) + 2 * place;
+}
+
+static uint16_t kept_length(unsigned sector) { return logodwen_get(entry_word(sector, 3), 0); }
+
+/* Read, Test, Load and Attribute Set of file 21 find it bad: the first three count an error, and nothing else changes. */
+static void check_bad(int line) {
+    static const uint16_t ids[4] = {0x052E, 0x062E, 0x462E, 0x482E};
+    for (size_t i = 0; i < 4; i++) {
+        PACKET_OF(ids[i], 0x0210, 0x0001);
+        lengths[PACKET] = ids[i] == 0x482E ? 6 : 4;
+        uint16_t errors = state_word(LOGODWEN_AT_FLASH_ERRORS);
+        uint64_t answered = request_at(1000, 0, LOGODWEN_BC_WHOLE, 0, line);
+        check(ids[i] == 0x062E ? answered == with_words(3) && reply_word(0) == 0x8000 : answered == zero_length(LOGODWEN_BC_ABORT),
+              "a bad file", line);
+        check(state_word(LOGODWEN_AT_FLASH_ERRORS) == errors + (ids[i] != 0x482E), "Read, Test and Load count it", line);
+        check(is_same(FLASH, 0, rooms[FLASH]) && is_same(STATE, LOGODWEN_AT_DIRECTORY, rooms[STATE]), "nothing else changes", line);
+    }
+}
+#define CHECK_BAD() check_bad(__LINE__)
+
+/* The fourth word is the length of a good sector's file, and 0 for any other sector (02, request 6). */
+static void test_lengths(void) {
+    lend_with(0);
+    file_write(0x7211);
+    CHECK(REQUEST(1000, 0, LOGODWEN_BC_WHOLE, 0) == zero_length(LOGODWEN_BC_END) && kept_length(3) == 6 && kept_length(4) == 0);
+    PACKET_OF(0x482E, 0x0210, 0x0001);
+    CHECK(REQUEST(1000, 0, LOGODWEN_BC_WHOLE, 0) == zero_length(LOGODWEN_BC_END) && kept_length(3) == 6);
+    PACKET_OF(0x072E);
+    CHECK(REQUEST(1000, 0, LOGODWEN_BC_WHOLE, 0) == with_words(34)
+          && memcmp(runs[REPLY], runs[STATE] + LOGODWEN_AT_DIRECTORY, 64) == 0 && reply_word(3) == 6);
+    CHECK(START(LOGODWEN_CDDC, 2, 0) == LOGODWEN_DONE && kept_length(3) == 6);
+    static const uint16_t others[] = {0, 5, 7, 0x0106, 0x8006};
+    for (size_t i = 0; i < sizeof others / sizeof *others; i++) { /* an entry with another length differs */
+        logodwen_put(entry_word(3, 3), 0, others[i]);
+        CHECK_BAD();
+    }
+    logodwen_put(entry_word(3, 3), 0, 6);
+    PACKET_OF(0x052E, 0x0210);
+    CHECK(REQUEST(1000, 0, LOGODWEN_BC_WHOLE, 0) == with_words(8));
+    logodwen_put(entry_word(4, 3), 0, 1); /* a sector that is empty but has a length is not empty to a write */
+    file_write(0x7221);
+    CHECK(REQUEST(1000, 0, LOGODWEN_BC_WHOLE, 0) == zero_length(LOGODWEN_BC_END) && kept_length(4) == 1 && kept_length(5) == 6);
+    PACKET_OF(0x472E, 0x0211);
+    CHECK(REQUEST(1000, 0, LOGODWEN_BC_WHOLE, 0) == zero_length(LOGODWEN_BC_END) && kept_length(3) == 0);
+    CHECK(ERASE(1) == (uint64_t)1 << 32 && kept_length(3) == 0 && ERASE(2047) == (uint64_t)2047 << 32 && kept_length(3) == 0);
+    runs[FLASH][2 * logodwen_sector_start(5) + 8] ^= 1; /* a bad sector has none */
+    CHECK(START(LOGODWEN_CDDC, 2, 0) == LOGODWEN_DONE && kept_length(4) == 0 && kept_length(5) == 0
+          && logodwen_get(entry_word(5, 2), 0) == 0x8000);
+}
+
 static void test_group(void) {
     lay_out(3);
     CHECK(START(LOGODWEN_CDDC, 2, 0) == LOGODWEN_DONE);
@@ -697,6 +751,7 @@ int main(void) {
     test_odd_lengths();
     test_null();
     test_alignment();
+    test_lengths();
     test_group();
     test_area();
     test_joining();

@@ -48,9 +48,14 @@ static uint8_t *lend(uint8_t *const *world, int run) { return lent_bytes[run] ==
 
 static void put_both(int run, size_t at, uint8_t byte) { library[run][at] = model[run][at] = byte; }
 
+static void put_state_word(size_t at, uint32_t value) {
+    put_both(STATE_RUN, at, (uint8_t)value);
+    put_both(STATE_RUN, at + 1, (uint8_t)(value >> 8));
+}
+
 static void put_state_long(size_t at, uint32_t value) {
-    for (int i = 0; i < 4; i++)
-        put_both(STATE_RUN, at + (size_t)i, (uint8_t)(value >> 8 * i));
+    put_state_word(at, value);
+    put_state_word(at + 2, value >> 16);
 }
 
 /* The call now being made, for what is said of a difference. */
@@ -353,6 +358,19 @@ static void put_header(unsigned bits) {
 static void put_name(void) {
     unsigned name = some_name();
     word(name << 4 | (any() & 0xF00F));
+}
+
+/* A command on a file of that name, or one that looks at every sector. */
+static void file_command(unsigned name) {
+    static const unsigned ids[] = {0x05, 0x05, 0x06, 0x46, 0x48, 0x47, 0x45, 0x07};
+    unsigned id = ids[below(8)];
+    own(id);
+    if (id == 0x45)
+        put_file(one_in(2) ? name : below(256));
+    else if (id != 0x07)
+        word(name << 4 | (any() & 0xF00F));
+    if (id == 0x48)
+        word(below(2));
 }
 
 static void own_command(void) {
@@ -704,6 +722,27 @@ static void step_state(void) {
             put_both(STATE_RUN, at, before[at]);
 }
 
+/* A few commands on the file of a sector, by its name in the directory, from a link that doesn't drop the write that stands. */
+static void step_file(unsigned place) {
+    unsigned name = logodwen_get(model[STATE_RUN] + LOGODWEN_AT_DIRECTORY, 4 * place) >> 4 & 0xFF;
+    for (int turn = 0; turn < 4; turn++) {
+        struct standing was = standing();
+        file_command(name);
+        call_request(was.stands ? other_link(was.link) : 0, 3, 0);
+    }
+}
+
+/* A directory that differs from the flash in one entry, mostly in the length, and commands on that sector. */
+static void step_entry(void) {
+    unsigned place = below(8);
+    size_t at = LOGODWEN_AT_DIRECTORY + 8 * place + (one_in(4) ? 2 * below(4) : 6);
+    uint32_t before = logodwen_get(model[STATE_RUN] + at, 0), other = one_in(3) ? 0 : one_in(2) ? before + 1 : wild();
+    put_state_word(at, other);
+    step_file(place);
+    if (!one_in(4)) /* back to where it was, mostly */
+        put_state_word(at, before);
+}
+
 /* Other lengths for one call. */
 static void step_lengths(void) {
     size_t before[RUNS];
@@ -758,6 +797,8 @@ static void step(void) {
         step_erase();
     else if (one_in(40))
         step_flash();
+    else if (one_in(60))
+        step_entry();
     else if (one_in(25))
         step_state();
     else if (one_in(25))
