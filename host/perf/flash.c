@@ -17,8 +17,9 @@ static uint16_t plain_scan(const uint16_t *flash, size_t n, size_t at) {
         uint16_t *entry = directory + (sector - 3) * 4;
         entry[0] = words[0];
         entry[1] = plain_sector_address(sector);
-        entry[2] = plain_is_empty(words, size) || plain_file_end(words, size) != 0 ? 0 : 0x8000;
-        entry[3] = 0;
+        size_t length = plain_file_end(words, size);
+        entry[2] = length != 0 || plain_is_empty(words, size) ? 0 : 0x8000;
+        entry[3] = (uint16_t)length;
     }
     return directory[at % 32];
 }
@@ -31,7 +32,7 @@ int perf_flash_runs(void) {
         plain_lay_file(words + plain_sector_start(FLASH_WORDS, sector), plain_sector_size(FLASH_WORDS, sector));
     for (size_t at = 0; at < 32; at++) {
         uint16_t expected = plain_scan(words, FLASH_WORDS, at);
-        if (perf_scan(words, FLASH_WORDS, at) != expected || (at % 4 == 2 && expected != 0))
+        if (perf_scan(words, FLASH_WORDS, at) != expected || (at % 4 == 2 && expected != 0) || (at % 4 == 3 && expected == 0))
             return measure_differs("scan");
     }
     return measure(&row, 1);

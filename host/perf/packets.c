@@ -59,6 +59,7 @@ static uint32_t plain_write(const uint16_t *file, size_t words) {
         return ABORT;
     memcpy(flash + plain_sector_start(FLASH_WORDS, sector), file, words * sizeof *file);
     directory[(sector - 3) * 4] = file[0];
+    directory[(sector - 3) * 4 + 3] = (uint16_t)words;
     return END;
 }
 
