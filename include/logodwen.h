@@ -562,7 +562,7 @@ static inline bool logodwen_file_io(struct logodwen_file *file, const uint16_t *
 #define LOGODWEN_ID_FILE_WRITE 0x45u    /* stores a file in the lowest empty sector with room */
 #define LOGODWEN_ID_FILE_TEST 0x06u     /* answers the sector's status word: 8000 where it is bad */
 #define LOGODWEN_ID_FILE_LOAD 0x46u     /* stores a file's segments in the memories */
-#define LOGODWEN_ID_SUMMARY 0x07u       /* answers the directory: logodwen_read_entry */
+#define LOGODWEN_ID_SUMMARY 0x07u       /* answers the directory, with the length of each good file: logodwen_read_entry */
 #define LOGODWEN_ID_ERASE_START 0x47u   /* begins to erase a sector; logodwen_erase goes on with it */
 #define LOGODWEN_ID_ATTRIBUTE_SET 0x48u /* makes a file default or plain */
 #define LOGODWEN_ID_PERFORM_IO 0x0Fu    /* runs the pairs of an IO segment, and answers it with what was read */
@@ -818,10 +818,12 @@ struct logodwen_entry {
     unsigned sector, address;
     unsigned first;  /* its first word: a file's header where there is one */
     unsigned status; /* LOGODWEN_SECTOR_EMPTY, LOGODWEN_SECTOR_GOOD, LOGODWEN_SECTOR_BAD or LOGODWEN_SECTOR_ERASING */
+    unsigned words;  /* the length of its file where it is good, else 0: at most 4,096 here, 32,768 of a node with a flash of full size */
 };
 
 /* Reads the entry of a sector, 3 to 10, in a reply to Summary; false where the reply is not one, its FCS is wrong or the sector is none,
-   and then leaves `entry`. */
+   and then leaves `entry`. Such a reply has four words for each sector, in order: its first word; its address; its status, which is 8000
+   for bad, 4000 for being erased and else 0; and the length of its file in words where it is good, 0 where it is not. */
 static inline bool logodwen_read_entry(const uint8_t *reply, size_t words, unsigned sector, struct logodwen_entry *entry) {
     if (words != 4 * LOGODWEN_SECTORS + LOGODWEN_TAIL_WORDS || !logodwen_is_sector(sector)) return false;
     if (!logodwen_is_sealed(reply, words)) return false;
@@ -834,6 +836,7 @@ static inline bool logodwen_read_entry(const uint8_t *reply, size_t words, unsig
                     : status & 0x8000u        ? LOGODWEN_SECTOR_BAD
                     : entry->first == 0xFFFFu ? LOGODWEN_SECTOR_EMPTY
                                               : LOGODWEN_SECTOR_GOOD;
+    entry->words = logodwen_get(reply, at + 3);
     return true;
 }
 
@@ -955,7 +958,8 @@ static inline size_t logodwen_read_fragment(const uint8_t *reply, size_t words, 
 #define LOGODWEN_AT_ASKED_AT 36u            /* 4: pending: the time when the slave was asked */
 #define LOGODWEN_AT_BUILT 40u               /* 4: group: words gathered so far */
 #define LOGODWEN_AT_MASKS 44u               /* 64: masks 0 to 15, four bytes each, bit s for slave s */
-#define LOGODWEN_AT_DIRECTORY 108u          /* 64: four words for each of the sectors 3 to 10: first word, address, status, 0 */
+#define LOGODWEN_AT_DIRECTORY 108u          /* 64: four words for each of the sectors 3 to 10, as Summary answers them: first word, address,
+                                               status, and the length of its file where it is good, else 0 */
 #define LOGODWEN_AT_WRITE 172u              /* 1: 1 if a file comes in several packets, else 0 */
 #define LOGODWEN_AT_WRITE_LINK 173u         /* 1: .. its link; the bytes 174 and 175 are 0 */
 #define LOGODWEN_AT_JOINED 176u             /* 4: .. words joined so far, at most 32,768 */

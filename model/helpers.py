@@ -272,8 +272,9 @@ def entry_lines():
         for sector in flash.SECTORS:
             status = chance.randrange(4)
             first = 0xFFFF if status == 0 else 0x3001 | chance.randrange(256) << 4
-            directory += [first, flash.address_of(sector), (0, 0, 0x8000, 0x4000)[status], 0]
-            entries.append([sector, flash.address_of(sector), first, status])
+            length = chance.choice((5, 4096, 32768, chance.randrange(5, 32769))) if status == 1 else 0  # 02, request 6
+            directory += [first, flash.address_of(sector), (0, 0, 0x8000, 0x4000)[status], length]
+            entries.append([sector, flash.address_of(sector), first, status, length])
         reply = with_status(directory, 0x01A0)
         for sector in (*flash.SECTORS, 2, 11):
             yield ("read_entry", sector, *reply), entries[sector - 3] if sector in flash.SECTORS else []

@@ -207,7 +207,7 @@ static void read_entry(void) {
     uint8_t *reply = words_from(1);
     struct logodwen_entry entry;
     if (logodwen_read_entry(reply, count - 1, given[0], &entry))
-        printf("%X %X %X %X\n", entry.sector, entry.address, entry.first, entry.status);
+        printf("%X %X %X %X %X\n", entry.sector, entry.address, entry.first, entry.status, entry.words);
     else
         printf("0\n");
     free(reply);
@@ -388,6 +388,19 @@ static size_t build_by_chance(uint8_t *bytes, size_t room) {
     return file.words;
 }
 
+/* What Summary says of each sector of a node that files were written to: good with the file's length where one stands there. */
+static void try_entries(struct logodwen_node *node, unsigned long turn) {
+    uint8_t packet[LOGODWEN_COMMAND_BYTES];
+    uint64_t answered = logodwen_node_send(node, 0, 0, packet, logodwen_make_summary(packet));
+    for (unsigned sector = LOGODWEN_SECTOR_FIRST; sector <= LOGODWEN_SECTOR_LAST; sector++) {
+        size_t length = model_file_length(node->flash + 2 * logodwen_sector_start(sector), logodwen_sector_words(sector));
+        struct logodwen_entry entry;
+        if (!logodwen_read_entry(node->reply, logodwen_words(answered), sector, &entry) || entry.words != length
+            || entry.status != (length != 0 ? LOGODWEN_SECTOR_GOOD : LOGODWEN_SECTOR_EMPTY))
+            differs("a sector's entry", turn);
+    }
+}
+
 /* A file in packets of any length is written as the model writes it in one, and nothing of one that is dropped stays but in the area. */
 static void try_write(unsigned long turn) {
     enum { ROOM = 130 };
@@ -417,6 +430,7 @@ static void try_write(unsigned long turn) {
         differs("a file that is dropped", turn);
     if (memcmp(ours.state, other.state, sizeof other.state) != 0 || memcmp(ours.flash, other.flash, sizeof other.flash) != 0)
         differs("what a dropped file leaves", turn);
+    try_entries(&ours, turn);
     free(packet);
 }
 
