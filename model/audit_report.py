@@ -202,12 +202,13 @@ class Bench:
         return "# erased: sector %d, %d words\n" % (sector, count)
 
     def table(self):
-        """The directory."""
+        """The directory, with the lengths of good files in its fourth words (02, request 6)."""
         lines = ["# sector\tname\ttype\tattribute\twords\tstatus\n"]
         for sector in SECTORS:
-            first = kept(list(self.node.directory), sector)[0]
-            status, length = afresh(self.lent.flash, sector)
+            first, _, _, length = kept(list(self.node.directory), sector)
+            status = afresh(self.lent.flash, sector)[0]
             assert status in (EMPTY, GOOD, BAD) and words_in(self.lent.flash, sector)[0] == first
+            assert length == (file_length(words_in(self.lent.flash, sector)) if status == GOOD else 0)
             told = ["-", "-", "-"]
             if may_start(first):
                 told = ["%02X" % name_of(first), ("program", "data")[first >> 14], "default" if first >> 12 & 3 == 2 else "plain"]

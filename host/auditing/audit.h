@@ -122,9 +122,9 @@ static inline unsigned name_of(unsigned header) { return header >> 4 & 0xFFu; }
 
 enum { SECTOR_FIRST = 3, SECTOR_LAST = 10, SECTORS = 8 };
 
-/* What the directory says of a sector. */
+/* What the directory says of a sector: its first word, its status, and the length of its file, 0 unless it is good. */
 struct entry {
-    unsigned first, status;
+    unsigned first, status, words;
 };
 
 void node_blank(struct logodwen_node *node);
@@ -137,12 +137,17 @@ bool node_directory(struct logodwen_node *node, struct entry *directory);
 void node_answer_text(uint64_t answered, char *text);
 
 bool entry_is_empty(struct entry entry);
-bool entry_is_bad(struct entry entry);
-bool entry_is_erasing(struct entry entry);
+const char *entry_status(struct entry entry);
+void entry_text(struct entry entry, char *text); /* its status and its length */
 size_t sector_words(unsigned sector);
 const uint8_t *sector_begin(const struct logodwen_node *node, unsigned sector);
 unsigned directory_named(const struct entry *directory, unsigned name); /* the lowest sector with that name, or 0 */
 unsigned directory_place(const struct entry *directory, size_t words);  /* the lowest empty sector with room, or 0 */
+
+/* What a sector is by the rules (sector.c). */
+
+/* Whether the directory says of a sector what its words are by the rules; where not, how the two differ. */
+bool sector_is_right(const struct logodwen_node *node, unsigned sector, struct entry entry, char *why);
 
 /* The verdict on an image (verdict.c). */
 

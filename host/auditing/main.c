@@ -61,9 +61,14 @@ static unsigned sector_to_erase(struct logodwen_node *node, struct erasure erasu
     return node_directory(node, directory) ? directory_named(directory, erasure.which) : 0;
 }
 
-static bool is_empty_now(struct logodwen_node *node, unsigned sector) {
+/* Whether the directory has a sector as empty now; what it has, as text. */
+static bool is_empty_now(struct logodwen_node *node, unsigned sector, char *has) {
     struct entry directory[SECTORS];
-    return sector != 0 && node_directory(node, directory) && entry_is_empty(directory[sector - SECTOR_FIRST]);
+    if (sector == 0 || !node_directory(node, directory))
+        return say(has, "unknown");
+    struct entry entry = directory[sector - SECTOR_FIRST];
+    entry_text(entry, has);
+    return entry_is_empty(entry) && entry.words == 0;
 }
 
 /* Erases one file or sector; false where that could not be done. */
@@ -77,11 +82,13 @@ static bool is_erased(struct audit *audit, struct erasure erasure) {
         return false;
     }
     unsigned set = node_erase_on(&audit->node);
-    if (is_empty_now(&audit->node, sector) && set == sector_words(sector)) {
+    char has[TEXT];
+    if (is_empty_now(&audit->node, sector, has) && set == sector_words(sector)) {
         report_erased(sector, set);
         return true;
     }
-    say(audit->why, "DISPUTED: sector %u should be erased and empty, but is not; words set: %u", sector, set);
+    say(audit->why, "DISPUTED: sector %u should be erased and empty, but is not; words set: %u; the directory has it as %s", sector, set,
+        has);
     complain(audit, NOT_TRUSTED);
     return false;
 }

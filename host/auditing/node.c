@@ -53,7 +53,7 @@ bool node_directory(struct logodwen_node *node, struct entry *directory) {
         struct logodwen_entry entry;
         if (!logodwen_read_entry(node->reply, logodwen_words(answered), sector, &entry))
             return false;
-        directory[sector - SECTOR_FIRST] = (struct entry){entry.first, entry.status};
+        directory[sector - SECTOR_FIRST] = (struct entry){entry.first, entry.status, entry.words};
     }
     return true;
 }
@@ -67,9 +67,17 @@ void node_answer_text(uint64_t answered, char *text) {
 
 bool entry_is_empty(struct entry entry) { return entry.status == LOGODWEN_SECTOR_EMPTY; }
 
-bool entry_is_bad(struct entry entry) { return entry.status == LOGODWEN_SECTOR_BAD; }
+const char *entry_status(struct entry entry) {
+    static const char *const told[] = {"empty", "good", "bad", "erasing"};
+    return told[entry.status];
+}
 
-bool entry_is_erasing(struct entry entry) { return entry.status == LOGODWEN_SECTOR_ERASING; }
+void entry_text(struct entry entry, char *text) {
+    if (entry.words == 0)
+        say(text, "%s", entry_status(entry));
+    else
+        say(text, "%s with length %u", entry_status(entry), entry.words);
+}
 
 size_t sector_words(unsigned sector) { return logodwen_sector_words(sector); }
 

@@ -203,13 +203,9 @@ void report_totals(const size_t *totals, size_t left_out) {
     printf("\n");
 }
 
-/* The directory. The node says what each sector is; the length of a good file is read off the flash, by the rules. */
+/* The directory, as the node has it: what each sector is, and the length of a good file (02, request 6). */
 
-static const char *sector_status(struct entry entry) {
-    return entry_is_erasing(entry) ? "erasing" : entry_is_bad(entry) ? "bad" : entry_is_empty(entry) ? "empty" : "good";
-}
-
-static void print_sector(unsigned sector, struct entry entry, size_t words) {
+static void print_sector(unsigned sector, struct entry entry) {
     bool has_name = rules_may_begin(entry.first);
     const char *type = entry.first >> 14 == 0 ? "program" : "data", *attribute = (entry.first >> 12 & 3u) == 2 ? "default" : "plain";
     if (is_json) {
@@ -218,16 +214,16 @@ static void print_sector(unsigned sector, struct entry entry, size_t words) {
         print_hex("name", has_name, 2, name_of(entry.first));
         print_text("type", has_name ? type : NULL);
         print_text("attribute", has_name ? attribute : NULL);
-        print_number("words", words != 0, words);
-        print_text("status", sector_status(entry));
+        print_number("words", entry.words != 0, entry.words);
+        print_text("status", entry_status(entry));
         end_object();
         return;
     }
     printf("%u", sector);
     print_field(has_name, "%02X", name_of(entry.first));
     printf("\t%s\t%s", has_name ? type : "-", has_name ? attribute : "-");
-    print_field(words != 0, "%u", (unsigned)words);
-    printf("\t%s\n", sector_status(entry));
+    print_field(entry.words != 0, "%u", entry.words);
+    printf("\t%s\n", entry_status(entry));
 }
 
 bool report_directory(struct logodwen_node *node, char *why) {
@@ -239,13 +235,10 @@ bool report_directory(struct logodwen_node *node, char *why) {
         printf("# sector\tname\ttype\tattribute\twords\tstatus\n");
     for (unsigned sector = SECTOR_FIRST; sector <= SECTOR_LAST; sector++) {
         struct entry entry = directory[sector - SECTOR_FIRST];
-        char rule[TEXT];
-        size_t words = rules_file_length(sector_begin(node, sector), sector_words(sector), rule);
-        bool is_good = !entry_is_erasing(entry) && !entry_is_bad(entry) && !entry_is_empty(entry);
-        print_sector(sector, entry, is_good ? words : 0);
-        if (is_good != (words != 0) && is_right)
-            is_right = say(why, "DISPUTED: the directory has sector %u as %s, but by the rules it is: %s", sector, sector_status(entry),
-                           words != 0 ? "a valid file" : rule);
+        char difference[TEXT];
+        print_sector(sector, entry);
+        if (is_right && !sector_is_right(node, sector, entry, difference))
+            is_right = say(why, "DISPUTED: %s; one of the two has a fault, so please report it with the flash", difference);
     }
     return is_right;
 }

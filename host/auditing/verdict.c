@@ -78,6 +78,16 @@ static bool is_read_back(struct logodwen_node *node, const struct image *image, 
     return say(detail, "word 0: signed %04X, read nothing; File Read was answered %s", header, text);
 }
 
+/* Whether the directory has the file where it went by the rules, as good and with its length. */
+static bool is_listed(struct logodwen_node *node, unsigned sector, unsigned place, const struct entry *directory, char *detail) {
+    char difference[TEXT];
+    if (sector != place)
+        return say(detail, "the words agree, but by the rules the file is in sector %u, and the directory has it in %u (0: in none)", place,
+                   sector);
+    return sector_is_right(node, sector, directory[sector - SECTOR_FIRST], difference)
+           || say(detail, "the words agree, but %s", difference);
+}
+
 /* After a File Write that was answered END: where the directory has the file, and whether it is read back as it was signed. */
 static enum verdict read_back(struct logodwen_node *node, const struct image *image, unsigned place, struct finding *finding) {
     struct entry directory[SECTORS];
@@ -85,11 +95,7 @@ static enum verdict read_back(struct logodwen_node *node, const struct image *im
         finding->sector = directory_named(directory, name_of(finding->header));
     if (!is_read_back(node, image, finding->detail))
         return DIFFERS;
-    if (finding->sector == place)
-        return AGREES;
-    say(finding->detail, "the words agree, but by the rules the file is in sector %u, and the directory has it in %u (0: in none)", place,
-        finding->sector);
-    return DISPUTED;
+    return is_listed(node, finding->sector, place, directory, finding->detail) ? AGREES : DISPUTED;
 }
 
 static enum verdict write_and_read_back(struct logodwen_node *node, const struct image *image, struct finding *finding) {

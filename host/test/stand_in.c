@@ -12,6 +12,8 @@ enum { NO_FAULT, STALE_DIRECTORY, REFUSED_YET_CHANGED, ODD_BYTE_CLEARED, CLOCK_C
 enum { READ_WRONG = 6, READ_SHORT, READ_UNSEALED, NOTHING_STORED, ALL_ACCEPTED, ALL_REFUSED }; /* of File Read and File Write */
 enum { FIRST_JUDGED = 12, HEADER_JOINED, OTHER_LET_IN, JOINED_TOO_MUCH };                      /* of a file in several packets */
 enum { MASK_0_EMPTY = 16, ALL_MASKS_FULL, CDP_WITH_SLAVES };                                    /* of the masks at start */
+enum { LENGTH_OFF = 19, LENGTH_LEFT };                                                          /* of the lengths in the summary */
+enum { DIRECTORY_BYTES = 64, ENTRY_WORDS = 4, LENGTH = 3 };
 
 static bool is_own(const uint8_t *packet, size_t packet_len, unsigned id) {
     return packet_len >= 2 && packet[0] == 0x2E && packet[1] == id;
@@ -64,6 +66,24 @@ static void masks_with_fault(uint32_t kind, uint8_t *state) {
         logodwen_put_pm(masks, mask, 0xFFFFFF);
 }
 
+/* The directory that a call leaves, with a fault: a file that is being erased, or was, has its length still. */
+static void lengths_with_fault(const uint8_t *before, uint8_t *directory) {
+    for (size_t at = LENGTH; FAULT == LENGTH_LEFT && at < DIRECTORY_BYTES / 2; at += ENTRY_WORDS)
+        if (logodwen_get(directory, at) == 0)
+            logodwen_put(directory, at, logodwen_get(before, at));
+}
+
+/* The reply to a Flash Summary, with a fault: it tells a word more of each good file, under a right FCS. */
+static void summary_with_fault(uint64_t answered, uint8_t *reply) {
+    size_t words = logodwen_words(answered);
+    if (FAULT != LENGTH_OFF)
+        return;
+    for (size_t at = LENGTH; at < DIRECTORY_BYTES / 2; at += ENTRY_WORDS)
+        if (logodwen_get(reply, at) != 0)
+            logodwen_put(reply, at, (uint16_t)(logodwen_get(reply, at) + 1));
+    logodwen_put(reply, words - 1, logodwen_fcs(reply, words - 1));
+}
+
 uint32_t logodwen2_start(uint32_t kind, uint32_t ports, uint32_t subdetector, uint16_t program_version,
                          uint16_t subdetector_version, uint16_t start_tests, uint32_t clock, const uint8_t *flash, size_t flash_len,
                          uint8_t *state, size_t state_len) {
@@ -79,7 +99,9 @@ uint64_t logodwen2_request(uint32_t now, uint32_t link, uint32_t bc, uint32_t re
                            size_t pm_len, uint8_t *dm, size_t dm_len, uint8_t *io, size_t io_len, uint8_t *area, size_t area_len,
                            uint8_t *reply, size_t reply_len) {
     static uint8_t spare_state[LOGODWEN_STATE_BYTES], spare_flash[LOGODWEN_FLASH_BYTES];
+    uint8_t before[DIRECTORY_BYTES];
     bool is_write = is_own(packet, packet_len, 0x45), is_read = is_own(packet, packet_len, 0x05);
+    bool is_summary = is_own(packet, packet_len, 0x07);
     if (FAULT == NOTHING_STORED && is_write && state_len == sizeof spare_state && flash_len == sizeof spare_flash) {
         state = memcpy(spare_state, state, state_len);
         flash = memcpy(spare_flash, flash, flash_len);
@@ -88,6 +110,8 @@ uint64_t logodwen2_request(uint32_t now, uint32_t link, uint32_t bc, uint32_t re
     uint32_t joined = written == NULL ? 0 : logodwen_get_pm(written + LOGODWEN_AT_JOINED, 0);
     if (FAULT == OTHER_LET_IN && written != NULL && packet_len >= 2 && (bc & 2) == 0)
         link = written[LOGODWEN_AT_WRITE_LINK];
+    if (state_len == LOGODWEN_STATE_BYTES)
+        memcpy(before, state + LOGODWEN_AT_DIRECTORY, sizeof before);
     uint64_t answered = model_request(now, link, bc, receive_error, packet, packet_len, state, state_len, flash, flash_len, pm,
                                       pm_len, dm, dm_len, io, io_len, area, area_len, reply, reply_len);
     if (FAULT == ODD_BYTE_CLEARED && logodwen_answer(answered) == LOGODWEN_REPLY && dm_len % 2 == 1)
@@ -95,6 +119,10 @@ uint64_t logodwen2_request(uint32_t now, uint32_t link, uint32_t bc, uint32_t re
     if (FAULT == JOINED_TOO_MUCH && (bc & 2) == 0 && joined + packet_len / 2 > LOGODWEN_AREA_WORDS &&
         logodwen_refusal(answered) == 0)
         area[LOGODWEN_AREA_BYTES - 1] ^= 1;
+    if (state_len == LOGODWEN_STATE_BYTES)
+        lengths_with_fault(before, state + LOGODWEN_AT_DIRECTORY);
+    if (is_summary && logodwen_words(answered) != 0)
+        summary_with_fault(answered, reply);
     if (written == NULL && is_write && standing(state, state_len) != NULL)
         return first_with_fault(answered, packet, packet_len, state);
     if (is_read && logodwen_words(answered) != 0)
@@ -121,12 +149,14 @@ uint64_t logodwen2_poll(uint32_t now, uint8_t *state, size_t state_len, uint8_t 
 }
 
 uint64_t logodwen2_erase(uint64_t budget, uint8_t *state, size_t state_len, uint8_t *flash, size_t flash_len) {
-    uint8_t before[64];
+    uint8_t before[DIRECTORY_BYTES];
     if (state_len == LOGODWEN_STATE_BYTES)
         memcpy(before, state + LOGODWEN_AT_DIRECTORY, sizeof before);
     uint64_t answered = model_erase(budget, state, state_len, flash, flash_len);
     if (FAULT == STALE_DIRECTORY && state_len == LOGODWEN_STATE_BYTES)
         memcpy(state + LOGODWEN_AT_DIRECTORY, before, sizeof before);
+    if (state_len == LOGODWEN_STATE_BYTES)
+        lengths_with_fault(before, state + LOGODWEN_AT_DIRECTORY);
     return answered;
 }
 
