@@ -1,11 +1,12 @@
 -- A corrupted file is never handed out or loaded over bytes: by the node's theorem, which the entries come to. Assumes nothing.
-use Prim.Native.Nat.{ℕ, _+_, _*_, _/_, _%_, _^_, _≤_, _<_}
+use Prim.Native.Nat.{ℕ, zero, suc, _+_, _-_, _*_, _/_, _%_, _^_, _≤_, _<_}
 use native.Mathlib.Omega.{arith}
 use mathlib.Core.Path.{_≡_, refl, sym, ap, _∙_, subst}
 use mathlib.Core.Logic.{_⊎_, inl, inr, ⊎-elim}
 use mathlib.Core.Bool.{Bool, true, false, _||_, false≢true, _&&_}
 use mathlib.Core.List.{List, [], _∷_}
-use lib.ListN.{length, getD, take, drop}
+use lib.ListN.{length, getD, take, drop, length-drop}
+use lib.Seq.{getD-drop}
 use borrow.Author.Tests.{eq-eqb, eqb-false, leb-true}
 use Rattle.base.specs.Words.{laid, Below, part}
 use Rattle.base.proofs.Laid.{laid-none}
@@ -39,6 +40,7 @@ use Rattle.node.specs.Route.{firstByte, secondByte}
 use lib.Dec.{eqb, leb}
 use Rattle.base.proofs.Pick.{and-right}
 use Rattle.flash.proofs.Kept.{target-tells}
+use Rattle.flash.proofs.Statuses.{empty-word}
 use Rattle.border.specs.Exactly.{entries}
 use Rattle.border.specs.Host.{Entry, InC, U8s, answerOf, numberAfter, isDone}
 use Rattle.border.specs.Kept.{erasingIn}
@@ -125,6 +127,26 @@ module _ (state flash : List ℕ) (h : areState state ≡ true) (b : Below 256 f
     file-is : wordsOf 2 (bytesOf 2 file) ≡ file
     file-is = words-read 2 (omega arith) file small
 
+    -- a byte of a blank word is FF
+    full : (i : ℕ) → 0xFFFF / 2 ^ (i % 2 * 8) % 256 ≡ 0xFF
+    full i = by (i % 2) (omega arith)
+      where
+        by : (r : ℕ) → r < 2 → 0xFFFF / 2 ^ (r * 8) % 256 ≡ 0xFF
+        by zero l = refl
+        by (suc zero) l = refl
+        by (suc (suc r)) l = absurd (omega arith)
+
+    blank-byte : (i : ℕ) → length file * 2 ≤ i → i < length (inSector flash s) → getD (inSector flash s) i 0 ≡ 0xFF
+    blank-byte i p q =
+        let words : List ℕ = sectorOf (wordsOf 2 flash) s in
+        let e = sector-bytes flash b bench s in
+        let j : ℕ = i / 2 - length file in
+        let place : length file + j ≡ i / 2 = omega arith in
+        let within : j < length (drop (length file) words) = omega (arith, length-drop (length file) words, ap length e, length-bytes 2 words) in
+        let word : getD words (i / 2) 0 ≡ 0xFFFF =
+        ap (λ (k : ℕ). getD words k 0) (sym place) ∙ sym (getD-drop (length file) words j 0) ∙ empty-word (drop (length file) words) j (names .blank) within in
+        ap (λ (x : List ℕ). getD x i 0) e ∙ byte-of words i ∙ ap (λ (w : ℕ). w / 2 ^ (i % 2 * 8) % 256) word ∙ full i
+
     names-bytes : Names state flash header s (bytesOf 2 file)
     names-bytes =
         let long : length (bytesOf 2 file) ≡ length file * 2 = length-bytes 2 file in
@@ -138,6 +160,7 @@ module _ (state flash : List ℕ) (h : areState state ≡ true) (b : Below 256 f
               ∙ ap (take (length file * 2)) (sector-bytes flash b bench s)
               ∙ sym (bytes-take (length file) (sectorOf (wordsOf 2 flash) s))
               ∙ ap (bytesOf 2) (names .stands);
+          blank = λ i p q. blank-byte i (omega (arith, long)) q;
           same = λ d. names .same (record { word = d .byte / 2; below = omega (arith, d .below); differs = λ e. d .differs (byte-same (d .byte) (target-tells (nodeIn state .directory) (nameOf (getD (wordsOf 2 packet) 1 0)) s (names .named) .sector) (d .below) e) });
         }
 

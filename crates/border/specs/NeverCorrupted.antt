@@ -1,6 +1,6 @@
 -- Demand 2 over bytes, of files: a corrupted file is never handed out or loaded. Whatever the state bytes and the flash bytes are, a
 -- directory that differs from the flash too. 01 'Flash', 'Call refusals' and 'What calls owe'. Assumes nothing.
-use Prim.Native.Nat.{ℕ, _+_, _*_, _/_, _%_, _<_}
+use Prim.Native.Nat.{ℕ, _+_, _*_, _/_, _%_, _≤_, _<_}
 use mathlib.Core.Path.{_≡_}
 use mathlib.Core.Logic.{_⊎_}
 use mathlib.Core.Bool.{true, false, _||_}
@@ -39,14 +39,15 @@ pub record Differs (state flash : List ℕ) (s : ℕ) : Type 0 where
   pub below : byte < 8
   pub differs : getD state (108 + (entryPlace s * 2 + byte)) 0 ≡ getD (entryBytes state flash s) byte 0 → ⊥
 
--- A command names a good file: no erasure is in progress, the bytes of this valid file stand at the start of the sector of that name, and
--- the sector's entry doesn't differ.
+-- A command names a good file: no erasure is in progress, the bytes of this valid file stand at the start of the sector of that name, every
+-- byte of the sector behind them is FF (02, request 5), and the sector's entry doesn't differ.
 pub record Names (state flash header : List ℕ) (s : ℕ) (file : List ℕ) : Type 0 where
   pub idle : sectorIn state ≡ 0
   pub named : namedIn state header ≡ Target.At s
   pub whole : length file % 2 ≡ 0
   pub valid : IsFile (wordsOf 2 file)
   pub stands : take (length file) (inSector flash s) ≡ file
+  pub blank : (i : ℕ) → length file ≤ i → i < length (inSector flash s) → getD (inSector flash s) i 0 ≡ 0xFF
   pub same : Differs state flash s → ⊥
 
 -- The state bytes with one FLASH error more: the two bytes at 12.

@@ -12,4 +12,4 @@ use Rattle.demands.specs.Anchors.{Anchors}
 
 pub anchors : Anchors
 unfolding laid fcsBit fcsBits fcsWord fcsFrom headerOk memoryOf pageOf lengthOk pageOk spanOf bodyOk segmentOk segmentEnd walk fileEnd isSector bySector sectorOf isEmpty statusOf statusIn fourthWord entryOf entryFor entriesFrom directoryOf
-anchors = record { empty = refl; good = refl; bad = refl; erasing = refl }
+anchors = record { empty = refl; good = refl; bad = refl; remains = refl; erasing = refl }

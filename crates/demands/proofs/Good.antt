@@ -6,7 +6,7 @@ use mathlib.Core.List.{List}
 use native.Mathlib.Nat.{add-zero}
 use native.Mathlib.Decide.{ℕ-discrete}
 use native.Mathlib.Omega.{arith}
-use lib.ListN.{length, getD, take, length-take}
+use lib.ListN.{length, getD, take, drop, length-take}
 use lib.Seq.{length-take-le}
 use lib.Dec.{eqb}
 use borrow.Author.Tests.{eqb-true, eq-eqb}
@@ -15,12 +15,12 @@ use Rattle.image.specs.File.{fileEnd}
 use Rattle.image.specs.declared.End.{End}
 use Rattle.image.proofs.File.{file-tells, file-exact, file-front}
 use Rattle.flash.specs.Geometry.{isSector, sectorOf, entryPlace, sectorAddress}
-use Rattle.flash.specs.Status.{isErasing as isErasingAt, firstOf, statusIn, statusWord, fourthWord}
+use Rattle.flash.specs.Status.{isEmpty, isErasing as isErasingAt, firstOf, statusIn, statusWord, fourthWord}
 use Rattle.flash.specs.Directory.{entryOf, entryFor, entrySays, entryIs, keptStatus}
 use Rattle.flash.specs.declared.Erasing.{Erasing}
 use Rattle.flash.specs.declared.Status.{Status}
 use Rattle.flash.specs.declared.Target.{Target}
-use Rattle.flash.proofs.Statuses.{good-file, status-quiet, status-good}
+use Rattle.flash.proofs.Statuses.{good-tells as good-words, status-quiet, status-good}
 use Rattle.flash.proofs.Kept.{kept-words, target-tells}
 use Rattle.image.specs.Header.{nameOf}
 use Rattle.node.specs.Files.{namedBy, seen}
@@ -82,7 +82,8 @@ module _ (n : Node) (flash packet : List ℕ) (s : ℕ) where
   pub good-tells : (end : ℕ) → n .erasing ≡ Erasing.Nothing → namedBy n (getD packet 1 0) ≡ Target.At s → seen n flash s ≡ Status.Good end → Seen end
   unfolding keptStatus
   good-tells end idle named h =
-      let file = good-file words end (kept-words (n .directory) flash (n .erasing) s end h) in
+      let good = good-words words end (kept-words (n .directory) flash (n .erasing) s end h) in
+      let file = good .file in
       let size = length-take-le end words (file-tells words end file .fits) in
       let p = pick-first (entryIs (n .directory) s (firstOf words) (statusIn (n .erasing) s words)) (bad end) h in
       record {
@@ -91,6 +92,7 @@ module _ (n : Node) (flash packet : List ℕ) (s : ℕ) where
           named = named;
           valid = file-exact words end file ∙ ap End.At (sym size);
           stands = ap (λ (k : ℕ). take k words) size;
+          blank = ap (λ (k : ℕ). isEmpty (drop k words)) size ∙ good .blank;
           same = λ d. d .differs (entry-same (n .directory) (n .erasing) s words (p .0) (d .word) (d .below));
         };
         size = size;
@@ -112,7 +114,7 @@ module _ (n : Node) (flash packet : List ℕ) (s : ℕ) where
     good-told =
         sym (yes _ (entry-told (n .directory) (n .erasing) s words sector same) refl)
         ∙ status-quiet (n .erasing) s words (ap (λ (e : Erasing). isErasingAt e s) (names .idle))
-        ∙ status-good words (length file) names-file
+        ∙ status-good words (length file) names-file (names .blank)
       where
         sector : isSector s ≡ true
         sector = target-tells (n .directory) (nameOf (getD packet 1 0)) s (names .named) .sector

@@ -1,4 +1,4 @@
--- A file that stands at the start of a sector, alone of its name, stays so over every change that is not made to it. Assumes nothing.
+-- A file that stands at the start of a sector, blank words behind it, alone of its name, stays so over every change that is not made to it. Assumes nothing.
 use Prim.Native.Nat.{ℕ, _+_, _/_, _≤_}
 use mathlib.Core.Path.{_≡_, refl, sym, ap, _∙_}
 use mathlib.Core.Logic.{_⊎_, inl, inr}
@@ -6,7 +6,7 @@ use mathlib.Core.Bool.{Bool, true, false, _&&_, false≢true}
 use mathlib.Core.List.{List, [], _∷_}
 use native.Mathlib.Decide.{ℕ-discrete}
 use native.Mathlib.Omega.{arith}
-use lib.ListN.{length, getD, take, length-take}
+use lib.ListN.{length, getD, take, drop, length-take}
 use lib.Seq.{getD-take}
 use lib.Dec.{eqb}
 use borrow.Author.Tests.{eqb-true, eq-eqb, ne-eqb}
@@ -26,7 +26,7 @@ use Rattle.flash.proofs.Geometry.{length-sector, other-kept}
 use Rattle.flash.proofs.Statuses.{first-word, file-not-empty, good-file}
 use Rattle.flash.proofs.Entries.{directory-first}
 use Rattle.flash.proofs.Kept.{target-tells, missing-tells}
-use Rattle.flash.proofs.Storing.{stored-only, stored-reads-back, stored-first, sector-word}
+use Rattle.flash.proofs.Storing.{stored-only, stored-reads-back, stored-blank, stored-first, sector-word}
 use Rattle.flash.proofs.Attribute.{setting-tells, cleared-name, headed-first}
 use Rattle.flash.proofs.Erasure.{erased-only, erased-or-blank}
 use Rattle.memory.specs.Segment.{Memories}
@@ -72,6 +72,7 @@ pub record Held (s : ℕ) (file flash : List ℕ) : Type 0 where
   pub sector : isSector s ≡ true
   pub valid : IsFile file
   pub words : take (length file) (sectorOf flash s) ≡ file
+  pub blank : isEmpty (drop (length file) (sectorOf flash s)) ≡ true
   pub alone : (t : ℕ) → isSector t ≡ true → (t ≡ s → ⊥) → isNamed (fileName file) (firstOf (sectorOf flash t)) ≡ false
 
 module _ (s : ℕ) (file flash : List ℕ) (held : Held s file flash) where
@@ -99,10 +100,14 @@ module _ (s : ℕ) (file flash : List ℕ) (held : Held s file flash) where
       record {
         sector = held .sector;
         valid = held .valid;
-        words = ap (take (length file)) (other-kept only sector s (held .sector) (λ e. apart (sym e))) ∙ held .words;
+        words = ap (take (length file)) kept ∙ held .words;
+        blank = ap (λ (x : List ℕ). isEmpty (drop (length file) x)) kept ∙ held .blank;
         alone = λ j p n. by j p n (ℕ-discrete j t);
       }
     where
+      kept : sectorOf new s ≡ sectorOf flash s
+      kept = other-kept only sector s (held .sector) (λ e. apart (sym e))
+
       by : (j : ℕ) → isSector j ≡ true → (j ≡ s → ⊥) → Dec (j ≡ t) → isNamed (fileName file) (firstOf (sectorOf new j)) ≡ false
       by j p n (Dec.yes e) = ap (λ (x : ℕ). isNamed (fileName file) (firstOf (sectorOf new x))) e ∙ free
       by j p n (Dec.no e) = ap (λ (x : List ℕ). isNamed (fileName file) (firstOf x)) (other-kept only sector j p e) ∙ held .alone j p n
@@ -182,6 +187,7 @@ stored-held s file n link bc packet l fresh w =
       sector = w .place .sector;
       valid = w .valid;
       words = stored-reads-back flash s file (w .place .sector) (w .place .room) (w .place .empty);
+      blank = stored-blank flash s file (w .place .sector) (w .place .room) (w .place .empty);
       alone = λ t p e.
           ap (λ (x : List ℕ). isNamed (fileName file) (firstOf x)) (other-kept (stored-only flash s file) (w .place .sector) t p e)
           ∙ ap (isNamed (fileName file)) (sym (entry-first n flash fresh t p))

@@ -152,6 +152,7 @@ module _ (n : Node) (flash : List ℕ) (s : ℕ) (file : List ℕ) (fresh : n .d
         named = held-found (getD packet 1 0) e;
         valid = held .valid;
         stands = held .words;
+        blank = held .blank;
         same = λ d. d .differs (ap (λ (x : List ℕ). getD x (entryPlace s + d .word) 0) fresh ∙ directory-word flash (n .erasing) s (d .word) (held .sector) (d .below));
       }
 

@@ -7,7 +7,7 @@ use mathlib.Core.Bool.{true, false, false≢true}
 use mathlib.Core.List.{List, [], _∷_}
 use native.Mathlib.Nat.{add-zero}
 use native.Mathlib.Omega.{arith}
-use lib.ListN.{length, getD, replicate, length-replicate, getD-replicate}
+use lib.ListN.{length, getD, drop, replicate, length-replicate, getD-replicate}
 use borrow.Author.Tests.{leb-true, ltb-true, eqb-false}
 use Rattle.base.specs.Words.{laid, blanks, Below}
 use Rattle.base.proofs.Part.{getD-part}
@@ -21,20 +21,22 @@ use Rattle.image.specs.declared.End.{End}
 use Rattle.flash.specs.Geometry.{isSector, bySector, unitOf, sizeOf, startOf as sectorStart, sectorOf}
 use Rattle.flash.specs.Status.{isEmpty, firstOf, statusOf, statusIn, fourthWord}
 use Rattle.flash.specs.Directory.{entryOf, entryFor, entriesFrom, directoryOf, entered, entrySays, entryIs, keptStatus}
-use Rattle.flash.specs.Search.{firstFrom, countFrom, isNamed, searchOf, targetOf, takes, placeOf, addressed as sectorAt}
+use Rattle.flash.specs.Search.{firstFrom, countFrom, isNamed, searchOf, targetOf, targetNumber, takes, placeOf, addressed as sectorAt}
 use Rattle.flash.specs.Change.{stored, eraseCount, erased}
 use Rattle.flash.specs.declared.Erasing.{Erasing}
 use Rattle.flash.specs.declared.Found.{Found}
 use Rattle.flash.specs.declared.Progress.{Progress}
+use Rattle.flash.specs.declared.Target.{Target}
 use Rattle.flash.proofs.Geometry.{sector-fits, length-sector}
 use Rattle.flash.proofs.Statuses.{first-word}
 use Rattle.memory.specs.Segment.{Memories, memories}
+use Rattle.group.specs.Ending.{replied}
 use Rattle.group.specs.declared.Reply.{Reply}
 use Rattle.node.specs.State.{refusalNumber, joining, withWriting}
 use Rattle.node.specs.Valid.{masksOk, stateOk}
 use Rattle.node.specs.Refusals.{startVerdict, requestVerdict, eraseVerdict}
 use Rattle.node.specs.Route.{writes, addressed, routeOf}
-use Rattle.node.specs.Files.{fileWriteOf, loadOf, toErase, eraseStartOf}
+use Rattle.node.specs.Files.{namedBy, readOf, fileWriteOf, loadOf, toErase, eraseStartOf}
 use Rattle.node.specs.Settings.{modeReadOf}
 use Rattle.node.specs.Own.{settingsOf, filesOf, ownOf}
 use Rattle.node.specs.Calls.{startOf, requestOf, eraseOf}
@@ -54,7 +56,7 @@ use Rattle.demands.specs.Files.{fileName, Unused, Takes, IsFile, Writes,
 use Rattle.demands.specs.Packets.{Sent, AnyDivision, LeftAlone}
 use Rattle.demands.specs.Groups.{StartsFull}
 use Rattle.demands.specs.ClosedRun.{with, started, written, ClosedRun}
-use Rattle.demands.specs.ShutOut.{refusing, unstarted, aborting, constant, idle, lying, denying, judging, hoarding, mixing, empty, loader, hasty, boasting, dropping, rogue, scanning, remembering, measuring, ShutOut}
+use Rattle.demands.specs.ShutOut.{refusing, unstarted, aborting, constant, idle, lying, denying, judging, hoarding, mixing, empty, loader, hasty, boasting, dropping, rogue, scanning, remembering, measuring, overlooking, ShutOut}
 use Rattle.demands.specs.Flash.{countOf, Course, HasSet, ErasureFollows, Erases}
 use Rattle.demands.proofs.Refusals.{refused-exactly}
 use Rattle.demands.proofs.Held.{named-blank}
@@ -314,6 +316,37 @@ loads-half w =
     not-idle : {p : Progress} → Erasing.Sector p ≡ Erasing.Nothing → ⊥
     not-idle e = let z : _≡_ {A = ℕ} 0 1 = cc in omega arith
 
+-- a Read of a file with one bit clear in the sector's last word
+remains : List ℕ
+remains = laid (laid blank 2048 file) 4095 (0xFFFE ∷ [])
+
+behind : isEmpty (drop 5 (sectorOf remains 3)) ≡ false
+unfolding remains laid isSector bySector sectorOf isEmpty
+behind = refl
+
+readPacket : List ℕ
+readPacket = 0x052E ∷ 0x0420 ∷ []
+
+seesAll : Node
+seesAll = overlooking .start 2 4 0 0 0 0 0 remains .node
+
+handed-remains : overlooking .request seesAll 0 0 3 false readPacket (with remains) .turn .answer ≡ Answer.Reply (replied 3 7)
+unfolding remains readPacket seesAll laid fcsBit fcsBits fcsWord fcsFrom headerOk memoryOf pageOf lengthOk pageOk spanOf bodyOk segmentOk segmentEnd walk fileEnd isSector bySector sectorOf isEmpty statusOf statusIn fourthWord entryOf entryFor entriesFrom directoryOf entrySays entryIs keptStatus firstFrom countFrom isNamed searchOf targetOf masksOk stateOk startVerdict requestVerdict addressed routeOf readOf filesOf ownOf startOf requestOf
+handed-remains = refl
+
+named-third : namedBy seesAll 0x0420 ≡ Target.At 3
+unfolding remains seesAll laid fcsBit fcsBits fcsWord fcsFrom headerOk memoryOf pageOf lengthOk pageOk spanOf bodyOk segmentOk segmentEnd walk fileEnd isSector bySector sectorOf isEmpty statusOf statusIn fourthWord entryOf entryFor entriesFrom directoryOf entrySays entryIs keptStatus firstFrom countFrom isNamed searchOf targetOf masksOk stateOk startVerdict requestVerdict addressed routeOf readOf filesOf ownOf startOf requestOf
+named-third = refl
+
+overlooks-remains : NeverCorrupted overlooking → ⊥
+unfolding readPacket
+overlooks-remains w =
+    let d = w .hands-out seesAll 0 0 3 false readPacket (with remains) (replied 3 7) refl handed-remains (ltb-true 0 7 refl) in
+    let told : 7 ≡ length (d .file) + 2 = sym (ap wordsIn handed-remains) ∙ ap (λ (o : Outcome). wordsIn (o .turn .answer)) (d .is) in
+    let size : 5 ≡ length (d .file) = omega arith in
+    let third : 3 ≡ d .sector = ap targetNumber (sym named-third ∙ d .names .named) in
+    false≢true (sym behind ∙ (λ i. isEmpty (drop (size i) (sectorOf remains (third i)))) ∙ d .names .blank)
+
 -- the file stands in the flash of the closed run
 stands : getD (written logodwen .after .flash) 2048 0 ≡ 0x7421
 unfolding laid fcsBit fcsBits fcsWord fcsFrom headerOk memoryOf pageOf lengthOk pageOk spanOf bodyOk segmentOk segmentEnd walk fileEnd isSector bySector sectorOf isEmpty statusOf statusIn fourthWord entryOf entryFor entriesFrom directoryOf entered entrySays entryIs keptStatus firstFrom countFrom isNamed searchOf targetOf takes placeOf stored masksOk stateOk startVerdict requestVerdict addressed routeOf fileWriteOf filesOf ownOf startOf requestOf
@@ -383,6 +416,7 @@ shut-out =
       mixes-links = mixes-links;
       starts-empty = starts-empty;
       loads-half = loads-half;
+      overlooks-remains = overlooks-remains;
       erases-all = erases-all;
       sets-nothing = sets-nothing;
       drops-erasure = drops-erasure;

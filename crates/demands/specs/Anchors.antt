@@ -1,4 +1,5 @@
--- The directory of four bench flashes, worked out: all blank; with one good sector; with one bad; with one being erased. They tie
+-- The directory of five bench flashes, worked out: all blank; with one good sector; with one bad; with one that has remains behind its file;
+-- with one being erased. They tie
 -- `directoryOf` to the words that 01 'Flash' asks for. Assumes nothing.
 use Prim.Native.Nat.{ℕ}
 use mathlib.Core.Path.{_≡_}
@@ -31,4 +32,6 @@ pub record Anchors : Type 0 where
   pub good : directoryOf (laid blank 4096 file) Erasing.Nothing ≡ entry 0xFFFF 0x0200 0 0 ++ (entry 0x7421 0x0400 0 5 ++ others)
   -- one bit of the FCS is wrong
   pub bad : directoryOf (laid blank 2048 (0x7421 ∷ 0x4002 ∷ 0x0000 ∷ 0x1234 ∷ 0x0EC8 ∷ [])) Erasing.Nothing ≡ entry 0x7421 0x0200 0x8000 0 ++ (entry 0xFFFF 0x0400 0 0 ++ others)
+  -- one bit of the sector's last word is clear (02, request 5)
+  pub remains : directoryOf (laid (laid blank 4096 file) 8191 (0xFFFE ∷ [])) Erasing.Nothing ≡ entry 0xFFFF 0x0200 0 0 ++ (entry 0x7421 0x0400 0x8000 0 ++ others)
   pub erasing : directoryOf (laid blank 4096 file) (Erasing.Sector (progress 4 0)) ≡ entry 0xFFFF 0x0200 0 0 ++ (entry 0x7421 0x0400 0x4000 0 ++ others)

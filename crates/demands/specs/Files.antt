@@ -5,7 +5,7 @@ use mathlib.Core.Path.{_≡_}
 use mathlib.Core.Logic.{_⊎_}
 use mathlib.Core.Bool.{Bool, true, false, _&&_, _||_}
 use mathlib.Core.List.{List, [], _∷_}
-use lib.ListN.{length, getD, take}
+use lib.ListN.{length, getD, take, drop}
 use lib.Dec.{eqb}
 use Rattle.base.specs.Words.{laid, Below}
 use Rattle.image.specs.Header.{nameOf}
@@ -127,13 +127,14 @@ pub record Differs (n : Node) (flash : List ℕ) (s : ℕ) : Type 0 where
   pub below : word < 4
   pub differs : getD (n .directory) (entryPlace s + word) 0 ≡ getD (entryFor (n .erasing) s (sectorOf flash s)) word 0 → ⊥
 
--- A command names a good file: no erasure is in progress, this valid file stands at the start of the sector of that name, and the
--- sector's entry doesn't differ.
+-- A command names a good file: no erasure is in progress, this valid file stands at the start of the sector of that name, all words behind
+-- it are FFFF (02, request 5), and the sector's entry doesn't differ.
 pub record Names (n : Node) (flash packet : List ℕ) (s : ℕ) (file : List ℕ) : Type 0 where
   pub idle : n .erasing ≡ Erasing.Nothing
   pub named : namedBy n (getD packet 1 0) ≡ Target.At s
   pub valid : IsFile file
   pub stands : take (length file) (sectorOf flash s) ≡ file
+  pub blank : isEmpty (drop (length file) (sectorOf flash s)) ≡ true
   pub same : Differs n flash s → ⊥
 
 -- Its segments stored in the memories, in file order.

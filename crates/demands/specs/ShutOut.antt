@@ -1,14 +1,16 @@
 -- Wrong nodes, those that 01 names under 'What calls owe' and others, of 02's rules too, each a machine of its own, and for each the demand that it fails, by
 -- its name in `Demands`. A call of which nothing is said is ours. Assumes nothing.
-use Prim.Native.Nat.{ℕ}
+use Prim.Native.Nat.{ℕ, _+_, _-_}
 use mathlib.Core.Bool.{_&&_, not}
 use mathlib.Core.List.{List, [], _∷_}
 use lib.ListN.{length, getD, replicate}
 use lib.Dec.{eqb}
 use Rattle.base.specs.Pick.{pick}
-use Rattle.base.specs.Words.{laid}
+use Rattle.base.specs.Words.{laid, blanks}
 use Rattle.image.specs.Header.{headerOk}
-use Rattle.flash.specs.Geometry.{sectorOf}
+use Rattle.image.specs.File.{fileEnd}
+use Rattle.image.specs.declared.End.{End}
+use Rattle.flash.specs.Geometry.{unitOf, sizeOf, startOf as startAt, sectorOf}
 use Rattle.flash.specs.Status.{progress}
 use Rattle.flash.specs.Directory.{refreshed, directoryOf}
 use Rattle.flash.specs.declared.Erasing.{Erasing}
@@ -319,6 +321,27 @@ measuring =
       erase = eraseOf;
     }
 
+-- Overlooks what is behind a file: at start, and when it is asked for one, sees sector 3 as if all words after its file were FFFF.
+abbrev pub cleared : End → List ℕ → List ℕ
+cleared (End.At n) flash = laid flash (startAt (unitOf flash) 3 + n) (blanks (sizeOf (unitOf flash) 3 - n))
+cleared End.Invalid flash = flash
+
+abbrev pub overlooks : List ℕ → List ℕ
+overlooks flash = cleared (fileEnd (sectorOf flash 3)) flash
+
+abbrev pub overlooking : Machine
+overlooking =
+    record {
+      start = λ kind ports subdetector program version tests clock flash. startOf kind ports subdetector program version tests clock (overlooks flash);
+      request = λ n clock link bc errors packet l.
+          let o : Outcome = requestOf n clock link bc errors packet (lent (overlooks (l .flash)) (l .memories) (l .further) (l .reply)) in
+          pick (isCommand 0x05 bc packet) (outcome (o .turn) (lent (l .flash) (o .after .memories) (o .after .further) (o .after .reply)))
+          (requestOf n clock link bc errors packet l);
+      reply = replyOf;
+      poll = pollOf;
+      erase = eraseOf;
+    }
+
 -- Each fails a demand.
 pub record ShutOut : Type 0 where
   -- always refuses, by whichever number
@@ -344,6 +367,8 @@ pub record ShutOut : Type 0 where
   pub starts-empty : StartsFull empty → ⊥
   -- loads from a half-erased sector
   pub loads-half : NeverCorrupted loader → ⊥
+  -- hands out a file with remains behind it
+  pub overlooks-remains : NeverCorrupted overlooking → ⊥
   -- erases all at the first progress call
   pub erases-all : (says : ℕ → ℕ) → Erases (hasty says) → ⊥
   -- reports words it did not set

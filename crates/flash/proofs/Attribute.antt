@@ -25,7 +25,7 @@ use Rattle.flash.specs.declared.Erasing.{Erasing}
 use Rattle.flash.specs.declared.Setting.{Setting}
 use Rattle.flash.specs.declared.Status.{Status}
 use Rattle.flash.proofs.Geometry.{sector-most, length-sector, laid-sector, laid-in-fits}
-use Rattle.flash.proofs.Statuses.{first-word, status-good, good-file, status-quiet}
+use Rattle.flash.proofs.Statuses.{empty-behind, first-word, status-good, good-tells, good-file, status-quiet}
 use Rattle.flash.proofs.Entries.{entered-laid, directory-local, length-directory, directory-entry}
 use Rattle.flash.proofs.Changes.{stored-laid}
 use Rattle.flash.proofs.Storing.{stored-only, sector-word, laid-no-bit-rises}
@@ -134,13 +134,14 @@ front ws at a new rest h e =
 -- a header with another attribute at the front of a good sector's words leaves it good
 pub headed-words-good : (words : List ℕ) (n new : ℕ) → statusOf words ≡ Status.Good n → Cleared (firstOf words) new → statusOf (laid words 0 (new ∷ [])) ≡ Status.Good n
 headed-words-good words n new g c =
-    let h = good-file words n g in
-    let f = file-tells words n h in
+    let t = good-tells words n g in
+    let f = file-tells words n (t .file) in
     let l = f .least in
     let m = f .fits in
     let w = first-word words (omega arith) in
     status-good (laid words 0 (new ∷ [])) n
-    (file-attribute words n new h (cleared-type c ∙ ap typeOf w) (cleared-segments c ∙ ap segmentsOf w))
+    (file-attribute words n new (t .file) (cleared-type c ∙ ap typeOf w) (cleared-segments c ∙ ap segmentsOf w))
+    (empty-behind words (new ∷ []) n (omega arith) (omega arith) ∙ t .blank)
 
 module _ (flash : List ℕ) (s n value new : ℕ) (sector : isSector s ≡ true) (good : statusOf (sectorOf flash s) ≡ Status.Good n)
     (set : settingOf (firstOf (sectorOf flash s)) value ≡ Setting.Header new) where

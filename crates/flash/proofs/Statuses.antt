@@ -1,18 +1,19 @@
 -- What a sector's words tell of its status: blank words, the first word, and a file that starts the sector. Assumes nothing.
-use Prim.Native.Nat.{ℕ, zero, suc, _+_, _<_}
-use mathlib.Core.Path.{_≡_, refl, sym, ap, _∙_}
+use Prim.Native.Nat.{ℕ, zero, suc, _+_, _≤_, _<_}
+use mathlib.Core.Path.{_≡_, refl, sym, ap, subst, _∙_}
 use mathlib.Core.Bool.{Bool, true, false, _&&_}
 use mathlib.Core.List.{List, [], _∷_, _++_}
 use native.Mathlib.Nat.{not-suc-le-zero, le-of-suc-le-suc}
 use native.Mathlib.Numerals.{add-one}
 use native.Mathlib.Omega.{arith}
-use lib.ListN.{length, getD, drop}
-use lib.Seq.{drop-cons}
+use lib.ListN.{length, getD, drop, length-drop}
+use lib.Seq.{drop-cons, take-all}
 use lib.Dec.{ltb, leb, eqb}
 use borrow.Author.Tests.{ltb-true, eqb-true, eq-eqb, ne-eqb}
 use Rattle.base.specs.Pick.{pick}
-use Rattle.base.specs.Words.{blanks}
-use Rattle.base.proofs.Pick.{yes, no, and-left, and-right, and-yes}
+use Rattle.base.specs.Words.{laid, blanks}
+use Rattle.base.proofs.Laid.{length-laid, part-laid-after}
+use Rattle.base.proofs.Pick.{yes, no, via, pick-case, and-left, and-right, and-yes}
 use Rattle.image.proofs.File.{file-tells}
 use Rattle.image.specs.File.{fileEnd}
 use Rattle.image.specs.Header.{typeOf, segmentsOf, headerOk}
@@ -38,6 +39,21 @@ unfolding isEmpty
 empty-append [] b p q = q
 empty-append (w ∷ a) b p q =
     sym (and-yes (and-left (eqb w 0xFFFF) (isEmpty a) p) (sym (empty-append a b (and-right (eqb w 0xFFFF) (isEmpty a) p) q)))
+
+-- what is left of an empty run is empty
+pub empty-drop : (n : ℕ) (words : List ℕ) → isEmpty words ≡ true → isEmpty (drop n words) ≡ true
+unfolding isEmpty
+empty-drop zero words p = p
+empty-drop (suc n) [] p = p
+empty-drop (suc n) (w ∷ words) p = empty-drop n words (and-right (eqb w 0xFFFF) (isEmpty words) p)
+
+-- and words laid before it leave it as it is
+pub empty-behind : (words new : List ℕ) (n : ℕ) → length new ≤ n → length new ≤ length words → isEmpty (drop n (laid words 0 new)) ≡ isEmpty (drop n words)
+empty-behind words new n h f =
+    ap isEmpty
+    (sym (take-all (length words) (drop n (laid words 0 new)) (omega (arith, length-drop n (laid words 0 new), length-laid words 0 new (omega arith))))
+    ∙ part-laid-after words n (length words) 0 new (omega arith) (omega arith)
+    ∙ take-all (length words) (drop n words) (omega (arith, length-drop n words)))
 
 -- every word of an empty run is FFFF
 pub empty-word : (words : List ℕ) (i : ℕ) → isEmpty words ≡ true → i < length words → getD words i 0 ≡ 0xFFFF
@@ -77,43 +93,59 @@ file-not-empty words n h = by (isEmpty words) refl
         absurd (header-not-blank (getD words 0 0) (f .header) (empty-word words 0 p (omega arith)))
     by false p = p
 
--- a sector is good just where a file starts it
-pub status-good : (words : List ℕ) (n : ℕ) → fileEnd words ≡ End.At n → statusOf words ≡ Status.Good n
+-- a sector is good just where a file starts it and blank words follow; empty just where all words are FFFF; and its words never tell that
+-- it is being erased
+
+-- the four cases of a status, by three tests of the words
+by-words : (words : List ℕ) (P : Status → Type 0)
+    → (isEmpty words ≡ true → P Status.Empty)
+    → ((n : ℕ) → fileEnd words ≡ End.At n → isEmpty (drop n words) ≡ true → P (Status.Good n))
+    → (isEmpty words ≡ false → P Status.Bad)
+    → P (statusOf words)
 unfolding statusOf
-status-good words n h = sym (no _ (file-not-empty words n h) (ap statusBy (sym h)))
+by-words words P empty good bad = by (isEmpty words) refl (fileEnd words) refl
+  where
+    by : (t : Bool) → isEmpty words ≡ t → (e : End) → fileEnd words ≡ e → P (pick t Status.Empty (statusBy e words))
+    by true p e q = empty p
+    by false p (End.At n) q = pick-case P (isEmpty (drop n words)) (λ r. good n q r) (λ r. bad p)
+    by false p End.Invalid q = bad p
+
+pub status-good : (words : List ℕ) (n : ℕ) → fileEnd words ≡ End.At n → isEmpty (drop n words) ≡ true → statusOf words ≡ Status.Good n
+unfolding statusOf
+status-good words n h b = sym (no _ (file-not-empty words n h) (via (λ (e : End). statusBy e words) h (yes _ b refl)))
+
+-- what a good sector's words are
+pub record Good (words : List ℕ) (n : ℕ) : Type 0 where
+  pub file : fileEnd words ≡ End.At n
+  pub blank : isEmpty (drop n words) ≡ true
+
+pub good-tells : (words : List ℕ) (n : ℕ) → statusOf words ≡ Status.Good n → Good words n
+good-tells words n =
+    by-words words (λ (x : Status). x ≡ Status.Good n → Good words n)
+    (λ p h. let z : _≡_ {A = ℕ} 0 1 = cc in absurd (omega arith))
+    (λ m p b h. let z : m ≡ n = cc in subst (Good words) z (record { file = p; blank = b }))
+    (λ p h. let z : _≡_ {A = ℕ} 0 1 = cc in absurd (omega arith))
 
 pub good-file : (words : List ℕ) (n : ℕ) → statusOf words ≡ Status.Good n → fileEnd words ≡ End.At n
-unfolding statusOf
-good-file words n h = by (isEmpty words) (fileEnd words) refl h
-  where
-    by : (t : Bool) (e : End) → fileEnd words ≡ e → pick t Status.Empty (statusBy e) ≡ Status.Good n → fileEnd words ≡ End.At n
-    by true e p q = let z : _≡_ {A = ℕ} 0 1 = cc in absurd (omega arith)
-    by false (End.At m) p q = let z : m ≡ n = cc in p ∙ ap End.At z
-    by false End.Invalid p q = let z : _≡_ {A = ℕ} 0 1 = cc in absurd (omega arith)
+good-file words n h = good-tells words n h .file
 
--- and empty just where all words are FFFF
 pub status-empty : (words : List ℕ) → isEmpty words ≡ true → statusOf words ≡ Status.Empty
 unfolding statusOf
 status-empty words h = sym (yes _ h refl)
 
 pub empty-words : (words : List ℕ) → statusOf words ≡ Status.Empty → isEmpty words ≡ true
-unfolding statusOf
-empty-words words h = by (isEmpty words) (fileEnd words) refl h
-  where
-    by : (t : Bool) (e : End) → isEmpty words ≡ t → pick t Status.Empty (statusBy e) ≡ Status.Empty → isEmpty words ≡ true
-    by true e p q = p
-    by false (End.At m) p q = let z : _≡_ {A = ℕ} 0 1 = cc in absurd (omega arith)
-    by false End.Invalid p q = let z : _≡_ {A = ℕ} 0 1 = cc in absurd (omega arith)
+empty-words words =
+    by-words words (λ (x : Status). x ≡ Status.Empty → isEmpty words ≡ true)
+    (λ p h. p)
+    (λ m p b h. let z : _≡_ {A = ℕ} 0 1 = cc in absurd (omega arith))
+    (λ p h. let z : _≡_ {A = ℕ} 0 1 = cc in absurd (omega arith))
 
--- words alone never tell that a sector is being erased
 pub status-known : (words : List ℕ) → statusOf words ≡ Status.Erasing → ⊥
-unfolding statusOf
-status-known words h = by (isEmpty words) (fileEnd words) h
-  where
-    by : (t : Bool) (e : End) → pick t Status.Empty (statusBy e) ≡ Status.Erasing → ⊥
-    by true e q = let z : _≡_ {A = ℕ} 0 1 = cc in omega arith
-    by false (End.At m) q = let z : _≡_ {A = ℕ} 0 1 = cc in omega arith
-    by false End.Invalid q = let z : _≡_ {A = ℕ} 0 1 = cc in omega arith
+status-known words =
+    by-words words (λ (x : Status). x ≡ Status.Erasing → ⊥)
+    (λ p h. let z : _≡_ {A = ℕ} 0 1 = cc in omega arith)
+    (λ m p b h. let z : _≡_ {A = ℕ} 0 1 = cc in omega arith)
+    (λ p h. let z : _≡_ {A = ℕ} 0 1 = cc in omega arith)
 
 -- the status that the directory shows, while a sector is being erased and while it is not
 pub status-erasing : (erasing : Erasing) (s : ℕ) (words : List ℕ) → isErasing erasing s ≡ true → statusIn erasing s words ≡ Status.Erasing

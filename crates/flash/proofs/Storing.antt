@@ -6,7 +6,7 @@ use mathlib.Core.Bool.{true, false}
 use mathlib.Core.List.{List, [], _∷_}
 use native.Mathlib.Decide.{decLt}
 use native.Mathlib.Omega.{arith}
-use lib.ListN.{length, getD, take, replicate}
+use lib.ListN.{length, getD, take, drop, replicate}
 use lib.Dec.{eqb}
 use borrow.Author.Tests.{eqb-true}
 use Rattle.base.specs.Words.{laid}
@@ -23,7 +23,7 @@ use Rattle.flash.specs.Change.{stored, OnlySector, bitOf, NoBitRises}
 use Rattle.flash.specs.declared.Erasing.{Erasing}
 use Rattle.flash.specs.declared.Status.{Status}
 use Rattle.flash.proofs.Geometry.{length-sector, laid-sector, laid-only, laid-in-fits, only-same, below-kept}
-use Rattle.flash.proofs.Statuses.{empty-word, first-word, status-good, status-quiet}
+use Rattle.flash.proofs.Statuses.{empty-word, empty-drop, empty-behind, first-word, status-good, status-quiet}
 use Rattle.flash.proofs.Entries.{directory-local}
 use Rattle.flash.proofs.Changes.{stored-laid, stored-none}
 
@@ -86,6 +86,13 @@ module _ (flash : List ℕ) (s : ℕ) (file : List ℕ) (sector : isSector s ≡
   pub stored-reads-back : take (length file) (sectorOf (stored flash s file) s) ≡ file
   stored-reads-back = ap (take (length file)) stored-sector ∙ part-laid (sectorOf flash s) 0 file (length file) refl (omega arith)
 
+  -- and the words behind it are blank, as all were
+  pub stored-blank : isEmpty (drop (length file) (sectorOf (stored flash s file) s)) ≡ true
+  stored-blank =
+      ap (λ (x : List ℕ). isEmpty (drop (length file) x)) stored-sector
+      ∙ empty-behind (sectorOf flash s) file (length file) (omega arith) (omega (arith, length-sector flash s))
+      ∙ empty-drop (length file) (sectorOf flash s) empty
+
   -- no bit goes from 0 to 1
   pub stored-no-bit-rises : NoBitRises flash (stored flash s file)
   stored-no-bit-rises i k q =
@@ -112,7 +119,7 @@ module _ (flash : List ℕ) (s : ℕ) (file : List ℕ) (sector : isSector s ≡
         let l = length-sector flash s in
         let m = ap length stored-sector ∙ length-laid (sectorOf flash s) 0 file (omega arith) in
         status-good (sectorOf (stored flash s file) s) (length file)
-        (file-front (sectorOf (stored flash s file) s) (length file) (omega arith) (ap fileEnd stored-reads-back ∙ valid))
+        (file-front (sectorOf (stored flash s file) s) (length file) (omega arith) (ap fileEnd stored-reads-back ∙ valid)) stored-blank
 
     pub stored-first : firstOf (sectorOf (stored flash s file) s) ≡ firstOf file
     stored-first =

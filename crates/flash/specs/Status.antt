@@ -2,7 +2,7 @@
 use Prim.Native.Nat.{ℕ, _%_}
 use mathlib.Core.Bool.{Bool, true, false, _&&_}
 use mathlib.Core.List.{List, [], _∷_}
-use lib.ListN.{getD}
+use lib.ListN.{getD, drop}
 use lib.Dec.{eqb}
 use Rattle.base.specs.Pick.{pick}
 use Rattle.image.specs.File.{fileEnd}
@@ -16,13 +16,13 @@ unfoldable pub isEmpty : List ℕ → Bool
 isEmpty [] = true
 isEmpty (w ∷ words) = eqb w 0xFFFF && isEmpty words
 
--- .. good if a valid file starts it and ends inside it; otherwise bad. Words after the file aren't looked at.
-abbrev pub statusBy : End → Status
-statusBy (End.At end) = Status.Good end
-statusBy End.Invalid = Status.Bad
+-- .. good if a valid file starts it and ends inside it, and all words after it are FFFF (02, request 5); otherwise bad.
+abbrev pub statusBy : End → List ℕ → Status
+statusBy (End.At end) words = pick (isEmpty (drop end words)) (Status.Good end) Status.Bad
+statusBy End.Invalid words = Status.Bad
 
 unfoldable pub statusOf : List ℕ → Status
-statusOf words = pick (isEmpty words) Status.Empty (statusBy (fileEnd words))
+statusOf words = pick (isEmpty words) Status.Empty (statusBy (fileEnd words) words)
 
 -- The first word. Of no words at all, which no flash of either size has as a sector, it is FFFF, as of any empty sector.
 abbrev pub firstOf : List ℕ → ℕ

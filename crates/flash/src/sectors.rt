@@ -3,6 +3,7 @@ use crate::Erasing;
 use crate::Status;
 use image::End;
 ghost use mathlib.Core.Path.{_≡_};
+ghost use lib.ListN.{drop};
 ghost use Prim.Native.Nat.{_/_};
 ghost use Rattle.flash.specs.Geometry.{isSector, sizeOf, startOf, sectorAddress, sectorOf};
 ghost use Rattle.flash.specs.Status.{isEmpty, firstOf, statusOf, isErasing, statusIn};
@@ -62,11 +63,11 @@ pub fn sector_of(flash: &[u16], sector: usize) -> &[u16]
     &flash[start..end]
 }
 
-// Whether all words are FFFF.
-pub fn is_empty(words: &[u16]) -> bool
-    ensures { λ r. ⌜ r ≡ isEmpty (now (words .entry)) ⌝ }
+// Whether all words from a place on are FFFF.
+fn is_blank_from(words: &[u16], place: usize) -> bool
+    ensures { λ r. ⌜ r ≡ isEmpty (drop place (now (words .entry))) ⌝ }
 {
-    let mut i = 0;
+    let mut i = place;
     while i < words.len() {
         if words[i] != 0xFFFF {
             return false;
@@ -74,6 +75,13 @@ pub fn is_empty(words: &[u16]) -> bool
         i += 1;
     }
     true
+}
+
+// Whether all words are FFFF.
+pub fn is_empty(words: &[u16]) -> bool
+    ensures { λ r. ⌜ r ≡ isEmpty (now (words .entry)) ⌝ }
+{
+    is_blank_from(words, 0)
 }
 
 // The first word.
@@ -86,7 +94,7 @@ pub fn first_of(words: &[u16]) -> u16
     words[0]
 }
 
-// What a sector of these words is.
+// What a sector of these words is. Each word is looked at once, but the first of a sector that is not empty.
 pub fn status_of(words: &[u16]) -> Status
     ensures { λ r. ⌜ r ≡ statusOf (now (words .entry)) ⌝ }
 {
@@ -95,7 +103,12 @@ pub fn status_of(words: &[u16]) -> Status
     }
     let end = image::file_end(words);
     match end {
-        End::At(n) => Status::Good(n),
+        End::At(n) => {
+            if is_blank_from(words, n) {
+                return Status::Good(n);
+            }
+            Status::Bad
+        }
         End::Invalid => Status::Bad,
     }
 }
