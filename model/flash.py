@@ -1,4 +1,4 @@
-"""The flash, from 01 'Flash' and request 6 of 02: its sectors, the directory that the state keeps of them, and what changes either. A
+"""The flash, from 01 'Flash' and requests 5 and 6 of 02: its sectors, the directory that the state keeps of them, and what changes either. A
 directory is 32 words, four for each of the sectors 3 to 10; `erasing` is the sector being erased, or None."""
 
 from functools import lru_cache
@@ -36,11 +36,12 @@ def addressed(address):
 
 @lru_cache(maxsize=64)
 def judged(words):
-    """What a sector of these words is, with the length of its file, which is 0 unless it is good."""
-    if words.count(BLANK) == len(words):
+    """What a sector of these words is, with the length of its file, which is 0 unless it is good. A file is good only if all words behind
+    it are blank (02, request 5)."""
+    if set(words) == {BLANK}:
         return EMPTY, 0
     length = file_length(list(words))
-    return (BAD, 0) if length is None else (GOOD, length)
+    return (BAD, 0) if length is None or set(words[length:]) - {BLANK} else (GOOD, length)
 
 
 # The directory.

@@ -159,16 +159,18 @@ def too_long(pick, size):
     return seed, patches[:-2] + [(place, [words[0] + 1, words[1]])]
 
 
-def behind(pick, words):
-    """A file with blank words behind it, or any others."""
-    return pick.choice((0, pick.randrange(1, 65536))), [(0, words)]
+def behind(pick, size, words):
+    """A file with blank words behind it, mostly; or with remains: any words, or one bit in the first, the last or another word."""
+    at = pick.choice((len(words), size - 1, pick.randrange(len(words), size)))
+    patch = (at, [BLANK ^ 1 << pick.randrange(16)])
+    return pick.choice(((0, [(0, words)]),) * 4 + ((pick.randrange(1, 65536), [(0, words)]), (0, [(0, words), patch])))
 
 
 def spoilt(pick, size):
     words = small(pick)
     place = pick.randrange(1, len(words))
     words[place] ^= 1 << pick.randrange(16)
-    return behind(pick, words)
+    return behind(pick, size, words)
 
 
 def any_sector(pick, size):
@@ -176,17 +178,17 @@ def any_sector(pick, size):
     if kind < 4:
         return 0, []
     if kind < 7:
-        return behind(pick, small(pick))
+        return behind(pick, size, small(pick))
     if kind == 7:  # a stray 0 bit in an empty sector
         return 0, [(pick.choice((0, size - 1, pick.randrange(size))), [0xFFFF ^ 1 << pick.randrange(16)])]
     if kind == 8:  # type 1X
         words = small(pick)
-        return behind(pick, [words[0] | 0x8000] + words[1:])
+        return behind(pick, size, [words[0] | 0x8000] + words[1:])
     if kind == 9:  # 0 segments, and 15 that are all right
         name = pick.choice(NAMES)
         if pick.randrange(2):
-            return behind(pick, [header(0, 3, name, 0)])
-        return behind(pick, file_of([short(pick, pick.choice((PM, DM, IO))) for _ in range(15)], name=name))
+            return behind(pick, size, [header(0, 3, name, 0)])
+        return behind(pick, size, file_of([short(pick, pick.choice((PM, DM, IO))) for _ in range(15)], name=name))
     if kind == 10:
         return spoilt(pick, size)
     return pick.randrange(1, 65536), []

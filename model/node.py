@@ -1,4 +1,4 @@
-"""The whole node, from document 01 and requests 1, 2 and 6 of 02: its state, the refusals, requests, own commands, and the five calls
+"""The whole node, from document 01 and requests 1, 2, 5 and 6 of 02: its state, the refusals, requests, own commands, and the five calls
 start, request, reply, poll and erase. A call takes a node and what it is lent, and hands back the next node with the answer; lent
 lists change in place, and only if the call is accepted. An answer is a tuple: ("refused", number), ("started",), ("reply", BC, words
 in the reply buffer), ("ask", slave, word from which the request is sent on), ("waiting",), or ("erased", words set)."""

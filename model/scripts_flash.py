@@ -51,6 +51,22 @@ def flash_step(s):
     pick.choice(ways)()
 
 
+def each_file_command(s, name, erased=None):
+    """Each command on a name, a write of it, and one of another; then an erasure, by the name or by a sector's address, and a write again."""
+    s.request(command(0x07))
+    for number in (0x05, 0x06, 0x46):
+        s.request(command(number, name << 4))
+    for value in (1, 0):
+        s.request(command(0x48, name << 4, value))
+    for written in (name, 0x99):
+        s.request(command(0x45, *s.some_file(written)))
+    s.request(command(0x47, name << 4 | 1 if erased is None else address_of(erased)))
+    s.erase(s.node.flash_words)
+    s.request(command(0x45, *s.some_file(name)))
+    s.request(command(0x05, name << 4))
+    s.state()
+
+
 def files(s):
     """Files written, read, tested, loaded, erased in steps, damaged, and started over."""
     for turn in range(265):
@@ -115,12 +131,11 @@ def long_files(s):
                 for number in (0x05, 0x06, 0x46):
                     s.request(command(number, sector << 4), show=16 if number == 0x05 else 4)
                 s.request(command(0x48, sector << 4, 1))
-    # a file of many segments, the last of which ends a full sector
+    # files of many segments
     for sector, count in ((3, 14), (4, 13), (10, 2)):
         s.fresh(CDDC, 4, BENCH, pm=200, dm=200, io=200)
         words = file_of([s.some_segment(pick.choice((PM, DM, IO))) for _ in range(count)], name=sector)
         s.poke(FLASH, extent(BENCH, sector).start, words)
-        s.poke(FLASH, extent(BENCH, sector).start + len(words), s.anything(3))
         s.start()
         for number in (0x05, 0x06, 0x46, 0x07):
             s.request(command(number, sector << 4)[:1 if number == 0x07 else 2])

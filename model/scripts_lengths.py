@@ -4,17 +4,10 @@ from flash import SECTORS, address_of, extent
 from node import CDDC
 from node_lines import DIRECTORY, FLASH
 from script import BENCH, FULL, command
-from scripts_writes import length_of, long_file, packets, send
+from scripts_flash import each_file_command
+from scripts_writes import long_file, packets, poke_file, send
 
 GOOD, FILLED, BAD, EMPTY = SECTORS[:4]  # what a sector is in `four_kinds`
-
-
-def poke_file(s, sector, runs):
-    """Puts a file at a sector's start, by no call."""
-    at = extent(s.node.flash_words, sector).start
-    for run in runs:
-        s.poke(FLASH, at, run)
-        at += length_of([run])
 
 
 def set_length(s, sector, length):
@@ -72,23 +65,7 @@ def wrong_lengths(s):
             for length in lengths:
                 assert four_kinds(s, size)[sector] != length
                 set_length(s, sector, length)
-                each_command(s, sector)
-    for sector, length in four_kinds(s, FULL).items():  # the right length is no other, whichever word it is
-        set_length(s, sector, length)
-        each_command(s, sector)
-
-
-def each_command(s, sector):
-    s.request(command(0x07))
-    for number in (0x05, 0x06, 0x46):
-        s.request(command(number, sector << 4))
-    for value in (1, 0):
-        s.request(command(0x48, sector << 4, value))
-    s.request(s.long_file(9, 9).behind(command(0x45)))
-    s.request(command(0x47, address_of(sector) if sector == EMPTY else sector << 4 | 1))
-    s.erase(s.node.flash_words)
-    s.request(s.long_file(5, sector).behind(command(0x45)))
-    s.state()
+                each_file_command(s, sector, EMPTY if sector == EMPTY else None)
 
 
 def erasing_lengths(s):

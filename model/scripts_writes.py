@@ -4,7 +4,7 @@ from itertools import chain, repeat
 
 from build import file_of, segment
 from files import DM, PM
-from flash import SECTORS, address_of
+from flash import SECTORS, address_of, extent
 from node import CDDC, CDP, JOINED
 from node_lines import AREA, BUFFER, FLASH, PENDING_NOTHING
 from script import BENCH, FULL, SHOW_AREA, Run, command
@@ -65,6 +65,14 @@ def long_file(s, length, name=0x21):
     bodies = [body] * (count - 1) + [length - 1 - (count - 1) * (body + 2) - 2]
     runs = [Run([1 << 14 | words, 0x2000], words - 1, s.pick.randrange(65536)).sealed(2) for words in bodies]
     return [runs[0].behind([1 << 14 | 3 << 12 | name << 4 | count])] + runs[1:]
+
+
+def poke_file(s, sector, runs):
+    """Puts a file at a sector's start, by no call."""
+    at = extent(s.node.flash_words, sector).start
+    for run in runs:
+        s.poke(FLASH, at, run)
+        at += length_of([run])
 
 
 def short(words):

@@ -1,6 +1,6 @@
 #!/usr/bin/env python3
 """The model against documents 01 and 02: each example of 01, the lines of the bench, what 01 says of every call, and what 02 says of
-files that come in several packets, of the masks at start and of the lengths in the summary."""
+files that come in several packets, of the masks at start, of the lengths in the summary and of remains behind a file."""
 
 import random
 import unittest
@@ -9,7 +9,7 @@ from dataclasses import replace
 from build import file_of, segment
 from fcs import fcs
 from files import DM, IO, PM
-from flash import SECTORS, address_of, attributed, directory_of, extent
+from flash import SECTORS, address_of, attributed, directory_of, extent, kept
 from group import ABORT, AREA, END, ERROR, NEXT, Answer, fragment, is_late
 from memory import index, read
 from node import CDDC, CDP, ZEROS, Lent, Pending, Write, erase, poll, reply, request, start
@@ -307,6 +307,54 @@ class Lengths(unittest.TestCase):
         self.assertEqual(self.lengths(), [7, 1, 7, 0, 0, 0, 0, 0])
         self.assertEqual(self.send(own(0x47, 0x0400)), ("reply", END, 0))
         self.assertEqual(self.lengths(), [7, 0, 7, 0, 0, 0, 0, 0])
+
+
+class Remains(unittest.TestCase):
+    """02, request 5."""
+
+    FILE = file_of([segment(DM, 0x2000, [1, 2, 3])], kind=1, name=0x42)
+
+    def entry(self, size, sector, file, at=None):
+        """The entry of a sector that has a file and, at one of its places, a word with a cleared bit."""
+        memories, places = lent(size), extent(size, sector)
+        memories.flash[places.start:places.start + len(file)] = file
+        if at is not None:
+            memories.flash[places[at]] ^= 1 << at % 16
+        self.lent, self.node = memories, start(CDP, 1, 0, 0, 0, 0, 0, memories.flash)[0]
+        return kept(list(self.node.directory), sector)
+
+    def send(self, *packet):
+        self.node, answer = request(self.node, self.lent, 0, 0, 3, 0, own(*packet))
+        return answer
+
+    def test_a_word_behind_the_file(self):
+        for size, sector in ((BENCH, 3), (BENCH, 10), (262144, 3), (262144, 4)):
+            address, words = address_of(sector), len(extent(size, sector))
+            self.assertEqual(self.entry(size, sector, self.FILE), [self.FILE[0], address, 0, 7])
+            for at in (7, 8, words // 2, words - 2, words - 1):
+                self.assertEqual(self.entry(size, sector, self.FILE, at), [self.FILE[0], address, 0x8000, 0])
+
+    def test_a_file_that_fills_its_sector(self):
+        for sector, words in ((3, 2048), (10, 4096)):
+            file = long_file(words, random.Random(6))
+            self.assertEqual(self.entry(BENCH, sector, file)[2:], [0, words])
+            self.assertEqual(self.entry(BENCH, sector, long_file(words - 1, random.Random(6)), words - 1)[2:], [0x8000, 0])
+        flash = lent().flash
+        flash[2048:4097] = [*long_file(2048, random.Random(6)), 0]  # the 0 is sector 4's
+        self.assertEqual(start(CDP, 1, 0, 0, 0, 0, 0, flash)[0].directory[2:7], (0, 2048, 0, 0x0400, 0x8000))
+
+    def test_the_commands_follow(self):
+        self.entry(BENCH, 3, self.FILE, 2047)
+        self.assertEqual(self.send(0x05, 0x0420), ("reply", ABORT, 0))
+        self.assertEqual((self.send(0x06, 0x0420), self.lent.reply[0]), (("reply", 3, 3), 0x8000))
+        self.assertEqual(self.send(0x46, 0x0420), ("reply", ABORT, 0))
+        self.assertEqual(self.node.flash_errors, 3)
+        self.assertEqual(self.send(0x48, 0x0420, 0), ("reply", ABORT, 0))
+        self.assertEqual(self.send(0x45, *self.FILE), ("reply", ABORT, 0))
+        self.assertEqual(self.send(0x47, 0x0421), ("reply", END, 0))
+        self.node, _ = erase(self.node, self.lent.flash, 2048)
+        self.assertEqual(self.send(0x45, *self.FILE), ("reply", END, 0))
+        self.assertEqual((self.send(0x05, 0x0420), self.node.flash_errors), (("reply", 3, 9), 3))
 
 
 def long_file(length, pick):

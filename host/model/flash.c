@@ -1,4 +1,4 @@
-/* 01 'Flash', and request 6 of 02: sectors, the directory, names, placing, attributes. */
+/* 01 'Flash', and requests 5 and 6 of 02: sectors, the directory, names, placing, attributes. */
 #include "model.h"
 
 /* With U a sixteenth: words 0 to U-1 are sectors 0-2, sector 3 has U words, sectors 4-10 have 2U each. */
@@ -30,22 +30,26 @@ static const uint8_t *sector_bytes(struct run flash, unsigned sector) {
     return flash.bytes + 2 * model_sector_start(flash.words, sector);
 }
 
-static bool is_empty(struct run flash, unsigned sector) {
+/* Whether a sector's words are FFFF from one of them on. */
+static bool is_blank(struct run flash, unsigned sector, size_t from) {
     const uint8_t *bytes = sector_bytes(flash, sector);
-    for (size_t i = 0; i < 2 * model_sector_size(flash.words, sector); i++)
-        if (bytes[i] != 0xFF)
+    size_t size = model_sector_size(flash.words, sector);
+    for (size_t i = from; i < size; i++)
+        if (word_at(bytes, i) != 0xFFFF)
             return false;
     return true;
 }
 
+/* The length of the file that makes a sector good, 0 where none does: nothing but FFFF stands behind it (02, request 5). */
 static size_t file_in(struct run flash, unsigned sector) {
-    return model_file_length(sector_bytes(flash, sector), model_sector_size(flash.words, sector));
+    size_t length = model_file_length(sector_bytes(flash, sector), model_sector_size(flash.words, sector));
+    return length != 0 && is_blank(flash, sector, length) ? length : 0;
 }
 
 void model_directory(uint16_t *directory, struct run flash) {
     for (unsigned sector = SECTOR_FIRST; sector <= SECTOR_LAST; sector++) {
         size_t length = file_in(flash, sector);
-        bool bad = length == 0 && !is_empty(flash, sector);
+        bool bad = length == 0 && !is_blank(flash, sector, 0);
         model_lay_entry(directory, sector, word_at(sector_bytes(flash, sector), 0), bad ? 0x8000 : 0, length);
     }
 }
@@ -68,7 +72,7 @@ size_t model_good_file(const uint16_t *directory, struct run flash, unsigned sec
 
 unsigned model_place(const uint16_t *directory, struct run flash, size_t length) {
     for (unsigned sector = SECTOR_FIRST; sector <= SECTOR_LAST; sector++)
-        if (length <= model_sector_size(flash.words, sector) && has_entry(directory, sector, 0xFFFF, 0) && is_empty(flash, sector))
+        if (length <= model_sector_size(flash.words, sector) && has_entry(directory, sector, 0xFFFF, 0) && is_blank(flash, sector, 0))
             return sector;
     return 0;
 }
