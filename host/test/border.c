@@ -1,5 +1,5 @@
 /* Tests of the border: each refusal and their order, odd lengths, NULL with length 0, guard bytes round every run, alignment, files
-   in several packets, lengths in the directory, the parts of what is answered, and the layout of the state. Every run stands between
+   in several packets, lengths in the directory, remains behind a file, the parts of what is answered, and the layout of the state. Every run stands between
    guard bytes; after each call they are looked at, and after a refused one every byte of every run too. */
 #include "../../include/logodwen.h"
 
@@ -496,6 +496,41 @@ static void test_lengths(void) {
           && logodwen_get(entry_word(5, 2), 0) == 0x8000);
 }
 
+/* Words behind a file that are not all FFFF make its sector bad; the sector's last word counts, and the next sector's first does not (02,
+   request 5). */
+static void test_remains(void) {
+    const size_t words[] = {6, 7, 1000, 2046, 2047}, start = logodwen_sector_start(3);
+    for (size_t i = 0; i < sizeof words / sizeof *words; i++) {
+        lend_with(0);
+        file_write(0x7211);
+        CHECK(REQUEST(1000, 0, LOGODWEN_BC_WHOLE, 0) == zero_length(LOGODWEN_BC_END));
+        logodwen_put(runs[FLASH], start + words[i], (uint16_t)(0xFFFF ^ 1u << 3 * i));
+        CHECK_BAD(); /* its entry differs now */
+        CHECK(START(LOGODWEN_CDDC, 2, 0) == LOGODWEN_DONE && logodwen_get(entry_word(3, 2), 0) == 0x8000 && kept_length(3) == 0);
+        CHECK_BAD();
+        file_write(0x7211);
+        CHECK(REQUEST(1000, 0, LOGODWEN_BC_WHOLE, 0) == zero_length(LOGODWEN_BC_ABORT)); /* the name is used */
+        PACKET_OF(0x472E, 0x0211);
+        CHECK(REQUEST(1000, 0, LOGODWEN_BC_WHOLE, 0) == zero_length(LOGODWEN_BC_END) && ERASE(2048) == (uint64_t)2048 << 32);
+        file_write(0x7211);
+        CHECK(REQUEST(1000, 0, LOGODWEN_BC_WHOLE, 0) == zero_length(LOGODWEN_BC_END) && kept_length(3) == 6);
+    }
+    for (size_t length = 2047; length <= 2048; length++) { /* with one word behind it, and with none */
+        lend_with(0);
+        uint8_t *file = runs[FLASH] + 2 * start;
+        logodwen_put(file, 0, 0x7211);
+        logodwen_put(file, 1, (uint16_t)(0x4000 | (length - 3)));
+        logodwen_put(file, 2, 0x2000);
+        for (size_t at = 3; at < length - 1; at++)
+            logodwen_put(file, at, (uint16_t)(at * 7));
+        logodwen_put(file, length - 1, logodwen_fcs(file + 6, length - 4));
+        logodwen_put(file, 2048, 0); /* sector 4 */
+        CHECK(START(LOGODWEN_CDDC, 2, 0) == LOGODWEN_DONE && kept_length(3) == length && kept_length(4) == 0);
+        PACKET_OF(0x052E, 0x0210);
+        CHECK(REQUEST(1000, 0, LOGODWEN_BC_WHOLE, 0) == with_words(length + 2));
+    }
+}
+
 static void test_group(void) {
     lay_out(3);
     CHECK(START(LOGODWEN_CDDC, 2, 0) == LOGODWEN_DONE);
@@ -752,6 +787,7 @@ int main(void) {
     test_null();
     test_alignment();
     test_lengths();
+    test_remains();
     test_group();
     test_area();
     test_joining();

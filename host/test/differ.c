@@ -743,6 +743,24 @@ static void step_entry(void) {
         put_state_word(at, before);
 }
 
+/* A bit behind a file, in the first word there, in the sector's last or in any, and commands on that file. */
+static void step_remains(void) {
+    unsigned place = below(8);
+    size_t begin = 2 * logodwen_sector_start(3 + place), words = logodwen_sector_words(3 + place);
+    size_t length = model_file_length(model[FLASH_RUN] + begin, words);
+    if (length == 0 || length == words)
+        return;
+    size_t behind = one_in(3) ? length : one_in(2) ? words - 1 : length + below((uint32_t)(words - length));
+    size_t at = begin + 2 * behind + below(2);
+    uint8_t before = model[FLASH_RUN][at];
+    put_both(FLASH_RUN, at, before ^ (uint8_t)(1 << below(8)));
+    if (one_in(2))
+        start(1 + below(2));
+    step_file(place);
+    if (!one_in(4))
+        put_both(FLASH_RUN, at, before);
+}
+
 /* Other lengths for one call. */
 static void step_lengths(void) {
     size_t before[RUNS];
@@ -797,8 +815,8 @@ static void step(void) {
         step_erase();
     else if (one_in(40))
         step_flash();
-    else if (one_in(60))
-        step_entry();
+    else if (one_in(40))
+        one_in(2) ? step_entry() : step_remains();
     else if (one_in(25))
         step_state();
     else if (one_in(25))
@@ -807,7 +825,7 @@ static void step(void) {
         one_in(2) ? (void)call_poll() : step_erase();
     else if (one_in(100))
         step_start();
-    else if (standing().stands ? one_in(6) : !one_in(3))
+    else if (standing().stands ? one_in(8) : !one_in(3))
         step_request();
     else
         step_write();
