@@ -76,6 +76,11 @@ bool plain_is_empty(const uint16_t *sector, size_t n) {
     return true;
 }
 
+size_t plain_good_file(const uint16_t *sector, size_t n) {
+    size_t length = plain_file_end(sector, n);
+    return length != 0 && plain_is_empty(sector + length, n - length) ? length : 0;
+}
+
 void plain_lay_file(uint16_t *words, size_t n) {
     enum { LONGEST = 16383 };
     size_t at = 1;

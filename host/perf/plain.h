@@ -17,7 +17,11 @@ size_t plain_sector_start(size_t flash, size_t sector);
 size_t plain_sector_size(size_t flash, size_t sector);
 uint16_t plain_sector_address(size_t sector);
 
+/* Whether words are FFFF, one by one up to the first that isn't: a run that is all of a sector, or what stands behind its file. */
 bool plain_is_empty(const uint16_t *sector, size_t n);
+
+/* The length of the file of a good sector, which has nothing behind it (02, request 5), or 0: one pass over the sector. */
+size_t plain_good_file(const uint16_t *sector, size_t n);
 
 /* Lays a file of DM segments that fills a run. */
 void plain_lay_file(uint16_t *words, size_t n);
