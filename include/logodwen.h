@@ -453,7 +453,8 @@ static inline uint32_t logodwen_segment_word(const struct logodwen_segment *segm
            | segment->body[logodwen_body_byte(3 * i + 2)];
 }
 
-/* The length of the valid file that some words begin with, and its header; 0 where there is none. Its segments stand from word 1 on:
+/* The length of the valid file that some words begin with, and its header; 0 where there is none. What stands behind it is not looked at; in
+   a sector every word there must be FFFF, or the sector is bad. The file's segments stand from word 1 on:
 
        for (size_t at = 1; at < length; ) { at = logodwen_read_segment(words, length, at, &segment); .. } */
 static inline size_t logodwen_read_file(const uint8_t *words, size_t count, struct logodwen_header *header) {
@@ -808,10 +809,10 @@ static inline bool logodwen_read_status(const uint8_t *reply, size_t words, stru
 }
 
 /* What a sector is. */
-#define LOGODWEN_SECTOR_EMPTY 0u
-#define LOGODWEN_SECTOR_GOOD 1u
-#define LOGODWEN_SECTOR_BAD 2u
-#define LOGODWEN_SECTOR_ERASING 3u
+#define LOGODWEN_SECTOR_EMPTY 0u   /* all its words are FFFF */
+#define LOGODWEN_SECTOR_GOOD 1u    /* a valid file begins it, and all words behind the file are FFFF */
+#define LOGODWEN_SECTOR_BAD 2u     /* neither: also where a valid file has old words behind it */
+#define LOGODWEN_SECTOR_ERASING 3u /* it is being erased */
 
 /* What the directory says of a sector. */
 struct logodwen_entry {
