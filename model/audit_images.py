@@ -6,7 +6,8 @@
 Below FOLDER: `apart`, 200 images for flashes of their own; `together`, for one flash; `first` and `second`, for a flash that is kept,
 with what it holds then (`first.flash`, `second.flash`); `bad`, for `bad.flash`, which has bad sectors; `each`, an image for
 a library that reads each word wrong once. The report on each is in NAME.report; those on examples/images are in examples.report, a flash
-each, and in kept.report, the good ones in one."""
+each, and in kept.report, the good ones in one. `bad` has two more reports: wrong.report is without --summary, and mended.report with the
+sectors erased that have words behind their file."""
 
 import pathlib
 import random
@@ -235,14 +236,17 @@ def second(pick):
 
 
 def bad_flash(pick):
-    """Sector 3 a file with a wrong bit, 4 words that begin no file, 5 a good file with words behind it, 6 one bit cleared at its end,
-    7 a file of the name that sector 3 has."""
+    """Sector 3 a file with a wrong bit, 4 words that begin no file, 5 a file with words behind it, 6 one bit cleared at its end,
+    7 a file of the name that sector 3 has, 8 a file with one bit cleared at the sector's end, 9 a file that goes past its end."""
     flash = [0xFFFF] * 32768
     store(flash, 3, with_bit(pick, exactly(pick, 50, 0x41), 3, 49))
     store(flash, 4, [0x8000, 1, 2, 3])
-    store(flash, 5, exactly(pick, 60, 0x42) + [1, 2, 3])
+    store(flash, 5, exactly(pick, 60, 0x42) + [0xFFFF, 1, 2, 3])
     store(flash, 7, exactly(pick, 70, 0x41))
-    flash[extent(32768, 6)[-1]] = 0x7FFF
+    store(flash, 8, exactly(pick, 80, 0x44))
+    store(flash, 9, exactly(pick, 5000, 0x45)[:4096])
+    for sector in (6, 8):
+        flash[extent(32768, sector)[-1]] = 0x7FFF
     return flash
 
 
@@ -280,9 +284,14 @@ def write_all(folder, pick):
 
     flash = bad_flash(pick)
     (folder / "bad.flash").write_bytes(raw(flash))
+    bench = Bench(list(flash))
+    images = write_images(folder / "bad", [("%02X" % name, raw(exactly(pick, 70, name))) for name in (0x41, 0x42, 0x43)])
+    told = report(images, bench)
+    (folder / "bad.report").write_text(told + bench.table())
+    (folder / "wrong.report").write_text(told + bench.wrong())
     bench = Bench(flash)
-    images = write_images(folder / "bad", [("41", raw(exactly(pick, 70, 0x41))), ("43", raw(exactly(pick, 70, 0x43)))])
-    (folder / "bad.report").write_text(report(images, bench) + bench.table())
+    erased = bench.erased(5) + bench.erased(8)
+    (folder / "mended.report").write_text(erased + report(images, bench) + bench.table())
 
     image = in_rows(any_file(pick, 5))
     (folder / "each").write_bytes(image)

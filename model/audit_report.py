@@ -1,10 +1,11 @@
 """What host/audit must print of an image, worked out by the model: how its bytes are read, which rule of 01 'Files and memories' it
-breaks, and what the node answers to it. The words of the report are those that host/audit --help tells."""
+breaks, and what the node answers to it; and of a flash, what its directory has, and which rule a bad sector breaks (01 'Flash', 02 requests 5
+and 6). The words of the report are those that host/audit --help tells."""
 
 import re
 
 from files import BYTES, MEMORIES, PAGES, PM, file_length, may_start, name_of, permitted, unpacked
-from flash import BAD, EMPTY, GOOD, SECTORS, address_of, afresh, kept, named, words_in
+from flash import BAD, BLANK, EMPTY, GOOD, SECTORS, address_of, afresh, kept, named, words_in
 from group import ABORT, AREA, END, NEXT
 from node import CDP, JOINED, Lent, erase, request, start
 from runs import check_sequence
@@ -81,11 +82,11 @@ def words_of(data):
 # The rules.
 
 
-def segment_rule(words, at, which):
-    """The rule that the segment at a place breaks, or None; and the place past it."""
+def segment_rule(words, at, which, whole):
+    """The rule that the segment at a place breaks, or None; and the place past it. The words are those of a whole, an image or a sector."""
     missing = at + 2 - len(words)
     if missing > 0:
-        return "word %d: the image ends in %s; header words missing: %d" % (len(words), which, missing), None
+        return "word %d: the %s ends in %s; header words missing: %d" % (len(words), whole, which, missing), None
     memory, length, page = MEMORIES[words[at] >> 14], words[at] & 0x3FFF, words[at + 1] >> 14
     if not permitted(memory, length):
         return "word %d: %s is %s of length %d; %s has %s" % (at, which, memory, length, memory, LENGTHS[memory]), None
@@ -93,7 +94,7 @@ def segment_rule(words, at, which):
         return "word %d: %s is %s with page 01; a page is 00, 10 or 11" % (at + 1, which, memory), None
     past = at + 2 + length * BYTES[memory] // 2
     if past > len(words):
-        return "word %d: the image ends in %s; body words missing: %d" % (len(words), which, past - len(words)), None
+        return "word %d: the %s ends in %s; body words missing: %d" % (len(words), whole, which, past - len(words)), None
     body = words[at + 2:past]
     last = unpacked(memory, body, length)[-1]
     if last >> 16:
@@ -111,21 +112,42 @@ def broken_rule(words):
 
 
 def first_broken(words):
+    rule, end = walked(words, "image")
+    if rule is None and end < len(words):
+        count = words[0] & 15
+        return "word %d: the file ended with segment %d of %d; words left over: %d" % (end, count, count, len(words) - end)
+    return rule
+
+
+def walked(words, whole):
+    """The first rule that keeps a valid file from beginning the words, or None; and the place past it."""
     if not words:
-        return "word 0: there are no words; a file begins with a header word"
+        return "word 0: there are no words; a file begins with a header word", None
     kind, count = words[0] >> 14, words[0] & 15
     if kind > 1:
-        return "word 0: header %04X has type %s; a file has type 00 (program) or 01 (data)" % (words[0], format(kind, "02b"))
+        return "word 0: header %04X has type %s; a file has type 00 (program) or 01 (data)" % (words[0], format(kind, "02b")), None
     if not may_start(words[0]):
-        return "word 0: header %04X has %d segments; a file has 1 to 14" % (words[0], count)
+        return "word 0: header %04X has %d segments; a file has 1 to 14" % (words[0], count), None
     at = 1
     for number in range(1, count + 1):
-        rule, at = segment_rule(words, at, "segment %d of %d" % (number, count))
+        rule, at = segment_rule(words, at, "segment %d of %d" % (number, count), whole)
         if rule:
-            return rule
-    if at < len(words):
-        return "word %d: the file ended with segment %d of %d; words left over: %d" % (at, count, count, len(words) - at)
-    return None
+            return rule, None
+    return None, at
+
+
+def sector_rule(words):
+    """The rule that makes a sector bad, or None where it is empty or good: 01 'Flash'; 02, request 5."""
+    cleared = [at for at, word in enumerate(words) if word != BLANK]
+    if cleared and cleared[0] > 0:
+        at = cleared[0]
+        return "word %d: %04X stands in a sector without a file; all its words should be FFFF" % (at, words[at])
+    rule, end = walked(words, "sector") if cleared else (None, len(words))
+    behind = [at for at in cleared if rule is None and at >= end]
+    if behind:
+        at = behind[0]
+        return "word %d: %04X stands behind the file, which has %d words; all words there should be FFFF" % (at, words[at], end)
+    return rule
 
 
 # The node.
@@ -162,8 +184,10 @@ class Bench:
         if len(words) > 4096:
             return "TOO-LARGE", "%d words; %s" % (len(words), HOLDS)
         if holder is not None:
+            rule = self.rule(holder)
+            bad = ", and is bad (%s)" % rule if rule else ""
             erasing = "erase it first (--erase %02X), or audit this image alone" % name_of(words[0])
-            return "NAME-USED", "sector %d has this name; %s" % (holder, erasing)
+            return "NAME-USED", "sector %d has this name%s; %s" % (holder, bad, erasing)
         erasing = "erase a file first (--erase NAME), or audit this image alone"
         return "NO-ROOM", "no empty sector has room for %d words; %s" % (len(words), erasing)
 
@@ -201,19 +225,40 @@ class Bench:
         self.node, (_, count) = erase(self.node, self.lent.flash, 32768)
         return "# erased: sector %d, %d words\n" % (sector, count)
 
+    def rule(self, sector):
+        """The rule that a bad sector breaks, or None."""
+        rule = sector_rule(words_in(self.lent.flash, sector))
+        assert (rule is not None) == (afresh(self.lent.flash, sector)[0] == BAD), (sector, rule)
+        return rule
+
+    def details(self):
+        """What is wrong with each sector that has something wrong, and what to do."""
+        rules = {sector: self.rule(sector) for sector in SECTORS}
+        return {sector: "%s; erase the sector (--erase-sector %d)" % (rule, sector) for sector, rule in rules.items() if rule}
+
+    def entry(self, sector):
+        """First word, status and length of a sector, by the directory; the length is 0 unless it is good (02, request 6)."""
+        first, _, _, length = kept(list(self.node.directory), sector)
+        status, words = afresh(self.lent.flash, sector)[0], words_in(self.lent.flash, sector)
+        assert status in (EMPTY, GOOD, BAD) and words[0] == first
+        assert length == (file_length(words) if status == GOOD else 0)
+        return first, status, length
+
     def table(self):
-        """The directory, with the lengths of good files in its fourth words (02, request 6)."""
-        lines = ["# sector\tname\ttype\tattribute\twords\tstatus\n"]
+        """The directory."""
+        lines, details = ["# sector\tname\ttype\tattribute\twords\tstatus\tdetail\n"], self.details()
         for sector in SECTORS:
-            first, _, _, length = kept(list(self.node.directory), sector)
-            status = afresh(self.lent.flash, sector)[0]
-            assert status in (EMPTY, GOOD, BAD) and words_in(self.lent.flash, sector)[0] == first
-            assert length == (file_length(words_in(self.lent.flash, sector)) if status == GOOD else 0)
+            first, status, length = self.entry(sector)
             told = ["-", "-", "-"]
             if may_start(first):
                 told = ["%02X" % name_of(first), ("program", "data")[first >> 14], "default" if first >> 12 & 3 == 2 else "plain"]
-            lines.append("\t".join([str(sector), *told, str(length or "-"), status]) + "\n")
+            detail = [details[sector]] if sector in details else []
+            lines.append("\t".join([str(sector), *told, str(length or "-"), status, *detail]) + "\n")
         return "".join(lines)
+
+    def wrong(self):
+        """What is wrong in the directory, where the table isn't asked for."""
+        return "".join("# sector %d, %s: %s\n" % (sector, self.entry(sector)[1], detail) for sector, detail in self.details().items())
 
 
 # Whole reports.

@@ -107,8 +107,9 @@ bool hex_is_ascii(const uint8_t *bytes, size_t count);
 
 /* The rules for a file (rules.c). */
 
-/* The length of the valid file that begins some words; 0 where there is none, with the rule that is broken, and at which word. */
-size_t rules_file_length(const uint8_t *words, size_t count, char *why);
+/* The length of the valid file that begins some words, those of an image or of a sector (`whole`); 0 where there is none, with the rule that
+   is broken, and at which word. */
+size_t rules_file_length(const uint8_t *words, size_t count, const char *whole, char *why);
 
 /* Whether the words are a valid file and no word more. */
 bool rules_is_file(const uint8_t *words, size_t count, char *why);
@@ -146,8 +147,14 @@ unsigned directory_place(const struct entry *directory, size_t words);  /* the l
 
 /* What a sector is by the rules (sector.c). */
 
+/* Whether a sector is bad by the rules; the one that is broken, and at which word. */
+bool sector_is_bad(const struct logodwen_node *node, unsigned sector, char *rule);
+
 /* Whether the directory says of a sector what its words are by the rules; where not, how the two differ. */
 bool sector_is_right(const struct logodwen_node *node, unsigned sector, struct entry entry, char *why);
+
+/* What is wrong with a sector, and what to do about it; no text where nothing is. */
+void sector_detail(const struct logodwen_node *node, unsigned sector, char *detail);
 
 /* The verdict on an image (verdict.c). */
 
@@ -191,7 +198,7 @@ void report_columns(void);
 void report_erased(unsigned sector, unsigned words);
 void report_left_out(const char *path, const char *why);
 void report_finding(const char *path, const struct finding *finding);
-bool report_directory(struct logodwen_node *node, char *why);
+bool report_directory(struct logodwen_node *node, bool is_whole, char *why); /* all of it as a table, or what is wrong in it */
 void report_totals(const size_t *totals, size_t left_out);
 void report_version(void);
 void report_progress(size_t done, size_t of);

@@ -174,7 +174,7 @@ static void run(struct audit *audit) {
         return;
     if (options->path_count > 0)
         audit_images(audit);
-    if (options->summary && !report_directory(&audit->node, audit->why))
+    if (options->together && !report_directory(&audit->node, options->summary, audit->why))
         complain(audit, NOT_TRUSTED);
     if (options->keep)
         keep(audit);

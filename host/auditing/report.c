@@ -203,9 +203,10 @@ void report_totals(const size_t *totals, size_t left_out) {
     printf("\n");
 }
 
-/* The directory, as the node has it: what each sector is, and the length of a good file (02, request 6). */
+/* The directory, as the node has it: what each sector is, and the length of a good file (02, request 6). The detail is this program's: what is
+   wrong with a sector, and what to do. */
 
-static void print_sector(unsigned sector, struct entry entry) {
+static void print_sector(unsigned sector, struct entry entry, const char *detail) {
     bool has_name = rules_may_begin(entry.first);
     const char *type = entry.first >> 14 == 0 ? "program" : "data", *attribute = (entry.first >> 12 & 3u) == 2 ? "default" : "plain";
     if (is_json) {
@@ -216,6 +217,7 @@ static void print_sector(unsigned sector, struct entry entry) {
         print_text("attribute", has_name ? attribute : NULL);
         print_number("words", entry.words != 0, entry.words);
         print_text("status", entry_status(entry));
+        print_text("detail", detail[0] != 0 ? detail : NULL);
         end_object();
         return;
     }
@@ -223,20 +225,31 @@ static void print_sector(unsigned sector, struct entry entry) {
     print_field(has_name, "%02X", name_of(entry.first));
     printf("\t%s\t%s", has_name ? type : "-", has_name ? attribute : "-");
     print_field(entry.words != 0, "%u", entry.words);
-    printf("\t%s\n", entry_status(entry));
+    printf("\t%s%s%s\n", entry_status(entry), detail[0] != 0 ? "\t" : "", detail);
 }
 
-bool report_directory(struct logodwen_node *node, char *why) {
+/* A sector by itself, where there is something wrong with it. */
+static void print_wrong_sector(unsigned sector, struct entry entry, const char *detail) {
+    if (detail[0] == 0)
+        return;
+    if (is_json)
+        print_sector(sector, entry, detail);
+    else
+        printf("# sector %u, %s: %s\n", sector, entry_status(entry), detail);
+}
+
+bool report_directory(struct logodwen_node *node, bool is_whole, char *why) {
     struct entry directory[SECTORS];
     if (!node_directory(node, directory))
         return say(why, "DISPUTED: Flash Summary was not answered with a directory");
     bool is_right = true;
-    if (!is_json)
-        printf("# sector\tname\ttype\tattribute\twords\tstatus\n");
+    if (is_whole && !is_json)
+        printf("# sector\tname\ttype\tattribute\twords\tstatus\tdetail\n");
     for (unsigned sector = SECTOR_FIRST; sector <= SECTOR_LAST; sector++) {
         struct entry entry = directory[sector - SECTOR_FIRST];
-        char difference[TEXT];
-        print_sector(sector, entry);
+        char detail[TEXT], difference[TEXT];
+        sector_detail(node, sector, detail);
+        (is_whole ? print_sector : print_wrong_sector)(sector, entry, detail);
         if (is_right && !sector_is_right(node, sector, entry, difference))
             is_right = say(why, "DISPUTED: %s; one of the two has a fault, so please report it with the flash", difference);
     }

@@ -2,9 +2,10 @@
    verdict.c notices where the two disagree. */
 #include "audit.h"
 
-/* Where a segment stands, for a message: "segment 2 of 3". */
+/* Where a segment stands, for a message: "segment 2 of 3" of an image, or of a sector. */
 struct which {
     unsigned segment, of;
+    const char *whole;
 };
 
 /* Bits 15-14 of a segment's first word: its memory, which lengths it permits, and whether its page counts. */
@@ -54,7 +55,7 @@ static bool is_body_right(const uint8_t *words, size_t body, size_t size, bool i
 static bool are_there(size_t count, size_t end, const char *part, struct which which, char *why) {
     if (end <= count)
         return true;
-    return say(why, "word %zu: the image ends in segment %u of %u; %s words missing: %zu", count, which.segment, which.of, part,
+    return say(why, "word %zu: the %s ends in segment %u of %u; %s words missing: %zu", count, which.whole, which.segment, which.of, part,
                end - count);
 }
 
@@ -82,10 +83,10 @@ static bool is_first_word_right(const uint8_t *words, size_t count, char *why) {
     return true;
 }
 
-size_t rules_file_length(const uint8_t *words, size_t count, char *why) {
+size_t rules_file_length(const uint8_t *words, size_t count, const char *whole, char *why) {
     if (!is_first_word_right(words, count, why))
         return 0;
-    struct which which = {1, logodwen_get(words, 0) & 15u};
+    struct which which = {1, logodwen_get(words, 0) & 15u, whole};
     size_t at = 1;
     for (; at != 0 && which.segment <= which.of; which.segment++)
         at = past_segment(words, count, at, which, why);
@@ -93,7 +94,7 @@ size_t rules_file_length(const uint8_t *words, size_t count, char *why) {
 }
 
 bool rules_is_file(const uint8_t *words, size_t count, char *why) {
-    size_t length = rules_file_length(words, count, why);
+    size_t length = rules_file_length(words, count, "image", why);
     if (length == 0 || length == count)
         return length != 0;
     unsigned segments = logodwen_get(words, 0) & 15u;

@@ -1,22 +1,41 @@
-/* What a sector is by 01 'Flash' and 02, worked out from its words. The directory is the node's; this is held against it. */
+/* What a sector is by 01 'Flash' and 02, worked out from its words. The directory is the node's; this is held against it, and knows why a
+   sector is bad. */
 #include "audit.h"
 
-static bool is_blank(const uint8_t *words, size_t count) {
-    size_t at = 0;
+/* The first place from one on where a word is not FFFF; the end where all are. */
+static size_t past_blanks(const uint8_t *words, size_t count, size_t at) {
     while (at < count && logodwen_get(words, at) == 0xFFFFu)
         at++;
-    return at == count;
+    return at;
+}
+
+/* The length of the file in a good sector, 0 where it is bad, with the rule that is broken: a valid file begins it, and all words behind the
+   file are FFFF (02, request 5). `first` is the place of its first word that is not FFFF. */
+static size_t length_if_good(const uint8_t *words, size_t count, size_t first, char *rule) {
+    if (first != 0)
+        return say(rule, "word %zu: %04X stands in a sector without a file; all its words should be FFFF", first,
+                   logodwen_get(words, first));
+    size_t length = rules_file_length(words, count, "sector", rule), remains = past_blanks(words, count, length);
+    if (length == 0 || remains == count)
+        return length;
+    return say(rule, "word %zu: %04X stands behind the file, which has %zu words; all words there should be FFFF", remains,
+               logodwen_get(words, remains), length);
 }
 
 /* The entry that a sector should have. Where it is bad, the rule that is broken. */
 static struct entry entry_by_rules(const struct logodwen_node *node, unsigned sector, char *rule) {
     const uint8_t *words = sector_begin(node, sector);
+    size_t count = sector_words(sector), first = past_blanks(words, count, 0);
     struct entry entry = {logodwen_get(words, 0), LOGODWEN_SECTOR_EMPTY, 0};
-    if (is_blank(words, sector_words(sector)))
+    if (first == count)
         return entry;
-    entry.words = (unsigned)rules_file_length(words, sector_words(sector), rule);
+    entry.words = (unsigned)length_if_good(words, count, first, rule);
     entry.status = entry.words != 0 ? LOGODWEN_SECTOR_GOOD : LOGODWEN_SECTOR_BAD;
     return entry;
+}
+
+bool sector_is_bad(const struct logodwen_node *node, unsigned sector, char *rule) {
+    return entry_by_rules(node, sector, rule).status == LOGODWEN_SECTOR_BAD;
 }
 
 bool sector_is_right(const struct logodwen_node *node, unsigned sector, struct entry entry, char *why) {
@@ -31,4 +50,11 @@ bool sector_is_right(const struct logodwen_node *node, unsigned sector, struct e
     bool is_bad = right.status == LOGODWEN_SECTOR_BAD;
     return say(why, "the directory has sector %u as %s; by the rules it is %s%s%s", sector, said, is, is_bad ? ": " : "",
                is_bad ? rule : "");
+}
+
+void sector_detail(const struct logodwen_node *node, unsigned sector, char *detail) {
+    char rule[TEXT];
+    detail[0] = 0;
+    if (sector_is_bad(node, sector, rule))
+        say(detail, "%s; erase the sector (--erase-sector %u)", rule, sector);
 }

@@ -12,9 +12,19 @@ struct forecast {
 
 static struct forecast refused(enum verdict verdict) { return (struct forecast){.verdict = verdict, .bc = LOGODWEN_BC_ABORT}; }
 
+/* The name of a valid file is used: by which sector, and if that is bad, why. */
+static struct forecast foretell_used(const struct logodwen_node *node, unsigned holder, unsigned name) {
+    struct forecast forecast = refused(NAME_USED);
+    char rule[TEXT];
+    bool is_bad = sector_is_bad(node, holder, rule);
+    say(forecast.why, "sector %u has this name%s%s%s; erase it first (--erase %02X), or audit this image alone", holder,
+        is_bad ? ", and is bad (" : "", is_bad ? rule : "", is_bad ? ")" : "", name);
+    return forecast;
+}
+
 /* The answer to a valid file: its name must be unused, and an empty sector have room. A file that no sector has room for is told apart
    from one that other files leave no room for. */
-static struct forecast foretell_valid(const struct entry *directory, const struct image *image) {
+static struct forecast foretell_valid(const struct logodwen_node *node, const struct entry *directory, const struct image *image) {
     unsigned name = name_of(logodwen_get(image->bytes, 0)), holder = directory_named(directory, name);
     unsigned place = directory_place(directory, image->words);
     struct forecast forecast = {.verdict = AGREES, .bc = LOGODWEN_BC_END, .sector = place};
@@ -22,8 +32,7 @@ static struct forecast foretell_valid(const struct entry *directory, const struc
         forecast = refused(TOO_LARGE);
         say(forecast.why, "%zu words; " FLASH_HOLDS, image->words);
     } else if (holder != 0) {
-        forecast = refused(NAME_USED);
-        say(forecast.why, "sector %u has this name; erase it first (--erase %02X), or audit this image alone", holder, name);
+        forecast = foretell_used(node, holder, name);
     } else if (place == 0) {
         forecast = refused(NO_ROOM);
         say(forecast.why, "no empty sector has room for %zu words; erase a file first (--erase NAME), or audit this image alone",
@@ -33,14 +42,14 @@ static struct forecast foretell_valid(const struct entry *directory, const struc
 }
 
 /* The answer to any image: one that is too long for the packets to join is never looked at, and a file must be valid and exact. */
-static struct forecast foretell(const struct entry *directory, const struct image *image) {
+static struct forecast foretell(const struct logodwen_node *node, const struct entry *directory, const struct image *image) {
     struct forecast forecast = refused(TOO_LARGE);
     if (image->words > LOGODWEN_AREA_WORDS) {
         say(forecast.why, "%zu words; File Write takes at most 32,768, in several packets; " FLASH_HOLDS, image->words);
         return forecast;
     }
     forecast = refused(INVALID);
-    return rules_is_file(image->bytes, image->words, forecast.why) ? foretell_valid(directory, image) : forecast;
+    return rules_is_file(image->bytes, image->words, forecast.why) ? foretell_valid(node, directory, image) : forecast;
 }
 
 /* How many words of an image are sent: all, or up to the packet that makes them more than 32,768, the fifth. */
@@ -105,7 +114,7 @@ static enum verdict write_and_read_back(struct logodwen_node *node, const struct
         say(finding->detail, "Flash Summary was not answered with a directory");
         return DISPUTED;
     }
-    struct forecast forecast = foretell(directory, image);
+    struct forecast forecast = foretell(node, directory, image);
     char answer[TEXT];
     size_t sent, to_send = words_to_send(image);
     uint64_t answered = node_write(node, image->bytes, image->words, &sent);

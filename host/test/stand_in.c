@@ -13,7 +13,8 @@ enum { READ_WRONG = 6, READ_SHORT, READ_UNSEALED, NOTHING_STORED, ALL_ACCEPTED, 
 enum { FIRST_JUDGED = 12, HEADER_JOINED, OTHER_LET_IN, JOINED_TOO_MUCH };                      /* of a file in several packets */
 enum { MASK_0_EMPTY = 16, ALL_MASKS_FULL, CDP_WITH_SLAVES };                                    /* of the masks at start */
 enum { LENGTH_OFF = 19, LENGTH_LEFT };                                                          /* of the lengths in the summary */
-enum { DIRECTORY_BYTES = 64, ENTRY_WORDS = 4, LENGTH = 3 };
+enum { REMAINS_OVERLOOKED = 21 };                                                               /* of words behind a file */
+enum { DIRECTORY_BYTES = 64, ENTRY_WORDS = 4, STATUS = 2, LENGTH = 3 };
 
 static bool is_own(const uint8_t *packet, size_t packet_len, unsigned id) {
     return packet_len >= 2 && packet[0] == 0x2E && packet[1] == id;
@@ -66,6 +67,18 @@ static void masks_with_fault(uint32_t kind, uint8_t *state) {
         logodwen_put_pm(masks, mask, 0xFFFFFF);
 }
 
+/* The directory that an accepted start leaves, with a fault: a sector is good if a file begins it, whatever stands behind that. */
+static void remains_with_fault(const uint8_t *flash, uint8_t *directory) {
+    for (unsigned sector = LOGODWEN_SECTOR_FIRST; FAULT == REMAINS_OVERLOOKED && sector <= LOGODWEN_SECTOR_LAST; sector++) {
+        size_t at = ENTRY_WORDS * (size_t)(sector - LOGODWEN_SECTOR_FIRST);
+        size_t length = model_file_length(flash + 2 * logodwen_sector_start(sector), logodwen_sector_words(sector));
+        if (length != 0) {
+            logodwen_put(directory, at + STATUS, 0);
+            logodwen_put(directory, at + LENGTH, (uint16_t)length);
+        }
+    }
+}
+
 /* The directory that a call leaves, with a fault: a file that is being erased, or was, has its length still. */
 static void lengths_with_fault(const uint8_t *before, uint8_t *directory) {
     for (size_t at = LENGTH; FAULT == LENGTH_LEFT && at < DIRECTORY_BYTES / 2; at += ENTRY_WORDS)
@@ -89,8 +102,10 @@ uint32_t logodwen2_start(uint32_t kind, uint32_t ports, uint32_t subdetector, ui
                          uint8_t *state, size_t state_len) {
     uint32_t refusal = model_start(kind, ports, subdetector, program_version, subdetector_version, start_tests, clock, flash,
                                    flash_len, state, state_len);
-    if (refusal == 0)
+    if (refusal == 0) {
         masks_with_fault(kind, state);
+        remains_with_fault(flash, state + LOGODWEN_AT_DIRECTORY);
+    }
     return refusal;
 }
 
