@@ -236,12 +236,12 @@ def second(pick):
 
 
 def bad_flash(pick):
-    """Sector 3 a file with a wrong bit, 4 words that begin no file, 5 a file with words behind it, 6 one bit cleared at its end,
+    """Sector 3 a file with a wrong bit, 4 words that begin no file, 5 a file with words right behind it, 6 one bit cleared at its end,
     7 a file of the name that sector 3 has, 8 a file with one bit cleared at the sector's end, 9 a file that goes past its end."""
     flash = [0xFFFF] * 32768
     store(flash, 3, with_bit(pick, exactly(pick, 50, 0x41), 3, 49))
     store(flash, 4, [0x8000, 1, 2, 3])
-    store(flash, 5, exactly(pick, 60, 0x42) + [0xFFFF, 1, 2, 3])
+    store(flash, 5, exactly(pick, 60, 0x42) + [1, 2, 3])
     store(flash, 7, exactly(pick, 70, 0x41))
     store(flash, 8, exactly(pick, 80, 0x44))
     store(flash, 9, exactly(pick, 5000, 0x45)[:4096])

@@ -12,9 +12,9 @@ enum { NO_FAULT, STALE_DIRECTORY, REFUSED_YET_CHANGED, ODD_BYTE_CLEARED, CLOCK_C
 enum { READ_WRONG = 6, READ_SHORT, READ_UNSEALED, NOTHING_STORED, ALL_ACCEPTED, ALL_REFUSED }; /* of File Read and File Write */
 enum { FIRST_JUDGED = 12, HEADER_JOINED, OTHER_LET_IN, JOINED_TOO_MUCH };                      /* of a file in several packets */
 enum { MASK_0_EMPTY = 16, ALL_MASKS_FULL, CDP_WITH_SLAVES };                                    /* of the masks at start */
-enum { LENGTH_OFF = 19, LENGTH_LEFT };                                                          /* of the lengths in the summary */
-enum { REMAINS_OVERLOOKED = 21 };                                                               /* of words behind a file */
-enum { DIRECTORY_BYTES = 64, ENTRY_WORDS = 4, STATUS = 2, LENGTH = 3 };
+enum { FIRST_OFF = 19, LENGTH_OFF, LENGTH_LEFT };                                               /* of the summary's words */
+enum { REMAINS_OVERLOOKED = 22 };                                                               /* of words behind a file */
+enum { DIRECTORY_BYTES = 64, ENTRY_WORDS = 4, FIRST = 0, STATUS = 2, LENGTH = 3 };
 
 static bool is_own(const uint8_t *packet, size_t packet_len, unsigned id) {
     return packet_len >= 2 && packet[0] == 0x2E && packet[1] == id;
@@ -86,14 +86,18 @@ static void lengths_with_fault(const uint8_t *before, uint8_t *directory) {
             logodwen_put(directory, at, logodwen_get(before, at));
 }
 
-/* The reply to a Flash Summary, with a fault: it tells a word more of each good file, under a right FCS. */
+/* The reply to a Flash Summary, with a fault: it tells another attribute of each good file, or a word more, under a right FCS. */
 static void summary_with_fault(uint64_t answered, uint8_t *reply) {
     size_t words = logodwen_words(answered);
-    if (FAULT != LENGTH_OFF)
+    if (FAULT != FIRST_OFF && FAULT != LENGTH_OFF)
         return;
-    for (size_t at = LENGTH; at < DIRECTORY_BYTES / 2; at += ENTRY_WORDS)
-        if (logodwen_get(reply, at) != 0)
-            logodwen_put(reply, at, (uint16_t)(logodwen_get(reply, at) + 1));
+    for (size_t at = 0; at < DIRECTORY_BYTES / 2; at += ENTRY_WORDS) {
+        unsigned first = logodwen_get(reply, at + FIRST), length = logodwen_get(reply, at + LENGTH);
+        if (length != 0 && FAULT == FIRST_OFF)
+            logodwen_put(reply, at + FIRST, (uint16_t)(first ^ 0x1000u));
+        if (length != 0 && FAULT == LENGTH_OFF)
+            logodwen_put(reply, at + LENGTH, (uint16_t)(length + 1));
+    }
     logodwen_put(reply, words - 1, logodwen_fcs(reply, words - 1));
 }
 
