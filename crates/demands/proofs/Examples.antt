@@ -4,7 +4,7 @@ use Rattle.fcs.specs.Fcs.{fcsBit, fcsBits, fcsWord, fcsFrom}
 use Rattle.image.specs.Segment.{memoryOf, pageOf, lengthOk, pageOk, spanOf, bodyOk, segmentOk, segmentEnd}
 use Rattle.image.specs.Packing.{bytesOf, numberOf, spread, gather, paired, unpacked}
 use Rattle.flash.specs.Change.{settingOf}
-use Rattle.memory.specs.Map.{lowAt, highAt, indexOf}
+use Rattle.memory.specs.Map.{indexOf}
 use Rattle.memory.specs.Run.{runOf}
 use Rattle.memory.specs.Segment.{isSegment}
 use Rattle.group.specs.Time.{isLate}
@@ -13,7 +13,7 @@ use Rattle.group.specs.Fragment.{statusWord, fragmentOf}
 use Rattle.demands.specs.Examples.{StarredExamples}
 
 pub starred-examples : StarredExamples
-unfolding fcsBit fcsBits fcsWord fcsFrom memoryOf pageOf lengthOk pageOk spanOf bodyOk segmentOk segmentEnd bytesOf numberOf spread gather paired unpacked settingOf lowAt highAt indexOf runOf isSegment isLate dataKind kindOf statusWord fragmentOf
+unfolding fcsBit fcsBits fcsWord fcsFrom memoryOf pageOf lengthOk pageOk spanOf bodyOk segmentOk segmentEnd bytesOf numberOf spread gather paired unpacked settingOf indexOf runOf isSegment isLate dataKind kindOf statusWord fragmentOf
 starred-examples =
     record {
       index = refl;

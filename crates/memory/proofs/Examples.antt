@@ -1,10 +1,10 @@
 -- The examples, by computation. Assumes nothing.
 use mathlib.Core.Path.{refl}
-use Rattle.memory.specs.Map.{lowAt, highAt, indexOf}
+use Rattle.memory.specs.Map.{indexOf}
 use Rattle.memory.specs.Run.{runOf, allBelow, runFits}
 use Rattle.memory.specs.Examples.{Examples}
 
 pub examples : Examples
-unfolding lowAt highAt indexOf runOf allBelow runFits
+unfolding indexOf runOf allBelow runFits
 examples =
     record { dm-across = refl; pm-across = refl; ends = refl; past = refl; pm-most = refl; pm-more = refl; dm-most = refl; dm-more = refl }

@@ -15,9 +15,9 @@ use Rattle.base.proofs.Part.{length-part}
 use Rattle.base.proofs.Laid.{laid-none, laid-cons, laid-laid}
 use Rattle.image.specs.declared.Memory.{Memory}
 use Rattle.image.specs.declared.Page.{Page}
-use Rattle.memory.specs.Map.{lowAt, highAt, indexOf}
+use Rattle.memory.specs.Map.{seen, indexOf}
 use Rattle.memory.specs.Run.{runOf, stretch, lowCount, allBelow, runFits, wordsAt, putAt}
-use Rattle.memory.proofs.Map.{index-low, index-high}
+use Rattle.memory.proofs.Map.{index-next}
 use Rattle.memory.proofs.Run.{run-append, words-append, put-append, length-put, indices-append, fits-tells}
 
 pub length-stretch : (first n : ℕ) → length (stretch first n) ≡ n
@@ -25,48 +25,27 @@ unfolding stretch
 length-stretch first zero = refl
 length-stretch first (suc n) = ap suc (length-stretch (first + 1) n)
 
--- the two halves are straight
-
-run-low : (memory : Memory) (page : Page) (address n : ℕ) → address + n ≤ 0x2000 → runOf memory page address n ≡ stretch (lowAt memory page + address) n
+-- a run inside one half is straight
+half-stretch : (memory : Memory) (page : Page) (address n : ℕ) → seen memory page ≡ true → (address < 0x2000 → address + n ≤ 0x2000) → address + n ≤ 0x4000
+    → runOf memory page address n ≡ stretch (indexOf memory page address) n
 unfolding runOf stretch
-run-low memory page address zero h = refl
-run-low memory page address (suc n) h =
-    let e : lowAt memory page + (address + 1) ≡ lowAt memory page + address + 1 = omega arith in
-    ap₂ (λ (i : ℕ) (l : List ℕ). i ∷ l) (index-low memory page address (omega arith)) (run-low memory page (address + 1) n (omega arith) ∙ ap (λ (i : ℕ). stretch i n) e)
+half-stretch memory page address zero s h k = refl
+half-stretch memory page address (suc zero) s h k = refl
+half-stretch memory page address (suc (suc n)) s h k =
+    let next = index-next memory page address s (λ p. let q = h p in omega arith) (omega arith) in
+    ap (λ (l : List ℕ). indexOf memory page address ∷ l)
+    (half-stretch memory page (address + 1) (suc n) s (λ p. let q = h (omega arith) in omega arith) (omega arith) ∙ ap (λ (i : ℕ). stretch i (suc n)) next)
 
-run-high : (memory : Memory) (page : Page) (address n : ℕ) → 0x2000 ≤ address → runOf memory page address n ≡ stretch (highAt memory page + (address - 0x2000)) n
-unfolding runOf stretch
-run-high memory page address zero h = refl
-run-high memory page address (suc n) h =
-    let e : highAt memory page + (address + 1 - 0x2000) ≡ highAt memory page + (address - 0x2000) + 1 = omega arith in
-    ap₂ (λ (i : ℕ) (l : List ℕ). i ∷ l) (index-high memory page address h) (run-high memory page (address + 1) n (omega arith) ∙ ap (λ (i : ℕ). stretch i n) e)
-
--- so a stretch starts at the index of its first address, where it has one
-
-low-stretch : (memory : Memory) (page : Page) (address n : ℕ) → (0 < n → address + n ≤ 0x2000) → runOf memory page address n ≡ stretch (indexOf memory page address) n
-unfolding runOf stretch
-low-stretch memory page address zero h = refl
-low-stretch memory page address (suc n) h =
-    let k = h (omega arith) in
-    run-low memory page address (suc n) k ∙ ap (λ (i : ℕ). stretch i (suc n)) (sym (index-low memory page address (omega arith)))
-
-high-stretch : (memory : Memory) (page : Page) (address n : ℕ) → (0 < n → 0x2000 ≤ address) → runOf memory page address n ≡ stretch (indexOf memory page address) n
-unfolding runOf stretch
-high-stretch memory page address zero h = refl
-high-stretch memory page address (suc n) h =
-    let k = h (omega arith) in
-    run-high memory page address (suc n) k ∙ ap (λ (i : ℕ). stretch i (suc n)) (sym (index-high memory page address k))
-
--- a run is the stretch below address 2000 and the stretch from there on
-pub run-two : (memory : Memory) (page : Page) (address n k : ℕ) → k ≡ lowCount address n
+-- a run that is seen and ends at 3FFF or before is the stretch below address 2000 and the stretch from there on
+pub run-two : (memory : Memory) (page : Page) (address n k : ℕ) → k ≡ lowCount address n → seen memory page ≡ true → address + n ≤ 0x4000
     → runOf memory page address n ≡ stretch (indexOf memory page address) k ++ stretch (indexOf memory page (address + k)) (n - k)
-run-two memory page address n k e =
-    let s : n ≡ k + (n - k) = omega arith in
-    ap (runOf memory page address) s
+run-two memory page address n k e s h =
+    let d : n ≡ k + (n - k) = omega arith in
+    ap (runOf memory page address) d
     ∙ run-append memory page address k (n - k)
     ∙ ap₂ (λ (a : List ℕ) (b : List ℕ). a ++ b)
-    (low-stretch memory page address k (λ p. omega arith))
-    (high-stretch memory page (address + k) (n - k) (λ p. omega arith))
+    (half-stretch memory page address k s (λ p. omega arith) (omega arith))
+    (half-stretch memory page (address + k) (n - k) s (λ p. omega arith) (omega arith))
 
 -- the indices of a stretch are below a bound if the last one is
 pub below-stretch : (len first n : ℕ) → 0 < n → allBelow len (stretch first n) ≡ leb (first + n) len
@@ -110,15 +89,17 @@ put-stretch ws first (w ∷ new) (suc n) e h =
     put-stretch (set ws first w) (first + 1) new n (omega arith) (λ p. simp length-set (omega arith)) ∙ sym (laid-cons ws first w new (omega arith))
 
 -- the indices of a run are below a bound where those of its stretches are
-pub two-below : (len : ℕ) (memory : Memory) (page : Page) (address n k : ℕ) → k ≡ lowCount address n
+pub two-below : (len : ℕ) (memory : Memory) (page : Page) (address n k : ℕ) → k ≡ lowCount address n → seen memory page ≡ true → address + n ≤ 0x4000
     → allBelow len (runOf memory page address n) ≡ (allBelow len (stretch (indexOf memory page address) k) && allBelow len (stretch (indexOf memory page (address + k)) (n - k)))
-two-below len memory page address n k e =
-    ap (allBelow len) (run-two memory page address n k e)
+two-below len memory page address n k e s h =
+    ap (allBelow len) (run-two memory page address n k e s h)
     ∙ indices-append len (stretch (indexOf memory page address) k) (stretch (indexOf memory page (address + k)) (n - k))
 
 -- a run that fits, as its two stretches: each reaches no further than the memory ..
 
 pub record Reach (len : ℕ) (memory : Memory) (page : Page) (address n k : ℕ) : Type 0 where
+  pub sees : seen memory page ≡ true
+  pub ends : address + n ≤ 0x4000
   pub first : 0 < k → indexOf memory page address + k ≤ len
   pub second : 0 < n - k → indexOf memory page (address + k) + (n - k) ≤ len
 
@@ -128,9 +109,9 @@ fits-reach len memory page address n k e h =
     let j = indexOf memory page (address + k) in
     let a = allBelow len (stretch i k) in
     let b = allBelow len (stretch j (n - k)) in
-    let both : (a && b) ≡ true =
-    sym (two-below len memory page address n k e) ∙ fits-tells len memory page address n h .below in
-    record { first = λ p. leb-true (i + k) len (sym (below-stretch len i k p) ∙ and-left a b both); second = λ p. leb-true (j + (n - k)) len (sym (below-stretch len j (n - k) p) ∙ and-right a b both) }
+    let fits = fits-tells len memory page address n h in
+    let both : (a && b) ≡ true = sym (two-below len memory page address n k e (fits .sees) (fits .ends)) ∙ fits .below in
+    record { sees = fits .sees; ends = fits .ends; first = λ p. leb-true (i + k) len (sym (below-stretch len i k p) ∙ and-left a b both); second = λ p. leb-true (j + (n - k)) len (sym (below-stretch len j (n - k) p) ∙ and-right a b both) }
 
 -- .. its words are two parts of the memory ..
 pub words-reach : (ws : List ℕ) (memory : Memory) (page : Page) (address n k : ℕ) → k ≡ lowCount address n → Reach (length ws) memory page address n k
@@ -138,7 +119,7 @@ pub words-reach : (ws : List ℕ) (memory : Memory) (page : Page) (address n k :
 words-reach ws memory page address n k e r =
     let i = indexOf memory page address in
     let j = indexOf memory page (address + k) in
-    ap (wordsAt ws) (run-two memory page address n k e)
+    ap (wordsAt ws) (run-two memory page address n k e (r .sees) (r .ends))
     ∙ words-append ws (stretch i k) (stretch j (n - k))
     ∙ ap₂ (λ (a : List ℕ) (b : List ℕ). a ++ b) (words-stretch ws i k (r .first)) (words-stretch ws j (n - k) (r .second))
 
@@ -151,7 +132,7 @@ put-reach ws memory page address n k new e l r =
     let lt : length (take k new) ≡ k = length-take-le k new (omega arith) in
     let first : putAt ws (stretch i k) (take k new) ≡ laid ws i (take k new) = put-stretch ws i (take k new) k lt (r .first) in
     let kept : length (laid ws i (take k new)) ≡ length ws = ap length (sym first) ∙ length-put ws (stretch i k) (take k new) in
-    ap (λ (is : List ℕ). putAt ws is new) (run-two memory page address n k e)
+    ap (λ (is : List ℕ). putAt ws is new) (run-two memory page address n k e (r .sees) (r .ends))
     ∙ put-append ws (stretch i k) (stretch j (n - k)) new
     ∙ ap (λ (m : ℕ). putAt (putAt ws (stretch i k) (take m new)) (stretch j (n - k)) (drop m new)) (length-stretch i k)
     ∙ ap (λ (x : List ℕ). putAt x (stretch j (n - k)) (drop k new)) first

@@ -1,9 +1,64 @@
-// The memory map: where an address stands in PM or DM, by page and half.
+// The memory map: where an address stands in PM or DM, a line for each page and half. 02, request 4.
 use image::Memory;
 use image::Page;
 ghost use mathlib.Core.Path.{_≡_};
+ghost use mathlib.Core.Bool.{true};
 ghost use Prim.Native.Nat.{_≤_};
-ghost use Rattle.memory.specs.Map.{seen, lowAt, highAt, indexOf};
+ghost use Rattle.memory.specs.Map.{mapLine, seen, covers, indexIn, indexOf};
+
+// A half of a page's addresses.
+enum Half {
+    Lower,
+    Upper,
+}
+
+// A line of the map: the first address that it covers, the last one, and the index of the first.
+struct Line(usize, usize, usize);
+
+// Page 01 is invalid and IO has no addresses: nothing is seen there, and this line is never used.
+const UNSEEN: Line = Line(0, 0, 0);
+
+// Past every memory.
+const NOWHERE: usize = 0x8000;
+
+// The map: a line for each memory, page and half of the page's addresses.
+fn map_line(memory: Memory, page: Page, half: Half) -> Line
+    ensures { λ r. ⌜ r ≡ mapLine memory page half ⌝ }
+{
+    match memory {
+        Memory::Pm => match page {
+            Page::Zero => match half {
+                Half::Lower => Line(0x0000, 0x1FFF, 0x0000),
+                Half::Upper => Line(0x2000, 0x3FFF, 0x2000),
+            },
+            Page::Four => match half {
+                Half::Lower => Line(0x0000, 0x1FFF, 0x0000),
+                Half::Upper => Line(0x2000, 0x3FFF, 0x4000),
+            },
+            Page::Five => match half {
+                Half::Lower => Line(0x0000, 0x1FFF, 0x0000),
+                Half::Upper => Line(0x2000, 0x3FFF, 0x6000),
+            },
+            Page::Invalid => UNSEEN,
+        },
+        Memory::Dm => match page {
+            Page::Zero => match half {
+                Half::Lower => Line(0x0000, 0x1FFF, 0x2000),
+                Half::Upper => Line(0x2000, 0x3FFF, 0x0000),
+            },
+            Page::Four => match half {
+                Half::Lower => Line(0x0000, 0x1FFF, 0x4000),
+                Half::Upper => Line(0x2000, 0x3FFF, 0x0000),
+            },
+            Page::Five => match half {
+                Half::Lower => Line(0x0000, 0x1FFF, 0x6000),
+                Half::Upper => Line(0x2000, 0x3FFF, 0x0000),
+            },
+            Page::Invalid => UNSEEN,
+        },
+        Memory::Io => UNSEEN,
+    }
+}
 
 // Whether addresses of the memory are seen from the page.
 pub(crate) fn is_seen(memory: Memory, page: Page) -> bool
@@ -16,55 +71,39 @@ pub(crate) fn is_seen(memory: Memory, page: Page) -> bool
     }
 }
 
-// Where addresses 0000-1FFF start.
-fn low_at(memory: Memory, page: Page) -> usize
-    ensures { λ r. ⌜ r ≡ lowAt memory page ⌝ }
+// Whether a line covers an address.
+fn covers(line: Line, address: usize) -> bool
+    ensures { λ r. ⌜ r ≡ covers line address ⌝ }
 {
-    match memory {
-        Memory::Pm => match page {
-            Page::Zero => 0x0000,
-            Page::Four => 0x0000,
-            Page::Five => 0x0000,
-            Page::Invalid => 0x0000,
-        },
-        Memory::Dm => match page {
-            Page::Zero => 0x2000,
-            Page::Four => 0x4000,
-            Page::Five => 0x6000,
-            Page::Invalid => 0x0000,
-        },
-        Memory::Io => 0x0000,
-    }
+    let Line(first, last, _) = line;
+    (first <= address) & (address <= last)
 }
 
-// Where addresses 2000-3FFF start.
-fn high_at(memory: Memory, page: Page) -> usize
-    ensures { λ r. ⌜ r ≡ highAt memory page ⌝ }
+// The index of an address that the line covers.
+fn index_in(line: Line, address: usize) -> usize
+    requires { ⌜ covers line address ≡ true ⌝ }
+    requires { ⌜ (line .2 ≤ 0x6000) × (address ≤ 0x4000) ⌝ }
+    ensures { λ r. ⌜ r ≡ indexIn line address ⌝ }
 {
-    match memory {
-        Memory::Pm => match page {
-            Page::Zero => 0x2000,
-            Page::Four => 0x4000,
-            Page::Five => 0x6000,
-            Page::Invalid => 0x0000,
-        },
-        Memory::Dm => match page {
-            Page::Zero => 0x0000,
-            Page::Four => 0x0000,
-            Page::Five => 0x0000,
-            Page::Invalid => 0x0000,
-        },
-        Memory::Io => 0x0000,
-    }
+    let Line(first, _, index) = line;
+    index + (address - first)
 }
 
-// The index of an address.
+// The index of an address, by the line of its memory and page that covers it.
 pub fn index_of(memory: Memory, page: Page, address: usize) -> usize
     requires { ⌜ address ≤ 0x4000 ⌝ }
     ensures { λ r. ⌜ r ≡ indexOf memory page address ⌝ }
 {
-    if address < 0x2000 {
-        return low_at(memory, page) + address;
+    if !is_seen(memory, page) {
+        return NOWHERE;
     }
-    high_at(memory, page) + (address - 0x2000)
+    let lower = map_line(memory, page, Half::Lower);
+    if covers(lower, address) {
+        return index_in(lower, address);
+    }
+    let upper = map_line(memory, page, Half::Upper);
+    if covers(upper, address) {
+        return index_in(upper, address);
+    }
+    NOWHERE
 }

@@ -1,34 +1,98 @@
--- `memory::index::index_of` meets its contract, half by half. Assumes nothing.
-use mathlib.Core.Path.{sym, ap, _∙_}
-use Prim.Native.Nat.{ℕ, _+_, _-_}
-use native.Mathlib.Omega.{arith}
-use Rattle.memory.proofs.Map.{low-most, high-most, index-low, index-high}
+-- `memory::index::index_of` meets its contract: it tests what the definition tests, and the lines' indices are in range. Assumes nothing.
+use Prim.Native.Nat.{ℕ}
+use mathlib.Core.Path.{_≡_, refl, sym, ap, _∙_}
+use mathlib.Core.Bool.{Bool, true, false}
 use borrow.Author.Needs.{needs}
+use borrow.Author.Tests.{not-true, not-false}
+use Rattle.base.proofs.Pick.{yes, no}
+use Rattle.memory.specs.declared.index.Half.the-variants.{Lower}
+use Rattle.memory.specs.declared.index.Line.{Line}
+use Rattle.memory.specs.Map.{mapLine, seen, covers, indexIn, indexOf}
+use Rattle.memory.proofs.Map.{lines}
 use Rattle.memory.proofs.index.index_of.Statement.{statement}
 use Rattle.memory.proofs.index.index_of.Tie as tie
 
-low-at-requires : tie.Need-low-at-requires
-low-at-requires c κs = search needs
+-- whether a line of the map covers the address, as the code found it
+found : {held line : Line} (address : ℕ) {r t : Bool} → held ≡ line → r ≡ covers held address → r ≡ t → covers line address ≡ t
+found address e h k = ap (λ (l : Line). covers l address) (sym e) ∙ sym h ∙ k
 
-add-result : tie.Need-add-result
-add-result c = omega (arith, c .low-at .ensures, low-most (c .before .before .args .memory) (c .before .before .args .page))
+is-seen-requires : tie.Need-is-seen-requires
+is-seen-requires c κs = search needs
 
 returns : tie.Need-returns
-returns c =
-    let a = c .before .before .args in
-    ap (λ (x : ℕ). x + a .address) (c .low-at .ensures) ∙ sym (index-low (a .memory) (a .page) (a .address) (c .before .if1 .taken))
+unfolding indexOf
+returns c = no _ (sym (c .before .is-seen .ensures) ∙ not-true _ (c .if1 .taken)) refl
 
-high-at-requires : tie.Need-high-at-requires
-high-at-requires c κs = search needs
+-- past the first test the page is seen ..
+sees : (c : tie.Else1) → seen (c .before .before .args .memory) (c .before .before .args .page) ≡ true
+sees c = sym (c .before .is-seen .ensures) ∙ not-false _ (c .if1 .left)
 
-add-result-2 : tie.Need-add-result-2
-add-result-2 c = omega (arith, c .high-at .ensures, high-most (c .before .before .args .memory) (c .before .before .args .page))
+map-line-requires : tie.Need-map-line-requires
+map-line-requires c κs = search needs
+
+covers-requires : tie.Need-covers-requires
+covers-requires c κs = search needs
+
+index-in-requires : tie.Need-index-in-requires
+index-in-requires c κs =
+    let s = c .before .before .before in
+    let a = s .before .before .args in
+    (sym (c .before .covers .ensures) ∙ c .if2 .taken, rw (c .before .before .map-line .ensures) (lines (a .memory) (a .page) (sees s) .4, s .before .before .pre))
 
 returns-2 : tie.Need-returns-2
+unfolding indexOf
 returns-2 c =
-    let a = c .before .before .args in
-    ap (λ (x : ℕ). x + (a .address - 0x2000)) (c .high-at .ensures) ∙ sym (index-high (a .memory) (a .page) (a .address) (c .before .if1 .left))
+    let s = c .before .before .before .before in
+    let address = s .before .before .args .address in
+    let e = c .before .before .before .map-line .ensures in
+    yes _ (sees s) (yes _ (found address e (c .before .before .covers .ensures) (c .before .if2 .taken)) (c .index-in .ensures ∙ ap (λ (l : Line). indexIn l address) e))
+
+-- .. and past the second the lower line does not cover the address
+passes : (c : tie.Else2) → covers (mapLine (c .before .before .before .before .before .args .memory) (c .before .before .before .before .before .args .page) Lower) (c .before .before .before .before .before .args .address) ≡ false
+passes c = found (c .before .before .before .before .before .args .address) (c .before .before .map-line .ensures) (c .before .covers .ensures) (c .if2 .left)
+
+map-line-requires-2 : tie.Need-map-line-requires-2
+map-line-requires-2 c κs = search needs
+
+covers-requires-2 : tie.Need-covers-requires-2
+covers-requires-2 c κs = search needs
+
+index-in-requires-2 : tie.Need-index-in-requires-2
+index-in-requires-2 c κs =
+    let s = c .before .before .before .before .before .before in
+    let a = s .before .before .args in
+    (sym (c .before .covers2 .ensures) ∙ c .if3 .taken, rw (c .before .before .map-line2 .ensures) (lines (a .memory) (a .page) (sees s) .5, s .before .before .pre))
+
+returns-3 : tie.Need-returns-3
+unfolding indexOf
+returns-3 c =
+    let p = c .before .before .before .before in
+    let s = p .before .before .before in
+    let address = s .before .before .args .address in
+    let e = c .before .before .before .map-line2 .ensures in
+    yes _ (sees s)
+    (no _ (passes p)
+    (yes _ (found address e (c .before .before .covers2 .ensures) (c .before .if3 .taken)) (c .index-in2 .ensures ∙ ap (λ (l : Line). indexIn l address) e)))
+
+returns-4 : tie.Need-returns-4
+unfolding indexOf
+returns-4 c =
+    let p = c .before .before .before in
+    let s = p .before .before .before in
+    yes _ (sees s) (no _ (passes p) (no _ (found (s .before .before .args .address) (c .before .before .map-line2 .ensures) (c .before .covers2 .ensures) (c .if3 .left)) refl))
 
 pub index-of-spec : {M : Type 1} → statement M
 index-of-spec =
-    tie.close (tie.spec low-at-requires add-result returns high-at-requires add-result-2 returns-2)
+    tie.close
+    (tie.spec
+    is-seen-requires
+    returns
+    map-line-requires
+    covers-requires
+    index-in-requires
+    returns-2
+    map-line-requires-2
+    covers-requires-2
+    index-in-requires-2
+    returns-3
+    returns-4)

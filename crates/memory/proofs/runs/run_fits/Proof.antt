@@ -1,6 +1,6 @@
 -- `memory::runs::run_fits` meets its contract: the tests are the definition's, the last one made of each of the run's two
 -- stretches. Assumes nothing.
-use Prim.Native.Nat.{ℕ, _+_, _-_}
+use Prim.Native.Nat.{ℕ, _+_, _-_, _≤_}
 use mathlib.Core.Path.{_≡_, sym, ap, _∙_}
 use mathlib.Core.Bool.{true, false}
 use native.Mathlib.Omega.{arith}
@@ -40,18 +40,18 @@ index-of-requires : tie.Need-index-of-requires
 index-of-requires c κs = search needs
 
 stretch-fits-requires : tie.Need-stretch-fits-requires
-stretch-fits-requires c κs = let a = c .before .before .before .before .before .before .args in let m = index-most (a .memory) (a .page) (a .address) (omega arith) in omega (arith, c .index-of .ensures, c .before .low-count .ensures)
+stretch-fits-requires c κs = let a = c .before .before .before .before .before .before .args in let m = index-most (a .memory) (a .page) (a .address) in omega (arith, c .index-of .ensures, c .before .low-count .ensures)
 
 returns-4 : tie.Need-returns-4
 unfolding runFits
 returns-4 c =
     let a = c .before .before .before .before .before .before .before .before .args in
     let seen-test : seen (a .memory) (a .page) ≡ true = sym (c .before .before .before .before .before .before .before .is-seen .ensures) ∙ not-false _ (c .before .before .before .before .before .before .if1 .left) in
-    let ends-test = le-leb (a .address + a .n) 0x4000 (omega arith) in
+    let ends : a .address + a .n ≤ 0x4000 = omega arith in
     let i = indexOf (a .memory) (a .page) (a .address) in
     let k = c .before .before .before .low-count .result in
     let first : allBelow (a .len) (stretch i k) ≡ false = ap (λ (j : ℕ). allBelow (a .len) (stretch j k)) (sym (c .before .before .index-of .ensures)) ∙ sym (c .before .stretch-fits .ensures) ∙ not-true _ (c .if4 .taken) in
-    and-yes seen-test (and-yes ends-test (and-no _ first ∙ sym (two-below (a .len) (a .memory) (a .page) (a .address) (a .n) k (c .before .before .before .low-count .ensures))))
+    and-yes seen-test (and-yes (le-leb (a .address + a .n) 0x4000 ends) (and-no _ first ∙ sym (two-below (a .len) (a .memory) (a .page) (a .address) (a .n) k (c .before .before .before .low-count .ensures) seen-test ends)))
 
 add-index-of : tie.Need-add-index-of
 add-index-of c = omega (arith, c .before .before .before .low-count .ensures)
@@ -63,19 +63,19 @@ sub-stretch-fits : tie.Need-sub-stretch-fits
 sub-stretch-fits c = omega (arith, c .before .before .before .before .low-count .ensures)
 
 stretch-fits-requires-2 : tie.Need-stretch-fits-requires-2
-stretch-fits-requires-2 c κs = let a = c .before .before .before .before .before .before .before .before .before .args in let m = index-most (a .memory) (a .page) (a .address + c .before .before .before .before .low-count .result) (omega (arith, c .before .before .before .before .low-count .ensures)) in omega (arith, c .index-of2 .ensures, c .before .before .before .before .low-count .ensures)
+stretch-fits-requires-2 c κs = let a = c .before .before .before .before .before .before .before .before .before .args in let m = index-most (a .memory) (a .page) (a .address + c .before .before .before .before .low-count .result) in omega (arith, c .index-of2 .ensures, c .before .before .before .before .low-count .ensures)
 
 returns-5 : tie.Need-returns-5
 unfolding runFits
 returns-5 c =
     let a = c .before .before .before .before .before .before .before .before .before .before .args in
     let seen-test : seen (a .memory) (a .page) ≡ true = sym (c .before .before .before .before .before .before .before .before .before .is-seen .ensures) ∙ not-false _ (c .before .before .before .before .before .before .before .before .if1 .left) in
-    let ends-test = le-leb (a .address + a .n) 0x4000 (omega arith) in
+    let ends : a .address + a .n ≤ 0x4000 = omega arith in
     let i = indexOf (a .memory) (a .page) (a .address) in
     let k = c .before .before .before .before .before .low-count .result in
     let first : allBelow (a .len) (stretch i k) ≡ true = ap (λ (j : ℕ). allBelow (a .len) (stretch j k)) (sym (c .before .before .before .before .index-of .ensures)) ∙ sym (c .before .before .before .stretch-fits .ensures) ∙ not-false _ (c .before .before .if4 .left) in
     let second = c .stretch-fits2 .ensures ∙ ap (λ (j : ℕ). allBelow (a .len) (stretch j (a .n - k))) (c .before .index-of2 .ensures) in
-    and-yes seen-test (and-yes ends-test (and-yes first second ∙ sym (two-below (a .len) (a .memory) (a .page) (a .address) (a .n) k (c .before .before .before .before .before .low-count .ensures))))
+    and-yes seen-test (and-yes (le-leb (a .address + a .n) 0x4000 ends) (and-yes first second ∙ sym (two-below (a .len) (a .memory) (a .page) (a .address) (a .n) k (c .before .before .before .before .before .low-count .ensures) seen-test ends)))
 
 pub run-fits-spec : {M : Type 1} → statement M
 run-fits-spec =
