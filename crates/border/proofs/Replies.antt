@@ -79,6 +79,7 @@ module _ (n : Node) (l : Lent) (packet : List ℕ) where
       at : (t : Target) → Replied (readAt n flash t)
       at Target.Missing = end
       at (Target.At s) = by (sectorOf flash s) (seen n flash s)
+      at Target.Several = abort
 
   test-replied : Replied (testOf n flash packet)
   unfolding testOf
@@ -87,6 +88,7 @@ module _ (n : Node) (l : Lent) (packet : List ℕ) where
       at : (t : Target) → Replied (testAt n flash t)
       at Target.Missing = abort
       at (Target.At s) = (omega arith, omega arith)
+      at Target.Several = abort
 
   load-replied : Replied (loadOf n flash (l .memories) packet)
   unfolding loadOf
@@ -105,6 +107,7 @@ module _ (n : Node) (l : Lent) (packet : List ℕ) where
       at : (t : Target) → Replied (loadAt n flash (l .memories) t)
       at Target.Missing = abort
       at (Target.At s) = by (sectorOf flash s) (seen n flash s)
+      at Target.Several = abort
 
   pub write-replied : (file : List ℕ) → Replied (fileWriteOf n flash file)
   unfolding fileWriteOf
@@ -140,6 +143,7 @@ module _ (n : Node) (l : Lent) (packet : List ℕ) where
       at : (t : Target) → Replied (attributeAt n flash (getD packet 2 0) t)
       at Target.Missing = abort
       at (Target.At s) = by s (sectorOf flash s) (seen n flash s)
+      at Target.Several = abort
 
   files-replied : (id : ℕ) → length (n .directory) ≡ 32 → Replied (filesOf id n l packet)
   unfolding filesOf summaryOf

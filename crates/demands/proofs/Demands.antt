@@ -10,6 +10,7 @@ use Rattle.demands.proofs.NeverCorrupted.{never-corrupted, good-is-serv
 use Rattle.demands.proofs.Lays.{flash-follows}
 use Rattle.demands.proofs.Writes.{writes}
 use Rattle.demands.proofs.ReadsBack.{reads-back}
+use Rattle.demands.proofs.Several.{several-abort, stays-single}
 use Rattle.demands.proofs.Packets.{any-division, left-alone}
 use Rattle.demands.proofs.Asks.{group-is-asked}
 use Rattle.demands.proofs.Starts.{starts-full}
@@ -28,6 +29,8 @@ demands =
       left-alone = left-alone;
       never-corrupted = never-corrupted;
       good-is-served = good-is-served;
+      several-abort = several-abort;
+      stays-single = stays-single;
       erases = erases;
       starts-full = starts-full;
       group-is-asked = group-is-asked;

@@ -22,6 +22,7 @@ use Rattle.flash.specs.Search.{isNamed}
 use Rattle.flash.specs.Change.{erased, OnlySector}
 use Rattle.flash.specs.declared.Erasing.{Erasing}
 use Rattle.flash.specs.declared.Found.{Found}
+use Rattle.flash.specs.declared.Progress.{Progress}
 use Rattle.flash.proofs.Geometry.{length-sector, other-kept}
 use Rattle.flash.proofs.Statuses.{first-word, file-not-empty, good-file}
 use Rattle.flash.proofs.Entries.{directory-first}
@@ -45,7 +46,7 @@ pub named-own : (word : ℕ) → headerOk word ≡ true → isNamed (nameOf word
 unfolding isNamed
 named-own word h = and-both h (eq-eqb (nameOf word) (nameOf word) refl)
 
-named-tells : (name word : ℕ) → isNamed name word ≡ true → nameOf word ≡ name
+pub named-tells : (name word : ℕ) → isNamed name word ≡ true → nameOf word ≡ name
 unfolding isNamed
 named-tells name word h = eqb-true (nameOf word) name (and-right (headerOk word) (eqb (nameOf word) name) h)
 
@@ -67,6 +68,29 @@ named-blank name = refl
 -- the first word of an entry in a directory that is fresh
 pub entry-first : (n : Node) (flash : List ℕ) → n .directory ≡ directoryOf flash (n .erasing) → (t : ℕ) → isSector t ≡ true → getD (n .directory) (entryPlace t) 0 ≡ firstOf (sectorOf flash t)
 entry-first n flash fresh t p = ap (λ (d : List ℕ). getD d (entryPlace t) 0) fresh ∙ directory-first flash (n .erasing) t p
+
+-- a step of an erasure gives its sector no name that it hadn't: its first word is as it was, or FFFF
+pub erased-named : (flash : List ℕ) (p : Progress) (budget : ℕ) → Erases (Erasing.Sector p) flash → (name : ℕ)
+    → isNamed name (firstOf (sectorOf (erased flash (Erasing.Sector p) budget) (p .sector))) ≡ true → isNamed name (firstOf (sectorOf flash (p .sector))) ≡ true
+erased-named flash p budget b name h = by (erased-or-blank flash p budget (startOf (unitOf flash) (p .sector) + 0))
+  where
+    after : List ℕ
+    after = erased flash (Erasing.Sector p) budget
+
+    first : (x : List ℕ) → length x ≡ length flash → firstOf (sectorOf x (p .sector)) ≡ getD x (startOf (unitOf flash) (p .sector) + 0) 0
+    first x e =
+        let some = b .1 .below in
+        let u : unitOf x ≡ unitOf flash = ap (λ (k : ℕ). k / 16) e in
+        let size = ap (λ (k : ℕ). sizeOf k (p .sector)) u in
+        let l = length-sector x (p .sector) in
+        first-word (sectorOf x (p .sector)) (omega arith)
+        ∙ sym (sector-word x (p .sector) 0 (omega arith))
+        ∙ ap (λ (k : ℕ). getD x (startOf k (p .sector) + 0) 0) u
+
+    by : (getD after (startOf (unitOf flash) (p .sector) + 0) 0 ≡ getD flash (startOf (unitOf flash) (p .sector) + 0) 0) ⊎ (getD after (startOf (unitOf flash) (p .sector) + 0) 0 ≡ 0xFFFF)
+        → isNamed name (firstOf (sectorOf flash (p .sector))) ≡ true
+    by (inl e) = ap (isNamed name) (first flash refl ∙ sym e ∙ sym (first after (erased-only flash p budget .size))) ∙ h
+    by (inr e) = absurd (false≢true (sym (ap (isNamed name) (first after (erased-only flash p budget .size) ∙ e) ∙ named-blank name) ∙ h))
 
 pub record Held (s : ℕ) (file flash : List ℕ) : Type 0 where
   pub sector : isSector s ≡ true
@@ -159,25 +183,15 @@ module _ (s : ℕ) (file flash : List ℕ) (held : Held s file flash) where
   pub step-held : (e : Erasing) (budget : ℕ) → Erases e flash → (erasingSite e ≡ Found.At s → ⊥) → Held s file (erased flash e budget)
   unfolding erased
   step-held Erasing.Nothing budget b o = held
-  step-held (Erasing.Sector p) budget b o = other-held (p .sector) (erased flash (Erasing.Sector p) budget) (b .0) (erased-only flash p budget) (λ e. o (ap Found.At e)) free
+  step-held (Erasing.Sector p) budget b o =
+      other-held (p .sector) (erased flash (Erasing.Sector p) budget) (b .0) (erased-only flash p budget) (λ e. o (ap Found.At e))
+      (unnamed (isNamed (fileName file) (firstOf (sectorOf (erased flash (Erasing.Sector p) budget) (p .sector)))) refl)
     where
-      first : (x : List ℕ) → length x ≡ length flash → firstOf (sectorOf x (p .sector)) ≡ getD x (startOf (unitOf flash) (p .sector) + 0) 0
-      first x e =
-          let some = b .1 .below in
-          let u : unitOf x ≡ unitOf flash = ap (λ (k : ℕ). k / 16) e in
-          let size = ap (λ (k : ℕ). sizeOf k (p .sector)) u in
-          let l = length-sector x (p .sector) in
-          first-word (sectorOf x (p .sector)) (omega arith)
-          ∙ sym (sector-word x (p .sector) 0 (omega arith))
-          ∙ ap (λ (k : ℕ). getD x (startOf k (p .sector) + 0) 0) u
-
-      free : isNamed (fileName file) (firstOf (sectorOf (erased flash (Erasing.Sector p) budget) (p .sector))) ≡ false
-      free = ap (isNamed (fileName file)) (first (erased flash (Erasing.Sector p) budget) (erased-only flash p budget .size)) ∙ by (erased-or-blank flash p budget (startOf (unitOf flash) (p .sector) + 0))
-        where
-          by : (getD (erased flash (Erasing.Sector p) budget) (startOf (unitOf flash) (p .sector) + 0) 0 ≡ getD flash (startOf (unitOf flash) (p .sector) + 0) 0) ⊎ (getD (erased flash (Erasing.Sector p) budget) (startOf (unitOf flash) (p .sector) + 0) 0 ≡ 0xFFFF)
-              → isNamed (fileName file) (getD (erased flash (Erasing.Sector p) budget) (startOf (unitOf flash) (p .sector) + 0) 0) ≡ false
-          by (inl e) = ap (isNamed (fileName file)) (e ∙ sym (first flash refl)) ∙ held .alone (p .sector) (b .0) (λ q. o (ap Found.At q))
-          by (inr e) = ap (isNamed (fileName file)) e ∙ named-blank (fileName file)
+      unnamed : (t : Bool) → isNamed (fileName file) (firstOf (sectorOf (erased flash (Erasing.Sector p) budget) (p .sector))) ≡ t
+          → isNamed (fileName file) (firstOf (sectorOf (erased flash (Erasing.Sector p) budget) (p .sector))) ≡ false
+      unnamed false e = e
+      unnamed true e =
+          absurd (false≢true (sym (held .alone (p .sector) (b .0) (λ q. o (ap Found.At q))) ∙ erased-named flash p budget b (fileName file) e))
 
 -- a file just stored
 pub stored-held : (s : ℕ) (file : List ℕ) (n : Node) (link bc : ℕ) (packet : List ℕ) (l : Lent) → n .directory ≡ directoryOf (l .flash) (n .erasing) → Written n link bc packet l s file → Held s file (flashAfter (Change.Wrote s file) (n .erasing) (l .flash))

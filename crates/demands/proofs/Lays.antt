@@ -100,6 +100,7 @@ module _ (n : Node) (clock link : ℕ) (packet : List ℕ) (l : Lent) where
       at : n .erasing ≡ Erasing.Nothing → (t : Target) → namedBy n (getD packet 1 0) ≡ t → HeadedOr (attributeAt n (l .flash) (getD packet 2 0) t)
       at idle Target.Missing e = inl refl
       at idle (Target.At s) e = by idle s e (seen n (l .flash) s) refl
+      at idle Target.Several e = inl refl
 
 -- by the command
 module _ (n : Node) (clock link bc : ℕ) (errors : Bool) (packet : List ℕ) (l : Lent) where

@@ -15,6 +15,7 @@ pub mod Lays
 pub mod Held
 pub mod Writes
 pub mod ReadsBack
+pub mod Several
 pub mod Packets
 pub mod Slaves
 pub mod Starts

@@ -45,6 +45,7 @@ module _ (n : Node) (clock link : ℕ) (packet : List ℕ) (l : Lent) where
       at : (t : Target) → Keeps (readAt n (l .flash) t)
       at Target.Missing = refl
       at (Target.At s) = by s (seen n (l .flash) s)
+      at Target.Several = refl
 
   write-keeps : (file : List ℕ) → Keeps (fileWriteOf n (l .flash) file)
   unfolding fileWriteOf
@@ -61,6 +62,7 @@ module _ (n : Node) (clock link : ℕ) (packet : List ℕ) (l : Lent) where
       at : (t : Target) → Keeps (testAt n (l .flash) t)
       at Target.Missing = refl
       at (Target.At s) = refl
+      at Target.Several = refl
 
   erase-keeps : Keeps (eraseStartOf n packet)
   unfolding eraseStartOf
@@ -88,6 +90,7 @@ module _ (n : Node) (clock link : ℕ) (packet : List ℕ) (l : Lent) where
       at : (t : Target) → Keeps (attributeAt n (l .flash) (getD packet 2 0) t)
       at Target.Missing = refl
       at (Target.At s) = by s (seen n (l .flash) s)
+      at Target.Several = refl
 
   summary-keeps : Keeps (summaryOf n packet)
   unfolding summaryOf

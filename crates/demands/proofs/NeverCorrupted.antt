@@ -107,6 +107,7 @@ module _ (n : Node) (packet : List ℕ) (l : Lent) (r : Reply) (some : 0 < r .wo
       at : n .erasing ≡ Erasing.Nothing → (t : Target) → namedBy n (getD packet 1 0) ≡ t → Hands (readAt n (l .flash) t)
       at idle Target.Missing e = no-words ZeroLength.End
       at idle (Target.At s) e = by idle s e (seen n (l .flash) s) refl
+      at idle Target.Several e = no-words ZeroLength.Abort
 
 hands-out : (n : Node) (clock link bc : ℕ) (errors : Bool) (packet : List ℕ) (l : Lent) (r : Reply) → isCommand 0x05 bc packet ≡ true
     → requestOf n clock link bc errors packet l .turn .answer ≡ Answer.Reply r → 0 < r .words
@@ -160,6 +161,7 @@ module _ (n : Node) (packet : List ℕ) (l : Lent) where
       at : n .erasing ≡ Erasing.Nothing → (t : Target) → namedBy n (getD packet 1 0) ≡ t → Loads (loadAt n (l .flash) (l .memories) t)
       at idle Target.Missing e = withheld false
       at idle (Target.At s) e = by idle s e (seen n (l .flash) s) refl
+      at idle Target.Several e = withheld true
 
 loads : (n : Node) (clock link bc : ℕ) (errors : Bool) (packet : List ℕ) (l : Lent) → isCommand 0x46 bc packet ≡ true
     → (requestOf n clock link bc errors packet l .turn .answer ≡ end) ⊎ (requestOf n clock link bc errors packet l .after .memories ≡ l .memories → ⊥)

@@ -15,15 +15,14 @@ use Rattle.image.specs.Header.{nameOf}
 use Rattle.image.specs.File.{fileEnd}
 use Rattle.flash.specs.Geometry.{unitOf, entryPlace}
 use Rattle.flash.specs.Directory.{directoryOf}
-use Rattle.flash.specs.Search.{isNamed, namedAt, searchOf, targetBy, targetOf, placeOf}
+use Rattle.flash.specs.Search.{isNamed, targetOf, placeOf}
 use Rattle.flash.specs.Status.{progress}
 use Rattle.flash.specs.Change.{restOf, erasingAfter}
 use Rattle.flash.specs.declared.Erasing.{Erasing}
 use Rattle.flash.specs.declared.Found.{Found}
 use Rattle.flash.specs.declared.Target.{Target}
-use Rattle.flash.proofs.Kept.{missing-tells}
+use Rattle.flash.proofs.Kept.{missing-tells, one-told}
 use Rattle.flash.proofs.Entries.{directory-word}
-use Rattle.flash.proofs.Searches.{found-told}
 use Rattle.node.specs.Effect.{Lent, lent, Did, flashAfter, erasingNext}
 use Rattle.node.specs.Files.{namedBy, isExact, isMissing, placedFor}
 use Rattle.node.specs.Route.{bcOf}
@@ -133,17 +132,12 @@ run-stays {s} file (Runs.Then r step p) k = step-stays {s = s} file step p (run-
 -- the name leads to its sector, which is good
 module _ (n : Node) (flash : List ℕ) (s : ℕ) (file : List ℕ) (fresh : n .directory ≡ directoryOf flash (n .erasing)) (held : Held s file flash) where
   held-found : (header : ℕ) → nameOf header ≡ fileName file → namedBy n header ≡ Target.At s
-  unfolding targetOf searchOf
   held-found header e =
       ap (λ (x : ℕ). targetOf (n .directory) x) e
-      ∙ ap targetBy (found-told (namedAt (n .directory) (fileName file)) s
-      (record {
-        sector = held .sector;
-        passes =
-            ap (isNamed (fileName file)) (entry-first n flash fresh s (held .sector) ∙ held-first s file flash held)
-            ∙ named-own (getD file 0 0) (held-header s file flash held);
-        before = λ j p l. ap (isNamed (fileName file)) (entry-first n flash fresh j p) ∙ held .alone j p (λ q. absurd (omega arith));
-      }))
+      ∙ one-told (n .directory) (fileName file) s (held .sector)
+      (ap (isNamed (fileName file)) (entry-first n flash fresh s (held .sector) ∙ held-first s file flash held)
+      ∙ named-own (getD file 0 0) (held-header s file flash held))
+      (λ t p apart. ap (isNamed (fileName file)) (entry-first n flash fresh t p) ∙ held .alone t p apart)
 
   held-names : (packet : List ℕ) → nameOf (getD packet 1 0) ≡ fileName file → n .erasing ≡ Erasing.Nothing → Names n flash packet s file
   held-names packet e idle =

@@ -52,11 +52,11 @@ use Rattle.demands.specs.Requests.{end, abort}
 use Rattle.demands.specs.Reached.{stateAfter, Step, Reached, NoStaleRecord}
 use Rattle.demands.specs.Refusals.{numberOf, RefusedExactly}
 use Rattle.demands.specs.Anchors.{blank, file}
-use Rattle.demands.specs.Files.{fileName, Unused, Takes, IsFile, Writes, ReadsBack, NeverCorrupted, FlashFollows}
+use Rattle.demands.specs.Files.{fileName, Unused, Takes, IsFile, Writes, ReadsBack, NeverCorrupted, Shared, SeveralAbort, Single, StaysSingle, FlashFollows}
 use Rattle.demands.specs.Packets.{Sent, AnyDivision, LeftAlone}
 use Rattle.demands.specs.Groups.{StartsFull}
 use Rattle.demands.specs.ClosedRun.{with, started, written, ClosedRun}
-use Rattle.demands.specs.ShutOut.{refusing, unstarted, aborting, constant, idle, lying, denying, judging, hoarding, mixing, empty, loader, hasty, boasting, dropping, rogue, scanning, remembering, measuring, overlooking, ShutOut}
+use Rattle.demands.specs.ShutOut.{refusing, unstarted, aborting, constant, idle, lying, denying, judging, hoarding, mixing, empty, loader, hasty, boasting, dropping, rogue, scanning, remembering, measuring, overlooking, choosing, doubling, ShutOut}
 use Rattle.demands.specs.Flash.{countOf, Course, HasSet, ErasureFollows, Erases}
 use Rattle.demands.proofs.Refusals.{refused-exactly}
 use Rattle.demands.proofs.Held.{named-blank}
@@ -347,6 +347,64 @@ overlooks-remains w =
     let third : 3 ≡ d .sector = ap targetNumber (sym named-third ∙ d .names .named) in
     false≢true (sym behind ∙ (λ i. isEmpty (drop (size i) (sectorOf remains (third i)))) ∙ d .names .blank)
 
+-- a Read of a file that stands in sectors 3 and 4
+twins : List ℕ
+twins = laid (laid blank 2048 file) 4096 file
+
+twinned : Node
+twinned = startOf 2 4 0 0 0 0 0 twins .node
+
+both-named : Shared (twinned .directory) 0x42
+unfolding twins twinned laid fcsBit fcsBits fcsWord fcsFrom headerOk memoryOf pageOf lengthOk pageOk spanOf bodyOk segmentOk segmentEnd walk fileEnd isSector bySector sectorOf isEmpty statusOf statusIn fourthWord entryOf entryFor entriesFrom directoryOf isNamed startVerdict startOf
+both-named = record { one = 3; other = 4; apart = λ e. eqb-false 3 4 refl e; sectors = (refl, refl); named = (refl, refl) }
+
+chosen : choosing .request twinned 0 0 3 false readPacket (with twins) .turn .answer ≡ Answer.Reply (replied 3 7)
+unfolding twins twinned readPacket laid fcsBit fcsBits fcsWord fcsFrom headerOk memoryOf pageOf lengthOk pageOk spanOf bodyOk segmentOk segmentEnd walk fileEnd isSector bySector sectorOf isEmpty statusOf statusIn fourthWord entryOf entryFor entriesFrom directoryOf entered entrySays entryIs keptStatus firstFrom countFrom isNamed searchOf targetOf takes placeOf stored masksOk stateOk startVerdict requestVerdict addressed routeOf readOf fileWriteOf filesOf ownOf startOf requestOf
+chosen = refl
+
+twins-idle : twinned .erasing ≡ Erasing.Nothing
+unfolding twins twinned laid startVerdict startOf
+twins-idle = refl
+
+twins-free : writes (twinned .writing) 0 ≡ false
+unfolding twins twinned laid startVerdict startOf
+twins-free = refl
+
+chooses : SeveralAbort choosing → ⊥
+unfolding readPacket
+chooses w =
+    eqb-false 3 2 refl
+    (sym (ap bcIn chosen)
+    ∙ ap (λ (o : Outcome). bcIn (o .turn .answer))
+    (w .counted twinned 0 0 3 false readPacket (with twins) refl
+    (record { arrives = record { taken = ap isRefused chosen; clean = refl; least = leb-true 1 2 refl; most = leb-true 2 8192 refl; free = λ _. twins-free }; whole = refl })
+    refl twins-idle both-named))
+
+-- the file written, and written again
+again : Outcome
+again = doubling .request (written doubling .turn .node) 0 0 3 false (0x452E ∷ file) (with (written doubling .after .flash))
+
+blank-single : Single blank
+blank-single name s t p q a b = absurd (false≢true (sym (blank-unused name s p) ∙ a))
+
+in-third : isNamed 0x42 (firstOf (sectorOf (again .after .flash) 3)) ≡ true
+unfolding again laid fcsBit fcsBits fcsWord fcsFrom headerOk memoryOf pageOf lengthOk pageOk spanOf bodyOk segmentOk segmentEnd walk fileEnd isSector bySector sectorOf isEmpty statusOf statusIn fourthWord entryOf entryFor entriesFrom directoryOf entered entrySays entryIs keptStatus firstFrom countFrom isNamed searchOf targetOf takes placeOf stored masksOk stateOk startVerdict requestVerdict addressed routeOf readOf fileWriteOf filesOf ownOf startOf requestOf
+in-third = refl
+
+in-fourth : isNamed 0x42 (firstOf (sectorOf (again .after .flash) 4)) ≡ true
+unfolding again laid fcsBit fcsBits fcsWord fcsFrom headerOk memoryOf pageOf lengthOk pageOk spanOf bodyOk segmentOk segmentEnd walk fileEnd isSector bySector sectorOf isEmpty statusOf statusIn fourthWord entryOf entryFor entriesFrom directoryOf entered entrySays entryIs keptStatus firstFrom countFrom isNamed searchOf targetOf takes placeOf stored masksOk stateOk startVerdict requestVerdict addressed routeOf readOf fileWriteOf filesOf ownOf startOf requestOf
+in-fourth = refl
+
+doubles : StaysSingle doubling → ⊥
+unfolding again isSector
+doubles w =
+    let one : Step doubling (started doubling .node) blank (written doubling .turn .node) (written doubling .after .flash) =
+    Step.Made (Call.Request 0 0 3 false (0x452E ∷ file) (memories [] [] []) (further (replicate 32768 0)) (replicate 12288 0)) words-16 in
+    let two : Step doubling (written doubling .turn .node) (written doubling .after .flash) (again .turn .node) (again .after .flash) =
+    Step.Made (Call.Request 0 0 3 false (0x452E ∷ file) (memories [] [] []) (further (replicate 32768 0)) (replicate 12288 0)) words-16 in
+    let single = w (started doubling .node) blank (first doubling refl) blank-single (written doubling .turn .node) (written doubling .after .flash) one in
+    eqb-false 3 4 refl (w (written doubling .turn .node) (written doubling .after .flash) (Reached.Then (first doubling refl) one) single (again .turn .node) (again .after .flash) two 0x42 3 4 refl refl in-third in-fourth)
+
 -- the file stands in the flash of the closed run
 stands : getD (written logodwen .after .flash) 2048 0 ≡ 0x7421
 unfolding laid fcsBit fcsBits fcsWord fcsFrom headerOk memoryOf pageOf lengthOk pageOk spanOf bodyOk segmentOk segmentEnd walk fileEnd isSector bySector sectorOf isEmpty statusOf statusIn fourthWord entryOf entryFor entriesFrom directoryOf entered entrySays entryIs keptStatus firstFrom countFrom isNamed searchOf targetOf takes placeOf stored masksOk stateOk startVerdict requestVerdict addressed routeOf fileWriteOf filesOf ownOf startOf requestOf
@@ -417,6 +475,8 @@ shut-out =
       starts-empty = starts-empty;
       loads-half = loads-half;
       overlooks-remains = overlooks-remains;
+      chooses = chooses;
+      doubles = doubles;
       erases-all = erases-all;
       sets-nothing = sets-nothing;
       drops-erasure = drops-erasure;

@@ -1,12 +1,13 @@
 -- What holds of every state that is reached, with its flash: every part is in its range, the flash is the one of start, and the
 -- directory is fresh. A start gives it and every call keeps it. Assumes nothing.
-use Prim.Native.Nat.{ℕ, _/_, _<_}
+use Prim.Native.Nat.{ℕ, _/_, _≤_, _<_}
 use mathlib.Core.Path.{_≡_, refl, sym, ap, _∙_, subst}
-use mathlib.Core.Bool.{Bool, true, false, _&&_, false≢true}
+use mathlib.Core.Bool.{Bool, true, false, _&&_, _||_, false≢true}
 use mathlib.Core.List.{List, [], _∷_}
+use native.Mathlib.Omega.{arith}
 use lib.ListN.{length}
 use lib.Dec.{leb, eqb}
-use borrow.Author.Tests.{le-leb}
+use borrow.Author.Tests.{le-leb, eqb-true}
 use Rattle.base.specs.Pick.{pick}
 use Rattle.base.specs.Words.{Below}
 use Rattle.base.proofs.Pick.{yes, pick-case, and-right}
@@ -58,6 +59,17 @@ given-size n r =
 -- a flash of either size has words for every sector
 pub some-unit : (n : Node) (flash : List ℕ) → Valid n flash → 0 < unitOf flash
 some-unit n flash v = subst (λ (k : ℕ). 0 < k / 16) (v .size) (size-some (n .given .«flash_words») (given-size n (v .ranges)))
+
+-- and at most 32,768 words for any
+pub most-unit : (n : Node) (flash : List ℕ) → Valid n flash → unitOf flash ≤ 0x4000
+most-unit n flash v = subst (λ (k : ℕ). k / 16 ≤ 0x4000) (v .size) (by (eqb words 32768) refl (given-size n (v .ranges)))
+  where
+    words : ℕ
+    words = n .given .«flash_words»
+
+    by : (t : Bool) → eqb words 32768 ≡ t → (t || eqb words 262144) ≡ true → words / 16 ≤ 0x4000
+    by true p q = omega (arith, eqb-true words 32768 p)
+    by false p q = omega (arith, eqb-true words 262144 q)
 
 -- a request that is taken
 module _ (n : Node) (clock link bc : ℕ) (errors : Bool) (packet : List ℕ) (l : Lent) where

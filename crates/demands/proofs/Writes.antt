@@ -1,25 +1,24 @@
 -- A file that fits is written: in a directory that is fresh the searches find what the flash has. Assumes nothing.
-use Prim.Native.Nat.{ℕ, _*_, _≤_, _<_}
+use Prim.Native.Nat.{ℕ, _≤_, _<_}
 use mathlib.Core.Path.{_≡_, refl, sym, ap, _∙_}
-use mathlib.Core.Logic.{⊎-elim}
 use mathlib.Core.Bool.{Bool, true, false, _&&_, false≢true}
 use mathlib.Core.List.{List}
 use native.Mathlib.Omega.{arith}
 use lib.ListN.{length, getD}
-use lib.Dec.{eqb}
 use borrow.Author.Tests.{eq-eqb, le-leb}
-use Rattle.base.proofs.Pick.{yes, no, pick-case}
+use Rattle.base.proofs.Pick.{yes, no}
 use Rattle.image.specs.File.{fileEnd}
 use Rattle.image.specs.declared.End.{End}
-use Rattle.flash.specs.Geometry.{isSector, bySector, unitOf, sizeOf, sectorOf}
+use Rattle.flash.specs.Geometry.{isSector, unitOf, sizeOf, sectorOf}
 use Rattle.flash.specs.Status.{isErasing as isErasingAt}
 use Rattle.flash.specs.Directory.{directoryOf, keptStatus}
-use Rattle.flash.specs.Search.{isNamed, namedAt, firstSector, searchOf, targetBy, targetOf, isEmptyStatus, takes, placeOf}
+use Rattle.flash.specs.Search.{isNamed, namedAt, targetOf, isEmptyStatus, takes, placeOf}
 use Rattle.flash.specs.declared.Erasing.{Erasing}
 use Rattle.flash.specs.declared.Found.{Found}
 use Rattle.flash.specs.declared.Target.{Target}
+use Rattle.flash.proofs.Geometry.{size-most}
 use Rattle.flash.proofs.Statuses.{status-quiet, status-empty}
-use Rattle.flash.proofs.Kept.{kept-true}
+use Rattle.flash.proofs.Kept.{kept-true, target-cases}
 use Rattle.flash.proofs.Searches.{found-tells, nothing-tells}
 use Rattle.node.specs.Effect.{Lent, lent, Did}
 use Rattle.node.specs.Files.{isErasing, namedBy, isExact, isMissing, placedFor, writeAt, fileWriteOf}
@@ -29,8 +28,7 @@ use Rattle.demands.specs.Machine.{logodwen}
 use Rattle.demands.specs.Requests.{end, brought}
 use Rattle.demands.specs.Files.{IsFile, fileName, Unused, Takes, Writes}
 use Rattle.demands.proofs.Brings.{arrived-served}
-use Rattle.demands.proofs.Sound.{Valid, given-size, reached-sound}
-use Rattle.demands.proofs.Refusals.{size-tells}
+use Rattle.demands.proofs.Sound.{Valid, most-unit, reached-sound}
 use Rattle.demands.proofs.Held.{entry-first}
 
 -- a sector was found
@@ -41,14 +39,13 @@ isSome (Found.At s) = true
 module _ (n : Node) (flash : List ℕ) (fresh : n .directory ≡ directoryOf flash (n .erasing)) (idle : n .erasing ≡ Erasing.Nothing) where
   -- an unused name is missing
   missing-told : (name : ℕ) → Unused name flash → targetOf (n .directory) name ≡ Target.Missing
-  unfolding targetOf searchOf
-  missing-told name unused = by (firstSector (namedAt (n .directory) name)) refl
+  missing-told name unused =
+      target-cases (n .directory) name (λ (t : Target). t ≡ Target.Missing) (λ m. refl)
+      (λ s o. absurd (used s (o .first .sector) (o .first .passes)))
+      (λ w. absurd (used (w .low) (w .low-sector) (w .low-passes)))
     where
-      by : (f : Found) → firstSector (namedAt (n .directory) name) ≡ f → targetBy f ≡ Target.Missing
-      by Found.Nothing e = refl
-      by (Found.At t) e =
-          let f = found-tells (namedAt (n .directory) name) t e in
-          absurd (false≢true (sym (unused t (f .sector)) ∙ ap (isNamed name) (sym (entry-first n flash fresh t (f .sector))) ∙ f .passes))
+      used : (s : ℕ) → isSector s ≡ true → namedAt (n .directory) name s ≡ true → ⊥
+      used s p h = false≢true (sym (unused s p) ∙ ap (isNamed name) (sym (entry-first n flash fresh s p)) ∙ h)
 
   -- a sector that takes the file passes the placing rule's test
   takes-told : (words s : ℕ) → Takes flash words s → takes (n .directory) flash (n .erasing) words s ≡ true
@@ -83,15 +80,8 @@ module _ (n : Node) (flash : List ℕ) (fresh : n .directory ≡ directoryOf fla
       by (Found.At p) e = refl
 
 -- no sector takes more than 32,768 words
-sector-most : (u s : ℕ) → sizeOf u s ≤ u * 2
-unfolding bySector
-sector-most u s = pick-case (λ (k : ℕ). k ≤ u * 2) (isSector s) (λ _. pick-case (λ (k : ℕ). k ≤ u * 2) (eqb s 3) (λ _. omega arith) (λ _. omega arith)) (λ _. omega arith)
-
 takes-short : (n : Node) (flash : List ℕ) → Valid n flash → (words s : ℕ) → Takes flash words s → words ≤ 32768
-takes-short n flash v words s t =
-    let size = size-tells (n .given .«flash_words») .told (given-size n (v .ranges)) in
-    let unit : unitOf flash ≤ 16384 = ⊎-elim (λ e. omega (arith, sym (v .size) ∙ e)) (λ e. omega (arith, sym (v .size) ∙ e)) size in
-    omega (arith, unit, t .room, sector-most (unitOf flash) s)
+takes-short n flash v words s t = omega (arith, most-unit n flash v, t .room, size-most (unitOf flash) s)
 
 -- and a file that is placed is written
 place-ends : (n : Node) (flash file : List ℕ) → n .erasing ≡ Erasing.Nothing → isSome (placedFor n flash file) ≡ true → Answer.Reply (fileWriteOf n flash file .reply) ≡ end

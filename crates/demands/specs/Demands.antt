@@ -6,7 +6,7 @@ use Rattle.demands.specs.Machine.{Machine}
 use Rattle.demands.specs.Refusals.{RefusedExactly, NeverRefusedBy5, ZerosRefused}
 use Rattle.demands.specs.Reached.{NoStaleRecord, LengthsShown, SummaryIsTrue}
 use Rattle.demands.specs.Flash.{ErasureFollows, Erases, OneSector, NoBitRises}
-use Rattle.demands.specs.Files.{Writes, ReadsBack, NeverCorrupted, GoodIsServed, FlashFollows}
+use Rattle.demands.specs.Files.{Writes, ReadsBack, NeverCorrupted, GoodIsServed, SeveralAbort, StaysSingle, FlashFollows}
 use Rattle.demands.specs.Packets.{AnyDivision, LeftAlone}
 use Rattle.demands.specs.Groups.{StartsFull, GroupIsAsked, GroupIsItsFragments, AskedInOrder, EachAskedOnce, FragmentsStand, NothingPastTheWords}
 use Rattle.demands.specs.ClosedRun.{ClosedRun}
@@ -27,6 +27,9 @@ pub record Demands (M : Machine) : Type 0 where
   -- A corrupted file is never handed out or loaded; a good one is.
   pub never-corrupted : NeverCorrupted M
   pub good-is-served : GoodIsServed M
+  -- A name that several sectors have serves no command but Erase by address; and no call gives a second sector a name.
+  pub several-abort : SeveralAbort M
+  pub stays-single : StaysSingle M
   -- An erasure sets the words that its progress is given, from the low end, and counts them, whatever calls come between.
   pub erases : Erases M
   -- Mask 0 of a CDDC starts full.

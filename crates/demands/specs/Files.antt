@@ -1,6 +1,6 @@
 -- Demand 2, of files: a file that fits is written, what was written reads back, and a corrupted file is never handed out or loaded. 01
 -- 'Flash' and 'What calls owe'; a file may come in several packets (02, request 1). Assumes nothing.
-use Prim.Native.Nat.{ℕ, _+_, _≤_, _<_}
+use Prim.Native.Nat.{ℕ, _+_, _%_, _≤_, _<_}
 use mathlib.Core.Path.{_≡_}
 use mathlib.Core.Logic.{_⊎_}
 use mathlib.Core.Bool.{Bool, true, false, _&&_, _||_}
@@ -14,7 +14,7 @@ use Rattle.image.specs.declared.End.{End}
 use Rattle.flash.specs.Geometry.{isSector, unitOf, sizeOf, startOf, sectorOf, entryPlace}
 use Rattle.flash.specs.Status.{isEmpty, firstOf}
 use Rattle.flash.specs.Directory.{entryFor}
-use Rattle.flash.specs.Search.{isNamed}
+use Rattle.flash.specs.Search.{isNamed, namedAt}
 use Rattle.flash.specs.Change.{settingOf}
 use Rattle.flash.specs.declared.Erasing.{Erasing}
 use Rattle.flash.specs.declared.Found.{Found}
@@ -175,6 +175,43 @@ pub record GoodIsServed (M : Machine) : Type 0 where
       → Delivered M n clock link bc errors packet l → length packet ≡ 2 → Names n (l .flash) packet s file
       → allFit (length (l .memories .pm)) (length (l .memories .dm)) (length (l .memories .io)) (fileSegments file) ≡ true
       → M .request n clock link bc errors packet l ≡ loaded n l file
+
+-- Two sectors of a directory have one name.
+pub record Shared (directory : List ℕ) (name : ℕ) : Type 0 where
+  pub one : ℕ
+  pub other : ℕ
+  pub apart : one ≡ other → ⊥
+  pub sectors : (isSector one ≡ true) × (isSector other ≡ true)
+  pub named : (namedAt directory name one ≡ true) × (namedAt directory name other ≡ true)
+
+-- Any state and flash that pass 1 and 5, no erasure in progress: a name that several sectors have is ABORT to Read, Load, Test, Attribute Set
+-- and Erase, whatever the sectors hold, and every lent word stays; to Read and Load it adds one FLASH error, to the others none (02,
+-- request 10).
+pub record SeveralAbort (M : Machine) : Type 0 where
+  pub counted : (n : Node) (clock link bc : ℕ) (errors : Bool) (packet : List ℕ) (l : Lent) → (isCommand 0x05 bc packet || isCommand 0x46 bc packet) ≡ true
+      → Delivered M n clock link bc errors packet l → length packet ≡ 2 → n .erasing ≡ Erasing.Nothing → Shared (n .directory) (nameOf (getD packet 1 0))
+      → M .request n clock link bc errors packet l ≡ outcome (turn (faulted true n) abort) l
+  pub test : (n : Node) (clock link bc : ℕ) (errors : Bool) (packet : List ℕ) (l : Lent) → isCommand 0x06 bc packet ≡ true
+      → Delivered M n clock link bc errors packet l → length packet ≡ 2 → n .erasing ≡ Erasing.Nothing → Shared (n .directory) (nameOf (getD packet 1 0))
+      → M .request n clock link bc errors packet l ≡ outcome (turn n abort) l
+  pub attribute : (n : Node) (clock link bc : ℕ) (errors : Bool) (packet : List ℕ) (l : Lent) → isCommand 0x48 bc packet ≡ true
+      → Delivered M n clock link bc errors packet l → length packet ≡ 3 → n .erasing ≡ Erasing.Nothing → Shared (n .directory) (nameOf (getD packet 1 0))
+      → M .request n clock link bc errors packet l ≡ outcome (turn n abort) l
+  pub erase : (n : Node) (clock link bc : ℕ) (errors : Bool) (packet : List ℕ) (l : Lent) → isCommand 0x47 bc packet ≡ true
+      → Delivered M n clock link bc errors packet l → length packet ≡ 2 → n .erasing ≡ Erasing.Nothing
+      → (getD packet 1 0 % 16 ≡ 0 → ⊥) → Shared (n .directory) (nameOf (getD packet 1 0))
+      → M .request n clock link bc errors packet l ≡ outcome (turn n abort) l
+
+-- No two sectors of the flash have one name; and from there on no call makes it so that two have.
+abbrev pub Single : List ℕ → Type 0
+Single flash =
+    (name s t : ℕ) → isSector s ≡ true → isSector t ≡ true
+    → isNamed name (firstOf (sectorOf flash s)) ≡ true → isNamed name (firstOf (sectorOf flash t)) ≡ true → s ≡ t
+
+abbrev pub StaysSingle : Machine → Type 0
+StaysSingle M =
+    (n : Node) (flash : List ℕ) → Reached M n flash → Single flash
+    → (next : Node) (after : List ℕ) → Step M n flash next after → Single after
 
 -- A File Write has laid its file where the placing rule says, or an Attribute Set another header word, by 01's rule, over that of a good
 -- file. It is answered END, and the words stand in that sector.

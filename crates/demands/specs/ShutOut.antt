@@ -31,7 +31,7 @@ use Rattle.demands.specs.Requests.{end, abort, isCommand}
 use Rattle.demands.specs.Reached.{NoStaleRecord}
 use Rattle.demands.specs.Refusals.{RefusedExactly}
 use Rattle.demands.specs.Flash.{ErasureFollows, Erases}
-use Rattle.demands.specs.Files.{Writes, ReadsBack, NeverCorrupted, FlashFollows}
+use Rattle.demands.specs.Files.{Writes, ReadsBack, NeverCorrupted, SeveralAbort, StaysSingle, FlashFollows}
 use Rattle.demands.specs.Packets.{AnyDivision, LeftAlone}
 use Rattle.demands.specs.Groups.{StartsFull}
 use Rattle.demands.specs.ClosedRun.{ClosedRun}
@@ -342,6 +342,37 @@ overlooking =
       erase = eraseOf;
     }
 
+-- Takes the lower of two files of one name: when it is asked for one, it sees no file in sector 4.
+abbrev pub without : ℕ → List ℕ → Node → Node
+without place words n = withFlash n (laid (n .directory) place words) (n .erasing)
+
+abbrev pub choosing : Machine
+choosing =
+    record {
+      start = startOf;
+      request = λ n clock link bc errors packet l.
+          let o : Outcome = requestOf (without 4 (0xFFFF ∷ []) n) clock link bc errors packet l in
+          pick (isCommand 0x05 bc packet) (outcome (turn (withFlash (o .turn .node) (n .directory) (n .erasing)) (o .turn .answer)) (o .after))
+          (requestOf n clock link bc errors packet l);
+      reply = replyOf;
+      poll = pollOf;
+      erase = eraseOf;
+    }
+
+-- Doesn't see which name sector 3 has when it writes a file.
+abbrev pub doubling : Machine
+doubling =
+    record {
+      start = startOf;
+      request = λ n clock link bc errors packet l.
+          let o : Outcome = requestOf (without 0 (0xFFFF ∷ []) n) clock link bc errors packet l in
+          pick (isCommand 0x45 bc packet && not (eqb (getD (n .directory) 0 0) 0xFFFF)) (outcome (turn (without 0 (getD (n .directory) 0 0 ∷ []) (o .turn .node)) (o .turn .answer)) (o .after))
+          (requestOf n clock link bc errors packet l);
+      reply = replyOf;
+      poll = pollOf;
+      erase = eraseOf;
+    }
+
 -- Each fails a demand.
 pub record ShutOut : Type 0 where
   -- always refuses, by whichever number
@@ -369,6 +400,9 @@ pub record ShutOut : Type 0 where
   pub loads-half : NeverCorrupted loader → ⊥
   -- hands out a file with remains behind it
   pub overlooks-remains : NeverCorrupted overlooking → ⊥
+  -- takes the lower of two files of one name; writes a second one
+  pub chooses : SeveralAbort choosing → ⊥
+  pub doubles : StaysSingle doubling → ⊥
   -- erases all at the first progress call
   pub erases-all : (says : ℕ → ℕ) → Erases (hasty says) → ⊥
   -- reports words it did not set

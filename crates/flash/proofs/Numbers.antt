@@ -3,7 +3,7 @@ use Prim.Native.Nat.{ℕ}
 use mathlib.Core.Path.{_≡_, refl, sym, _∙_}
 use mathlib.Core.Bool.{Bool, true, false}
 use mathlib.Core.List.{List}
-use mathlib.Core.Logic.{inl, inr}
+use mathlib.Core.Logic.{_⊎_, inl, inr}
 use native.Mathlib.Omega.{arith}
 use lib.Dec.{ltb, eqb}
 use borrow.Author.Tests.{eqb-true, eqb-false, lt-ltb, le-ltb}
@@ -11,11 +11,14 @@ use Rattle.base.specs.Pick.{pick}
 use Rattle.base.specs.Numbered.{Numbered}
 use Rattle.base.proofs.Pick.{yes, no, pick-case}
 use Rattle.image.specs.Header.{attributeOf}
-use Rattle.flash.specs.Search.{firstSector, foundNumber, namedAt, searchOf, targetBy, targetOf, targetNumber}
+use Rattle.flash.specs.Geometry.{isSector}
+use Rattle.flash.specs.Search.{firstSector, foundNumber, namedAt, targetOf, targetNumber}
 use Rattle.flash.specs.Change.{toDefault, toPlain, settingOf, settingNumber}
 use Rattle.flash.specs.declared.Found.{Found}
 use Rattle.flash.specs.declared.Setting.{Setting}
-use Rattle.flash.proofs.Searches.{FirstSector, found-tells, found-told}
+use Rattle.flash.specs.declared.Target.{Target}
+use Rattle.flash.proofs.Searches.{FirstSector, found-tells, found-told, Twice}
+use Rattle.flash.proofs.Kept.{OneNamed, target-cases}
 
 -- a search finds the number of the lowest sector that passes; 0, which is no file sector's, where none does
 pub found-number : (test : ℕ → Bool) → Numbered (FirstSector test) 0 (foundNumber (firstSector test))
@@ -28,14 +31,19 @@ found-number test = by (firstSector test) refl
     by (Found.At s) h = inl (found-tells test s h)
     by Found.Nothing h = inr (refl, λ s f. none s (sym h ∙ found-told test s f))
 
--- so does a command that names a file, among those of that name
-pub target-number : (directory : List ℕ) (name : ℕ) → Numbered (FirstSector (namedAt directory name)) 0 (targetNumber (targetOf directory name))
-unfolding targetOf searchOf
-target-number directory name = by (firstSector (namedAt directory name)) (found-number (namedAt directory name))
-  where
-    by : (f : Found) → Numbered (FirstSector (namedAt directory name)) 0 (foundNumber f) → Numbered (FirstSector (namedAt directory name)) 0 (targetNumber (targetBy f))
-    by (Found.At s) n = n
-    by Found.Nothing n = n
+-- a command that names a file is about the one sector of that name; 0 where none has it, 1 where several have it
+pub target-number : (directory : List ℕ) (name : ℕ)
+    → let number : ℕ = targetNumber (targetOf directory name) in
+    OneNamed directory name number
+    ⊎ (((_≡_ {A = ℕ} number 0) × ((s : ℕ) → isSector s ≡ true → namedAt directory name s ≡ false)) ⊎ ((_≡_ {A = ℕ} number 1) × Twice (namedAt directory name)))
+target-number directory name =
+    target-cases directory name
+    (λ (t : Target).
+    OneNamed directory name (targetNumber t)
+    ⊎ (((_≡_ {A = ℕ} (targetNumber t) 0) × ((s : ℕ) → isSector s ≡ true → namedAt directory name s ≡ false)) ⊎ ((_≡_ {A = ℕ} (targetNumber t) 1) × Twice (namedAt directory name))))
+    (λ m. inr (inl (refl, m)))
+    (λ s o. inl o)
+    (λ w. inr (inr (refl, w)))
 
 -- Attribute Set: to default ABORT for 0X, else END; to plain END; for any other value ABORT
 pub setting-number : (header value : ℕ)

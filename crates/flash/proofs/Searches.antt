@@ -163,3 +163,85 @@ first-same test other h = from 8 3 (λ j p q. h j (is-sector j p (omega arith)))
     from : (n s : ℕ) → ((j : ℕ) → s ≤ j → j < s + n → test j ≡ other j) → firstFrom n s test ≡ firstFrom n s other
     from zero s f = refl
     from (suc n) s f = rw (f s (omega arith) (omega arith), from n (s + 1) (λ j p q. f j (omega arith) (omega arith)))
+
+-- how many pass: none where none is found, and else the one found and those behind it
+
+none-count : (n s : ℕ) (test : ℕ → Bool) → firstFrom n s test ≡ Found.Nothing → countFrom n s test ≡ 0
+unfolding firstFrom countFrom
+none-count zero s test h = refl
+none-count (suc n) s test h = by (test s) h (none-count n (s + 1) test)
+  where
+    by : (b : Bool) → pick b (Found.At s) (firstFrom n (s + 1) test) ≡ Found.Nothing → (firstFrom n (s + 1) test ≡ Found.Nothing → countFrom n (s + 1) test ≡ 0) → pick b 1 0 + countFrom n (s + 1) test ≡ 0
+    by true q f = let z : _≡_ {A = ℕ} 0 1 = cc in absurd (omega arith)
+    by false q f = omega (arith, f q)
+
+first-count : (n s : ℕ) (test : ℕ → Bool) (t : ℕ) → firstFrom n s test ≡ Found.At t → countFrom n s test ≡ suc (countFrom (s + n - (t + 1)) (t + 1) test)
+unfolding firstFrom countFrom
+first-count zero s test t h = let z : _≡_ {A = ℕ} 0 1 = cc in absurd (omega arith)
+first-count (suc n) s test t h = by (test s) h (first-count n (s + 1) test t)
+  where
+    by : (b : Bool) → pick b (Found.At s) (firstFrom n (s + 1) test) ≡ Found.At t → (firstFrom n (s + 1) test ≡ Found.At t → countFrom n (s + 1) test ≡ suc (countFrom (s + 1 + n - (t + 1)) (t + 1) test))
+        → pick b 1 0 + countFrom n (s + 1) test ≡ suc (countFrom (s + suc n - (t + 1)) (t + 1) test)
+    by true q f =
+        let e : s ≡ t = cc in
+        let m : s + suc n - (t + 1) ≡ n = omega arith in
+        let k : countFrom n (s + 1) test ≡ countFrom (s + suc n - (t + 1)) (t + 1) test = λ i. countFrom (sym m i) (e i + 1) test in
+        omega arith
+    by false q f =
+        let m : s + 1 + n - (t + 1) ≡ s + suc n - (t + 1) = omega arith in
+        let k = f q ∙ ap (λ (x : ℕ). suc (countFrom x (t + 1) test)) m in
+        omega arith
+
+count-none : (n s : ℕ) (test : ℕ → Bool) → countFrom n s test ≡ 0 → (j : ℕ) → s ≤ j → j < s + n → test j ≡ false
+count-none n s test h = by (firstFrom n s test) refl
+  where
+    by : (f : Found) → firstFrom n s test ≡ f → (j : ℕ) → s ≤ j → j < s + n → test j ≡ false
+    by Found.Nothing e = none-tells n s test e
+    by (Found.At t) e = absurd (omega (arith, first-count n s test t e))
+
+-- where just one passes, no other does
+pub once-tells : (test : ℕ → Bool) (t : ℕ) → firstSector test ≡ Found.At t → countFrom 8 3 test ≡ 1 → (j : ℕ) → isSector j ≡ true → (j ≡ t → ⊥) → test j ≡ false
+once-tells test t h one j p n = by (decLt j t)
+  where
+    f : FirstSector test t
+    f = found-tells test t h
+
+    by : Dec (j < t) → test j ≡ false
+    by (Dec.yes q) = f .before j p q
+    by (Dec.no q) =
+        let m = sector-most j p in
+        let l = sector-most t (f .sector) in
+        count-none (11 - (t + 1)) (t + 1) test (omega (arith, first-count 8 3 test t h)) j (omega arith) (omega arith)
+
+-- where more pass, two do
+pub record Twice (test : ℕ → Bool) : Type 0 where
+  pub low : ℕ
+  pub high : ℕ
+  pub below : low < high
+  pub low-sector : isSector low ≡ true
+  pub high-sector : isSector high ≡ true
+  pub low-passes : test low ≡ true
+  pub high-passes : test high ≡ true
+
+pub twice-tells : (test : ℕ → Bool) (t : ℕ) → firstSector test ≡ Found.At t → (countFrom 8 3 test ≡ 1 → ⊥) → Twice test
+twice-tells test t h more = by (firstFrom (11 - (t + 1)) (t + 1) test) refl
+  where
+    f : FirstSector test t
+    f = found-tells test t h
+
+    by : (found : Found) → firstFrom (11 - (t + 1)) (t + 1) test ≡ found → Twice test
+    by Found.Nothing e = absurd (more (first-count 8 3 test t h ∙ ap suc (none-count (11 - (t + 1)) (t + 1) test e)))
+    by (Found.At u) e =
+        let g = first-tells (11 - (t + 1)) (t + 1) test u e in
+        let a = g .from in
+        let b = g .below in
+        let l = sector-least t (f .sector) in
+        record {
+          low = t;
+          high = u;
+          below = omega arith;
+          low-sector = f .sector;
+          high-sector = is-sector u (omega arith) (omega arith);
+          low-passes = f .passes;
+          high-passes = g .passes;
+        }

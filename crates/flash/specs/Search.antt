@@ -55,18 +55,19 @@ namedAt directory name s = isNamed name (getD directory (entryPlace s) 0)
 unfoldable pub searchOf : List ℕ → ℕ → Search
 searchOf directory name = record { count = countFrom 8 3 (namedAt directory name); lowest = firstSector (namedAt directory name) }
 
--- What a command that names a file is about: the lowest sector of that name.
-abbrev pub targetBy : Found → Target
-targetBy (Found.At s) = Target.At s
-targetBy Found.Nothing = Target.Missing
+-- What a command that names a file is about: no sector has that name, one has, or several have (02, request 10).
+abbrev pub targetBy : ℕ → Found → Target
+targetBy count (Found.At s) = pick (eqb count 1) (Target.At s) Target.Several
+targetBy count Found.Nothing = Target.Missing
 
 unfoldable pub targetOf : List ℕ → ℕ → Target
-targetOf directory name = targetBy (searchOf directory name .lowest)
+targetOf directory name = targetBy (searchOf directory name .count) (searchOf directory name .lowest)
 
--- The target's sector; 0, which is no file sector's, where the name is missing.
+-- The target's sector; 0 where the name is missing, and 1 where several have it: neither is a file sector's.
 abbrev pub targetNumber : Target → ℕ
 targetNumber (Target.At s) = s
 targetNumber Target.Missing = 0
+targetNumber Target.Several = 1
 
 -- The sector of an address.
 unfoldable pub addressed : ℕ → Found

@@ -12,7 +12,7 @@ use crate::sectors::sector_of;
 use crate::sectors::sector_size;
 ghost use mathlib.Core.Path.{_≡_};
 ghost use Prim.Native.Nat.{_/_, _<_};
-ghost use Rattle.flash.specs.Search.{isNamed, orElse, countedWith, searchOf, targetOf, addressed, offered, takes, placeOf};
+ghost use Rattle.flash.specs.Search.{isNamed, orElse, countedWith, searchOf, targetBy, targetOf, addressed, offered, takes, placeOf};
 
 // Whether a first word is the header of a file of this name.
 pub fn is_named(name: u16, word: u16) -> bool
@@ -63,6 +63,16 @@ pub fn search(directory: [u16; 32], name: u16) -> Search
     found
 }
 
+// What a name that so many sectors have is about, this one the lowest.
+fn one_or_several(count: usize, lowest: usize) -> Target
+    ensures { λ r. ⌜ r ≡ targetBy count (Found.At lowest) ⌝ }
+{
+    if count == 1 {
+        return Target::At(lowest);
+    }
+    Target::Several
+}
+
 // What a command that names a file is about.
 pub fn target(directory: [u16; 32], name: u16) -> Target
     ensures { λ r. ⌜ r ≡ targetOf directory name ⌝ }
@@ -70,7 +80,7 @@ pub fn target(directory: [u16; 32], name: u16) -> Target
     let found = search(directory, name);
     let lowest = found.lowest;
     match lowest {
-        Found::At(sector) => Target::At(sector),
+        Found::At(sector) => one_or_several(found.count, sector),
         Found::Nothing => Target::Missing,
     }
 }

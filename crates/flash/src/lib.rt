@@ -40,10 +40,11 @@ pub struct Search {
     pub lowest: Found,
 }
 
-// What a command that names a file is about.
+// What a command that names a file is about: no sector has the name, one has, or several have.
 pub enum Target {
     Missing,
     At(usize),
+    Several,
 }
 
 // What Attribute Set does to a header word: nothing that it may, nothing that it needs to, or this word in its place.

@@ -75,6 +75,7 @@ fn target_number(target: Target) -> usize
     match target {
         Target::At(sector) => sector,
         Target::Missing => 0,
+        Target::Several => 1,
     }
 }
 

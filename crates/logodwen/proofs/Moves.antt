@@ -523,6 +523,7 @@ load-kept n flash m packet =
     at : (t : Target) → Kept (loadAt n flash m t)
     at Target.Missing = refl
     at (Target.At s) = by (sectorOf flash s) (seen n flash s)
+    at Target.Several = refl
 
 pub moves-request : (n : Node) (clock link bc : ℕ) (errors : Bool) (packet : List ℕ) (l : Lent) → Lends l → verdictIn n clock link bc errors packet l ≡ Verdict.Fine
     → (id : ℕ) → routeIn n clock link bc errors packet l ≡ Route.Own id → (d : Did) {r : Turn} {m : Memories} {reply : List ℕ}

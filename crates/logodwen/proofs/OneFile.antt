@@ -43,6 +43,7 @@ file-plain id n words status = pick-case Plain (eqb id 0x05) (λ _. reads status
 file-at-plain : (id : ℕ) (n : Node) (flash : List ℕ) (t : Target) → Plain (fileAt id n flash t)
 file-at-plain id n flash Target.Missing = pick-case Plain (eqb id 0x05) (λ _. says-plain ZeroLength.End) (λ _. says-plain ZeroLength.Abort)
 file-at-plain id n flash (Target.At s) = file-plain id n (sectorOf flash s) (seen n flash s)
+file-at-plain id n flash Target.Several = pick-case Plain (eqb id 0x05) (λ _. faulty-plain ZeroLength.Abort) (λ _. says-plain ZeroLength.Abort)
 
 pub file-of-plain : (id : ℕ) (n : Node) (flash packet : List ℕ) → Plain (fileOf id n flash packet)
 file-of-plain id n flash packet =
@@ -60,6 +61,10 @@ missing-says id n flash = by (eqb id 0x05)
     by : (t : Bool) → says (pick t ZeroLength.End ZeroLength.Abort) ≡ pick t (says ZeroLength.End) (says ZeroLength.Abort)
     by true = refl
     by false = refl
+
+-- several files of the name: no words are answered
+pub several-none : (id : ℕ) (n : Node) (flash : List ℕ) → fileAt id n flash Target.Several .words ≡ []
+several-none id n flash = pick-case (λ (d : Did). d .words ≡ []) (eqb id 0x05) (λ _. refl) (λ _. refl)
 
 own-file : (id : ℕ) (n : Node) (clock link : ℕ) (packet : List ℕ) (l : Lent) → isFile id ≡ true → ownOf id n clock link packet l ≡ fileOf id n (l .flash) packet
 unfolding ownOf filesOf readOf testOf

@@ -12,7 +12,7 @@ use Rattle.group.specs.Ending.{zeroReply, trailer}
 use Rattle.group.specs.declared.ZeroLength.{ZeroLength}
 use Rattle.memory.specs.Segment.{memories}
 use Rattle.node.specs.State.{turn}
-use Rattle.node.specs.Effect.{Change, Store, Setup, Did, says, faulty, sets, answers, Lent, lent, Outcome, outcome, further, Join, effect, applied, ownOutcome, nodeAfter, Replies}
+use Rattle.node.specs.Effect.{Change, Store, Setup, Did, says, faulty, sets, answers, Lent, lent, Outcome, outcome, further, Join, effect, applied, ownOutcome, nodeAfter, Sets, Replies}
 use Rattle.node.specs.declared.Answer.{Answer}
 use Rattle.node.specs.declared.Node.{Node}
 use Rattle.node.specs.declared.Turn.{Turn}
@@ -128,6 +128,15 @@ pub quiet-is : (n : Node) (before : List ℕ) {d d′ : Did} {r : Turn} {after :
 quiet-is n before {r = r} {after = after} q e = subst (λ (x : Did). Quiet n x before r after) e q
 
 -- a 0-length reply
+pub quiet-sets : (n : Node) (d : Did) (reply : List ℕ) {t : Turn} → d .words ≡ [] → Sets n d t → Quiet n d reply t reply
+unfolding bytesOf
+quiet-sets n d reply none e =
+    record {
+      turned = ap (λ (o : Outcome). o .turn) (e (lent [] (memories [] [] []) (further []) reply));
+      short = omega (arith, ap length none);
+      stored = laid-none reply 0 ∙ ap (λ (ws : List ℕ). storeWords 2 ws reply) (sym none);
+    }
+
 pub quiet-says : (n : Node) (z : ZeroLength) (reply : List ℕ) {t : Turn} → t ≡ turn n (Answer.Reply (zeroReply z)) → Quiet n (says z) reply t reply
 unfolding bytesOf
 quiet-says n z reply e = record { turned = e; short = omega arith; stored = laid-none reply 0 }

@@ -8,7 +8,7 @@ ghost use Rattle.flash.specs.declared.Status.{Status};
 ghost use Rattle.flash.specs.declared.Target.{Target};
 ghost use Rattle.group.specs.declared.ZeroLength.{ZeroLength};
 ghost use Rattle.node.specs.Files.{seenIn};
-ghost use Rattle.node.specs.Effect.{Replies};
+ghost use Rattle.node.specs.Effect.{Sets, Replies, says, faulty};
 ghost use Rattle.codec.specs.Bytes.{wordsOf};
 ghost use Rattle.logodwen.specs.Touch.{Quiet, fileAs, fileAt, fileOf};
 use crate::answers::answer_words;
@@ -70,6 +70,16 @@ fn missing(id: u16) -> ZeroLength
     ZeroLength::Abort
 }
 
+// What is said where several files have the name: ABORT, and Read counts an error.
+fn several(node: Node, id: u16) -> Turn
+    ensures { λ r. ⌜ Sets node (pick (eqb id 0x05) (faulty ZeroLength.Abort) (says ZeroLength.Abort)) r ⌝ }
+{
+    if id == 0x05 {
+        return node::files::abort_faulty(node);
+    }
+    node::answering::says(node, ZeroLength::Abort)
+}
+
 pub fn on_file(node: Node, id: u16, packet: &[u8], flash: &[u8], reply: &mut [u8]) -> Turn
     requires { ⌜ (length (now flash) / 2 ≡ 32768) × (12288 ≤ length (now reply) / 2) ⌝ }
     ensures { λ r. ⌜ Quiet node (fileOf id node (wordsOf 2 (now (flash .entry))) (wordsOf 2 (now (packet .entry)))) (now (reply .entry)) r (now (reply .exit)) ⌝ }
@@ -82,5 +92,6 @@ pub fn on_file(node: Node, id: u16, packet: &[u8], flash: &[u8], reply: &mut [u8
     match target {
         Target::Missing => node::answering::says(node, missing(id)),
         Target::At(sector) => on_sector(node, id, sector, flash, reply),
+        Target::Several => several(node, id),
     }
 }

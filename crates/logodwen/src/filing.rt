@@ -209,6 +209,7 @@ fn attribute_set(node: Node, packet: &[u8], flash: &mut [u8]) -> Turn
     match target {
         Target::Missing => says(node, ZeroLength::Abort),
         Target::At(sector) => attribute_sector(node, flash, sector, packet_word(packet, 2)),
+        Target::Several => says(node, ZeroLength::Abort),
     }
 }
 

@@ -157,5 +157,6 @@ pub fn on_load(
     match target {
         Target::Missing => says(node, ZeroLength::Abort),
         Target::At(sector) => load_sector(node, sector, flash, pm, dm, io),
+        Target::Several => node::files::abort_faulty(node),
     }
 }

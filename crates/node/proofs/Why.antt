@@ -115,6 +115,7 @@ exact-valid file h = by (fileEnd file) h
 missing : (t : Target) → isMissing t ≡ true → t ≡ Target.Missing
 missing Target.Missing h = refl
 missing (Target.At s) h = absurd (false≢true h)
+missing Target.Several h = absurd (false≢true h)
 
 no-place : (s : ℕ) → Found.Nothing ≡ Found.At s → ⊥
 no-place s h = let z : _≡_ {A = ℕ} 0 1 = cc in omega arith
@@ -127,6 +128,7 @@ erase-sector n word s h = by (eqb (word % 16) 0) h
     target : (t : Target) → namedBy n word ≡ t → foundBy t ≡ Found.At s → isSector s ≡ true
     target Target.Missing e q = absurd (no-place s q)
     target (Target.At t) e q = let z : t ≡ s = cc in target-tells (n .directory) (nameOf word) s (e ∙ ap Target.At z) .sector
+    target Target.Several e q = absurd (no-place s q)
 
     by : (t : Bool) → pick t (addressed word) (foundBy (namedBy n word)) ≡ Found.At s → isSector s ≡ true
     by true q = found-tells (λ t. eqb (sectorAddress t) word) s q .sector
@@ -165,6 +167,7 @@ module _ (n : Node) (link bc : ℕ) (packet : List ℕ) (l : Lent) where
       at : (t : Target) → Reason (readAt n flash t)
       at Target.Missing = none
       at (Target.At s) = by s (seen n flash s)
+      at Target.Several = none
 
   test-reason : Reason (testOf n flash packet)
   unfolding testOf none
@@ -173,6 +176,7 @@ module _ (n : Node) (link bc : ℕ) (packet : List ℕ) (l : Lent) where
       at : (t : Target) → Reason (testAt n flash t)
       at Target.Missing = none
       at (Target.At s) = none
+      at Target.Several = none
 
   load-reason : Reason (loadOf n flash (l .memories) packet)
   unfolding loadOf none
@@ -187,6 +191,7 @@ module _ (n : Node) (link bc : ℕ) (packet : List ℕ) (l : Lent) where
       at : (t : Target) → Reason (loadAt n flash (l .memories) t)
       at Target.Missing = none
       at (Target.At s) = by (sectorOf flash s) (seen n flash s)
+      at Target.Several = none
 
   summary-reason : Reason (summaryOf n packet)
   unfolding summaryOf none
@@ -255,6 +260,7 @@ module _ (n : Node) (link bc : ℕ) (packet : List ℕ) (l : Lent) where
       at : n .erasing ≡ Erasing.Nothing → (t : Target) → namedBy n (getD packet 1 0) ≡ t → Reason (attributeAt n flash (getD packet 2 0) t)
       at e Target.Missing h = none
       at e (Target.At s) h = by e s h (seen n flash s) refl
+      at e Target.Several h = none
 
   -- a command whose number passes a test
   is : {id : ℕ} (x : ℕ) → Command packet id → eqb id x ≡ true → Command packet x

@@ -90,6 +90,7 @@ fn is_missing(target: Target) -> bool
     match target {
         Target::Missing => true,
         Target::At(_) => false,
+        Target::Several => false,
     }
 }
 
@@ -159,6 +160,7 @@ pub fn to_erase(node: Node, word: u16) -> Found
     match target {
         Target::Missing => Found::Nothing,
         Target::At(sector) => Found::At(sector),
+        Target::Several => Found::Nothing,
     }
 }
 
@@ -230,6 +232,7 @@ fn attribute_at(node: Node, flash: &mut [u16], value: u16, target: Target) -> Tu
     match target {
         Target::Missing => says(node, ZeroLength::Abort),
         Target::At(sector) => attribute_sector(node, flash, sector, value),
+        Target::Several => says(node, ZeroLength::Abort),
     }
 }
 

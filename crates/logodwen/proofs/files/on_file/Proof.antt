@@ -11,8 +11,8 @@ use Rattle.node.specs.Files.{isErasing, namedBy}
 use Rattle.flash.specs.declared.Target.{Target}
 use Rattle.codec.specs.Bytes.{wordsOf}
 use Rattle.logodwen.specs.Touch.{fileAt, fileOf}
-use Rattle.logodwen.proofs.Touch.{quiet-is, quiet-says}
-use Rattle.logodwen.proofs.OneFile.{missing-says, file-unserved, file-served}
+use Rattle.logodwen.proofs.Touch.{quiet-is, quiet-sets, quiet-says}
+use Rattle.logodwen.proofs.OneFile.{missing-says, several-none, file-unserved, file-served}
 use borrow.Author.Needs.{needs}
 use Rattle.logodwen.proofs.files.on_file.Statement.{statement}
 use Rattle.logodwen.proofs.files.on_file.Tie as tie
@@ -55,6 +55,12 @@ enum-known-target c = search needs
 on-sector-requires : tie.Need-on-sector-requires
 on-sector-requires c κs = search needs
 
+enum-told-2 : tie.Need-enum-told-2
+enum-told-2 c = search needs
+
+several-requires : tie.Need-several-requires
+several-requires c κs = search needs
+
 returns-2 : tie.Need-returns-2
 returns-2 c = let a = c .before .before .before .before .before .before .before .before .before .before .before .args in quiet-is (a .node) (a .reply .now) (quiet-says (a .node) (c .before .missing .result) (a .reply .now) (c .says2 .ensures)) (ap says (c .before .missing .ensures) ∙ missing-says (a .id) (a .node) (wordsOf 2 (a .flash .now)) ∙ file-served (a .id) (a .node) (wordsOf 2 (a .flash .now)) (a .packet .now) (sym (c .before .before .before .before .before .before .before .is-served .ensures) ∙ not-false _ (c .before .before .before .before .before .before .if1 .left)) (sym (c .before .before .enum-told .given .1) ∙ c .before .before .before .before .named-by .ensures ∙ ap (namedBy (a .node)) (c .before .before .before .before .before .packet-word .ensures)))
 
@@ -63,6 +69,14 @@ same-length c = search needs
 
 returns-3 : tie.Need-returns-3
 returns-3 c = let a = c .before .before .before .before .before .before .before .before .before .before .before .before .before .before .args in quiet-is (a .node) (a .reply .now) (c .before .before .on-sector .ensures) (file-served (a .id) (a .node) (wordsOf 2 (a .flash .now)) (a .packet .now) (sym (c .before .before .before .before .before .before .before .before .before .before .is-served .ensures) ∙ not-false _ (c .before .before .before .before .before .before .before .before .before .if1 .left)) (sym (c .before .before .before .before .before .target .given .1) ∙ c .before .before .before .before .before .before .before .named-by .ensures ∙ ap (namedBy (a .node)) (c .before .before .before .before .before .before .before .before .packet-word .ensures)))
+
+returns-4 : tie.Need-returns-4
+returns-4 c =
+    let a = c .before .before .before .before .before .before .before .before .before .before .args in
+    let f = wordsOf 2 (a .flash .now) in
+    quiet-is (a .node) (a .reply .now) (quiet-sets (a .node) (fileAt (a .id) (a .node) f Target.Several) (a .reply .now) (several-none (a .id) (a .node) f) (c .several .ensures))
+    (file-served (a .id) (a .node) f (a .packet .now) (sym (c .before .before .before .before .before .before .is-served .ensures) ∙ not-false _ (c .before .before .before .before .before .if1 .left))
+    (sym (c .before .enum-told2 .given .1) ∙ c .before .before .before .named-by .ensures ∙ ap (namedBy (a .node)) (c .before .before .before .before .packet-word .ensures)))
 
 pub on-file-spec : {M : Type 1} → statement M
 on-file-spec =
@@ -78,6 +92,9 @@ on-file-spec =
     says-requires-2
     enum-known-target
     on-sector-requires
+    enum-told-2
+    several-requires
     returns-2
     same-length
-    returns-3)
+    returns-3
+    returns-4)

@@ -4,11 +4,11 @@ use borrow.Author.Tests.{not-true, not-false}
 use Rattle.group.specs.declared.ZeroLength.{ZeroLength}
 use Rattle.flash.specs.declared.Target.{Target}
 use Rattle.memory.specs.Segment.{Memories, memories}
-use Rattle.node.specs.Effect.{says}
+use Rattle.node.specs.Effect.{says, faulty}
 use Rattle.node.specs.Files.{loadAt}
 use Rattle.codec.specs.Bytes.{wordsOf}
 use Rattle.logodwen.specs.Entry.{memoryWords}
-use Rattle.logodwen.proofs.Touch.{quiet-says}
+use Rattle.logodwen.proofs.Touch.{quiet-sets, quiet-says}
 use Rattle.logodwen.proofs.Moves.{moves-is, quiet-moves, load-unserved, load-served}
 use borrow.Author.Needs.{needs}
 use Rattle.logodwen.proofs.load.on_load.Statement.{statement}
@@ -47,6 +47,12 @@ enum-known-target c = search needs
 load-sector-requires : tie.Need-load-sector-requires
 load-sector-requires c κs = search needs
 
+enum-told-2 : tie.Need-enum-told-2
+enum-told-2 c = search needs
+
+abort-faulty-requires : tie.Need-abort-faulty-requires
+abort-faulty-requires c κs = search needs
+
 returns-2 : tie.Need-returns-2
 returns-2 c = let a = c .before .before .before .before .before .before .before .before .before .before .before .before .args in
     let m = memoryWords (bytes (c .before .before .before .before .before .before .before .before .before .before .before .before)) in
@@ -70,6 +76,13 @@ returns-3 c = let a = c .before .before .before .before .before .before .before 
     (sym (ap (loadAt (a .node) (wordsOf 2 (a .flash .now)) m) (c .before .before .before .before .before .before .before .before .before .before .before .target .given .1))
     ∙ load-served (a .node) (wordsOf 2 (a .flash .now)) m (a .packet .now) (sym (c .before .before .before .before .before .before .before .before .before .before .before .before .before .before .before .before .is-served .ensures) ∙ not-false _ (c .before .before .before .before .before .before .before .before .before .before .before .before .before .before .before .if1 .left)) (c .before .before .before .before .before .before .before .before .before .before .before .before .before .named-by .ensures) (c .before .before .before .before .before .before .before .before .before .before .before .before .before .before .packet-word .ensures))
 
+returns-4 : tie.Need-returns-4
+returns-4 c = let a = c .before .before .before .before .before .before .before .before .before .before .before .before .args in
+    let m = memoryWords (bytes (c .before .before .before .before .before .before .before .before .before .before .before .before)) in
+    λ reply. moves-is (a .node) (bytes (c .before .before .before .before .before .before .before .before .before .before .before .before)) reply (quiet-moves (a .node) (faulty ZeroLength.Abort) (bytes (c .before .before .before .before .before .before .before .before .before .before .before .before)) reply refl (quiet-sets (a .node) (faulty ZeroLength.Abort) reply refl (c .abort-faulty .ensures)))
+    (sym (ap (loadAt (a .node) (wordsOf 2 (a .flash .now)) m) (c .before .enum-told2 .given .1))
+    ∙ load-served (a .node) (wordsOf 2 (a .flash .now)) m (a .packet .now) (sym (c .before .before .before .before .before .before .is-served .ensures) ∙ not-false _ (c .before .before .before .before .before .if1 .left)) (c .before .before .before .named-by .ensures) (c .before .before .before .before .packet-word .ensures))
+
 pub on-load-spec : {M : Type 1} → statement M
 on-load-spec =
     tie.close
@@ -83,8 +96,11 @@ on-load-spec =
     says-requires-2
     enum-known-target
     load-sector-requires
+    enum-told-2
+    abort-faulty-requires
     returns-2
     same-length
     same-length-2
     same-length-3
-    returns-3)
+    returns-3
+    returns-4)

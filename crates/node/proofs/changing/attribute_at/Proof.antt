@@ -22,6 +22,12 @@ enum-known-target c = search needs
 attribute-sector-requires : tie.Need-attribute-sector-requires
 attribute-sector-requires c κs = search needs
 
+enum-told-2 : tie.Need-enum-told-2
+enum-told-2 c = search needs
+
+says-requires-2 : tie.Need-says-requires-2
+says-requires-2 c κs = search needs
+
 returns : tie.Need-returns
 returns c =
     let a = c .before .before .before .before .args in
@@ -35,6 +41,11 @@ returns-2 c =
     let a = c .before .before .before .before .before .before .before .before .args in
     changes-as (a .node) (a .flash .now) (c .before .before .attribute-sector .ensures) (via (attributeAt (a .node) (a .flash .now) (a .value)) (c .before .before .before .before .before .target .given .1) refl)
 
+returns-3 : tie.Need-returns-3
+returns-3 c =
+    let a = c .before .before .before .before .args in
+    λ m others reply. ends (a .node) ZeroLength.Abort (c .says2 .ensures) (via (attributeAt (a .node) (a .flash .now) (a .value)) (c .before .enum-told2 .given .1) refl) (lent (a .flash .now) m others reply)
+
 pub attribute-at-spec : {M : Type 1} → statement M
 attribute-at-spec =
     tie.close
@@ -43,6 +54,9 @@ attribute-at-spec =
     says-requires
     enum-known-target
     attribute-sector-requires
+    enum-told-2
+    says-requires-2
     returns
     same-length
-    returns-2)
+    returns-2
+    returns-3)

@@ -22,11 +22,17 @@ enum-told c = search needs
 enum-known-target : tie.Need-enum-known-target
 enum-known-target c = search needs
 
+enum-told-2 : tie.Need-enum-told-2
+enum-told-2 c = search needs
+
 returns-2 : tie.Need-returns-2
 returns-2 c = no _ (ne-eqb _ _ (c .before .before .before .if1 .left)) (via foundBy (sym (c .before .before .named-by .ensures) ∙ c .enum-told .given .1) refl)
 
 returns-3 : tie.Need-returns-3
 returns-3 c = no _ (ne-eqb _ _ (c .before .before .before .before .if1 .left)) (via foundBy (sym (c .before .before .before .named-by .ensures) ∙ c .before .target .given .1) refl)
+
+returns-4 : tie.Need-returns-4
+returns-4 c = no _ (ne-eqb _ _ (c .before .before .before .if1 .left)) (via foundBy (sym (c .before .before .named-by .ensures) ∙ c .enum-told2 .given .1) refl)
 
 pub to-erase-spec : {M : Type 1} → statement M
 to-erase-spec =
@@ -37,5 +43,7 @@ to-erase-spec =
     named-by-requires
     enum-told
     enum-known-target
+    enum-told-2
     returns-2
-    returns-3)
+    returns-3
+    returns-4)

@@ -1,9 +1,9 @@
 -- `node::files::load_at` meets its contract: by the target. Assumes nothing.
-use mathlib.Core.Path.{refl}
+use mathlib.Core.Path.{refl, ap, _∙_}
 use Rattle.node.proofs.Outcomes.{ends}
 use Rattle.node.proofs.Commands.{stores-as}
 use Rattle.group.specs.declared.ZeroLength.{ZeroLength}
-use Rattle.node.specs.Effect.{lent}
+use Rattle.node.specs.Effect.{lent, ownOutcome}
 use Rattle.base.proofs.Pick.{via}
 use Rattle.memory.specs.Segment.{memories}
 use Rattle.node.specs.Files.{loadAt}
@@ -22,6 +22,12 @@ enum-known-target c = search needs
 
 load-sector-requires : tie.Need-load-sector-requires
 load-sector-requires c κs = search needs
+
+enum-told-2 : tie.Need-enum-told-2
+enum-told-2 c = search needs
+
+abort-faulty-requires : tie.Need-abort-faulty-requires
+abort-faulty-requires c κs = search needs
 
 returns : tie.Need-returns
 returns c =
@@ -44,6 +50,14 @@ returns-2 c =
     let m = memories (a .pm .now) (a .dm .now) (a .io .now) in
     stores-as (a .node) m (c .before .before .before .before .before .before .load-sector .ensures) (via (loadAt (a .node) (a .flash .now) m) (c .before .before .before .before .before .before .before .before .before .before .before .target .given .1) refl)
 
+returns-3 : tie.Need-returns-3
+returns-3 c =
+    let a = c .before .before .before .before .before .before .before .args in
+    let m = memories (a .pm .now) (a .dm .now) (a .io .now) in
+    λ flash others reply.
+    c .abort-faulty .ensures (lent flash m others reply)
+    ∙ ap (ownOutcome (a .node) (lent flash m others reply)) (via (loadAt (a .node) (a .flash .now) m) (c .before .enum-told2 .given .1) refl)
+
 pub load-at-spec : {M : Type 1} → statement M
 load-at-spec =
     tie.close
@@ -52,8 +66,11 @@ load-at-spec =
     says-requires
     enum-known-target
     load-sector-requires
+    enum-told-2
+    abort-faulty-requires
     returns
     same-length
     same-length-2
     same-length-3
-    returns-2)
+    returns-2
+    returns-3)

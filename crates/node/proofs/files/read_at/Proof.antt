@@ -20,6 +20,12 @@ enum-known-target c = search needs
 read-sector-requires : tie.Need-read-sector-requires
 read-sector-requires c κs = search needs
 
+enum-told-2 : tie.Need-enum-told-2
+enum-told-2 c = search needs
+
+abort-faulty-requires : tie.Need-abort-faulty-requires
+abort-faulty-requires c κs = search needs
+
 returns : tie.Need-returns
 returns c =
     let a = c .before .before .before .before .before .args in
@@ -33,6 +39,11 @@ returns-2 c =
     let a = c .before .before .before .before .before .before .before .before .before .args in
     replies-as (a .node) (a .reply .now) (c .before .before .read-sector .ensures) (via (readAt (a .node) (a .flash .now)) (c .before .before .before .before .before .target .given .1) refl)
 
+returns-3 : tie.Need-returns-3
+returns-3 c =
+    let a = c .before .before .before .before .before .args in
+    sets-as (a .node) (a .reply .now) (c .abort-faulty .ensures) (via (readAt (a .node) (a .flash .now)) (c .before .enum-told2 .given .1) refl)
+
 pub read-at-spec : {M : Type 1} → statement M
 read-at-spec =
     tie.close
@@ -41,6 +52,9 @@ read-at-spec =
     says-requires
     enum-known-target
     read-sector-requires
+    enum-told-2
+    abort-faulty-requires
     returns
     same-length
-    returns-2)
+    returns-2
+    returns-3)
