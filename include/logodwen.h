@@ -559,7 +559,7 @@ static inline bool logodwen_file_io(struct logodwen_file *file, const uint16_t *
 /* The IDs of the node's own commands. */
 #define LOGODWEN_ID_STATUS 0x0Cu        /* answers twelve words: logodwen_read_status */
 #define LOGODWEN_ID_PING 0x0Du          /* answers the words that it has */
-#define LOGODWEN_ID_FILE_READ 0x05u     /* answers the file; END where there is none of that name, ABORT where it is bad */
+#define LOGODWEN_ID_FILE_READ 0x05u     /* answers the file; END where there is none of that name, ABORT where it is bad or there are several */
 #define LOGODWEN_ID_FILE_WRITE 0x45u    /* stores a file in the lowest empty sector with room */
 #define LOGODWEN_ID_FILE_TEST 0x06u     /* answers the sector's status word: 8000 where it is bad */
 #define LOGODWEN_ID_FILE_LOAD 0x46u     /* stores a file's segments in the memories */
@@ -611,7 +611,8 @@ static inline size_t logodwen_make_summary(uint8_t *packet) { return logodwen_ma
 static inline size_t logodwen_make_mode_read(uint8_t *packet) { return logodwen_make_command(packet, LOGODWEN_ID_MODE_READ); }
 static inline size_t logodwen_make_mask_read(uint8_t *packet) { return logodwen_make_command(packet, LOGODWEN_ID_MASK_READ); }
 
-/* Of a file by its name. */
+/* Of a file by its name. A flash that was programmed elsewhere can have a name in several sectors (logodwen_read_named): then these, and
+   Attribute Set, are answered ABORT, and File Read and Load count a FLASH error. To erase one of the sectors its number is given. */
 static inline size_t logodwen_make_file_read(uint8_t *packet, unsigned name) {
     return logodwen_make_named(packet, LOGODWEN_ID_FILE_READ, name);
 }
@@ -625,7 +626,7 @@ static inline size_t logodwen_make_erase_start(uint8_t *packet, unsigned name) {
     return logodwen_make_named(packet, LOGODWEN_ID_ERASE_START, name);
 }
 
-/* Of a sector, 3 to 10, whatever stands in it. */
+/* Of a sector, 3 to 10, whatever stands in it, and whatever its name. */
 static inline size_t logodwen_make_erase_start_at(uint8_t *packet, unsigned sector) {
     return !logodwen_is_sector(sector) ? 0 : logodwen_make_command_1(packet, LOGODWEN_ID_ERASE_START, logodwen_sector_address(sector));
 }
@@ -839,6 +840,18 @@ static inline bool logodwen_read_entry(const uint8_t *reply, size_t words, unsig
                                               : LOGODWEN_SECTOR_GOOD;
     entry->words = logodwen_get(reply, at + 3);
     return true;
+}
+
+/* The sectors that have a name, in a reply to Summary: bit s for sector s, whose first word can begin a file and has that name. 0 where none
+   has it, or the reply is not one. */
+static inline uint32_t logodwen_read_named(const uint8_t *reply, size_t words, unsigned name) {
+    struct logodwen_entry entry;
+    struct logodwen_header header;
+    uint32_t sectors = 0;
+    for (unsigned sector = LOGODWEN_SECTOR_FIRST; sector <= LOGODWEN_SECTOR_LAST; sector++)
+        if (logodwen_read_entry(reply, words, sector, &entry) && logodwen_read_header(entry.first, &header) && header.name == name)
+            sectors |= 1u << sector;
+    return sectors;
 }
 
 /* What became of a slave in a group: bits 15-11 of its fragment's status word, DAT worth 10 hex and then the code. */

@@ -282,6 +282,18 @@ def entry_lines():
             yield ("read_entry", 3, *broken), []
 
 
+def named_lines():
+    """Few names in eight sectors, so that many are there twice (02, request 10), among first words that begin no file."""
+    for _ in range(60):
+        firsts = {sector: chance.choice((0xFFFF, word(), 0x4002 | chance.randrange(4) << 4)) for sector in flash.SECTORS}
+        directory = [part for sector, first in firsts.items() for part in (first, flash.address_of(sector), chance.choice((0, 0x8000)), 0)]
+        reply = with_status(directory, 0x01A0)
+        for name in (0, 1, 2, 3, 0xFF, 0x100, files.name_of(firsts[5])):
+            found = [sector for sector, first in firsts.items() if files.may_start(first) and files.name_of(first) == name]
+            yield ("read_named", name, *reply), [sum(1 << sector for sector in found)]
+            yield ("read_named", name, *damaged(reply)), [0]
+
+
 def some_answer():
     way = chance.randrange(9)
     bc = chance.randrange(4)
@@ -341,7 +353,8 @@ def fcs_lines():
 
 def main(folder):
     with open(folder + "/helpers.txt", "w") as given, open(folder + "/helpers.stdout", "w") as wanted:
-        for lines in (request_lines(), file_lines(), reading_lines(), status_lines(), entry_lines(), group_lines(), fcs_lines()):
+        for lines in (request_lines(), file_lines(), reading_lines(), status_lines(), entry_lines(), named_lines(), group_lines(),
+                      fcs_lines()):
             for (name, *numbers), comes_to in lines:
                 given.write(" ".join([name, *("%X" % number for number in numbers)]) + "\n")
                 wanted.write(" ".join("%X" % number for number in comes_to or [0]) + "\n")

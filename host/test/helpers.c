@@ -213,6 +213,12 @@ static void read_entry(void) {
     free(reply);
 }
 
+static void read_named(void) {
+    uint8_t *reply = words_from(1);
+    printf("%X\n", (unsigned)logodwen_read_named(reply, count - 1, given[0]));
+    free(reply);
+}
+
 /* The whole walk, into a text: a reply that breaks off has none of it. */
 static void read_group(void) {
     static uint32_t numbers[MOST];
@@ -256,6 +262,8 @@ static void answer_line(const char *name) {
         read_status();
     else if (strcmp(name, "read_entry") == 0)
         read_entry();
+    else if (strcmp(name, "read_named") == 0)
+        read_named();
     else if (strcmp(name, "read_group") == 0)
         read_group();
     else if (strcmp(name, "fcs") == 0 || strcmp(name, "sealed") == 0)
