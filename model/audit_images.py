@@ -4,10 +4,11 @@
     audit_images.py FOLDER    writes them all below FOLDER, the same ones each time
 
 Below FOLDER: `apart`, 200 images for flashes of their own; `together`, for one flash; `first` and `second`, for a flash that is kept,
-with what it holds then (`first.flash`, `second.flash`); `bad`, for `bad.flash`, which has bad sectors; `each`, an image for
-a library that reads each word wrong once. The report on each is in NAME.report; those on examples/images are in examples.report, a flash
-each, and in kept.report, the good ones in one. `bad` has two more reports: wrong.report is without --summary, and mended.report with the
-sectors erased that have words behind their file."""
+with what it holds then (`first.flash`, `second.flash`); `bad`, for `bad.flash`, which has bad sectors; `doubled`, for `doubled.flash`, which
+has names in several sectors; `each`, an image for a library that reads each word wrong once. The report on each is in NAME.report; those on
+examples/images are in examples.report, a flash each, and in kept.report, the good ones in one. `bad` and `doubled` have two more reports:
+NAME-wrong.report is without --summary, and NAME-mended.report with sectors erased, those that have words behind their file, or all but one of
+each name."""
 
 import pathlib
 import random
@@ -250,6 +251,17 @@ def bad_flash(pick):
     return flash
 
 
+def doubled_flash(pick):
+    """Sectors 4 and 9 have the name 51, and 9 is bad; 3, 5 and 10 have 52, with other types and attributes; 6 has 53 alone, and 7 a first
+    word with that name that begins no file."""
+    flash = [0xFFFF] * 32768
+    for sector, name in ((4, 0x51), (9, 0x51), (3, 0x52), (5, 0x52), (10, 0x52), (6, 0x53)):
+        store(flash, sector, exactly(pick, 20 + sector, name))
+    flash[extent(32768, 9)[25]] ^= 1
+    store(flash, 7, [header(2, 3, 0x53, 1)])
+    return flash
+
+
 # Writing it all.
 
 
@@ -261,6 +273,19 @@ def write_images(folder, images):
         else:
             (folder / name).write_bytes(data)
     return [("%s/%s" % (folder.name, name), data) for name, data in images]
+
+
+def write_wrong(folder, flash, images, mending):
+    """A flash in which something is wrong, images for it, and the reports: with --summary, without it, and after some sectors are erased."""
+    folder.with_suffix(".flash").write_bytes(raw(flash))
+    bench = Bench(list(flash))
+    images = write_images(folder, images)
+    told = report(images, bench)
+    folder.with_suffix(".report").write_text(told + bench.table())
+    folder.with_name(folder.name + "-wrong.report").write_text(told + bench.wrong())
+    bench = Bench(flash)
+    erased = "".join(bench.erased(sector) for sector in mending)
+    folder.with_name(folder.name + "-mended.report").write_text(erased + report(images, bench) + bench.table())
 
 
 def write_all(folder, pick):
@@ -282,16 +307,8 @@ def write_all(folder, pick):
     (folder / "second.report").write_text(erased + report(images, bench) + bench.table())
     (folder / "second.flash").write_bytes(raw(bench.lent.flash))
 
-    flash = bad_flash(pick)
-    (folder / "bad.flash").write_bytes(raw(flash))
-    bench = Bench(list(flash))
-    images = write_images(folder / "bad", [("%02X" % name, raw(exactly(pick, 70, name))) for name in (0x41, 0x42, 0x43)])
-    told = report(images, bench)
-    (folder / "bad.report").write_text(told + bench.table())
-    (folder / "wrong.report").write_text(told + bench.wrong())
-    bench = Bench(flash)
-    erased = bench.erased(5) + bench.erased(8)
-    (folder / "mended.report").write_text(erased + report(images, bench) + bench.table())
+    write_wrong(folder / "bad", bad_flash(pick), [("%02X" % name, raw(exactly(pick, 70, name))) for name in (0x41, 0x42, 0x43)], (5, 8))
+    write_wrong(folder / "doubled", doubled_flash(pick), [("%02X" % name, raw(exactly(pick, 70, name))) for name in range(0x51, 0x55)], (9, 5, 3))
 
     image = in_rows(any_file(pick, 5))
     (folder / "each").write_bytes(image)

@@ -1,11 +1,11 @@
 """What host/audit must print of an image, worked out by the model: how its bytes are read, which rule of 01 'Files and memories' it
-breaks, and what the node answers to it; and of a flash, what its directory has, and which rule a bad sector breaks (01 'Flash', 02 requests 5
-and 6). The words of the report are those that host/audit --help tells."""
+breaks, and what the node answers to it; and of a flash, what its directory has, which rule a bad sector breaks, and which sectors share a name
+(01 'Flash'; 02, requests 5, 6 and 10). The words of the report are those that host/audit --help tells."""
 
 import re
 
 from files import BYTES, MEMORIES, PAGES, PM, file_length, may_start, name_of, permitted, unpacked
-from flash import BAD, BLANK, EMPTY, GOOD, SECTORS, address_of, afresh, kept, named, words_in
+from flash import BAD, BLANK, EMPTY, GOOD, SECTORS, address_of, afresh, kept, words_in
 from group import ABORT, AREA, END, NEXT
 from node import CDP, JOINED, Lent, erase, request, start
 from runs import check_sequence
@@ -150,6 +150,18 @@ def sector_rule(words):
     return rule
 
 
+# Sectors, and the options that erase them, as text.
+
+
+def sectors_text(sectors):
+    *front, last = map(str, sectors)
+    return "sectors %s and %s" % (", ".join(front), last) if front else "sector " + last
+
+
+def erasures_text(sectors):
+    return ", ".join("--erase-sector %d" % sector for sector in sectors)
+
+
 # The node.
 
 
@@ -178,16 +190,25 @@ class Bench:
             answer, at = self.packet(int(at + 8192 >= len(words)), words[at:at + 8192]), at + 8192
         return answer
 
+    def named(self, name):
+        """The sectors that have a name: whose first word can begin a file and has it."""
+        firsts = {sector: kept(list(self.node.directory), sector)[0] for sector in SECTORS}
+        return [sector for sector, first in firsts.items() if may_start(first) and name_of(first) == name]
+
     def refusal(self, words):
         """Why a valid file was refused."""
-        holder = named(list(self.node.directory), name_of(words[0]))
+        name = name_of(words[0])
+        holders = self.named(name)
         if len(words) > 4096:
             return "TOO-LARGE", "%d words; %s" % (len(words), HOLDS)
-        if holder is not None:
-            rule = self.rule(holder)
+        if len(holders) > 1:
+            erasing = "erase them first (%s), or audit this image alone" % erasures_text(holders)
+            return "NAME-USED", "%s have this name; %s" % (sectors_text(holders), erasing)
+        if holders:
+            rule = self.rule(holders[0])
             bad = ", and is bad (%s)" % rule if rule else ""
-            erasing = "erase it first (--erase %02X), or audit this image alone" % name_of(words[0])
-            return "NAME-USED", "sector %d has this name%s; %s" % (holder, bad, erasing)
+            erasing = "erase it first (--erase %02X), or audit this image alone" % name
+            return "NAME-USED", "sector %d has this name%s; %s" % (holders[0], bad, erasing)
         erasing = "erase a file first (--erase NAME), or audit this image alone"
         return "NO-ROOM", "no empty sector has room for %d words; %s" % (len(words), erasing)
 
@@ -200,7 +221,7 @@ class Bench:
         if bc == ABORT:
             rule = broken_rule(words)
             return (None, "INVALID", rule) if rule else (None, *self.refusal(words))
-        sector = named(list(self.node.directory), name_of(words[0]))
+        sector, = self.named(name_of(words[0]))
         assert self.command(0x05, words[0]) == (END, len(words) + 2) and self.lent.reply[:len(words)] == words
         return sector, AGREES, None
 
@@ -231,10 +252,26 @@ class Bench:
         assert (rule is not None) == (afresh(self.lent.flash, sector)[0] == BAD), (sector, rule)
         return rule
 
+    def shared(self, sector):
+        """What is said of a sector that shares its name, or None (02, request 10)."""
+        first = kept(list(self.node.directory), sector)[0]
+        sharing = self.named(name_of(first)) if may_start(first) else []
+        if len(sharing) < 2:
+            return None
+        by_name = [(0x05, first), (0x06, first), (0x46, first), (0x47, first), (0x48, first, 0)]
+        assert all(self.command(*command) == (ABORT, 0) for command in by_name)
+        others = sectors_text([other for other in sharing if other != sector])
+        told = "shares the name %02X with %s, so commands by it are answered ABORT; erase all but one of them (%s)"
+        return told % (name_of(first), others, erasures_text(sharing))
+
     def details(self):
         """What is wrong with each sector that has something wrong, and what to do."""
-        rules = {sector: self.rule(sector) for sector in SECTORS}
-        return {sector: "%s; erase the sector (--erase-sector %d)" % (rule, sector) for sector, rule in rules.items() if rule}
+        told = {}
+        for sector in SECTORS:
+            rule, shared = self.rule(sector), self.shared(sector)
+            parts = ["%s; erase the sector (--erase-sector %d)" % (rule, sector)] if rule else []
+            told[sector] = "; ".join(parts + ([shared] if shared else []))
+        return {sector: detail for sector, detail in told.items() if detail}
 
     def entry(self, sector):
         """First word, status and length of a sector, by the directory; the length is 0 unless it is good (02, request 6)."""

@@ -142,8 +142,15 @@ const char *entry_status(struct entry entry);
 void entry_text(struct entry entry, char *text); /* its status and its length */
 size_t sector_words(unsigned sector);
 const uint8_t *sector_begin(const struct logodwen_node *node, unsigned sector);
-unsigned directory_named(const struct entry *directory, unsigned name); /* the lowest sector with that name, or 0 */
-unsigned directory_place(const struct entry *directory, size_t words);  /* the lowest empty sector with room, or 0 */
+unsigned directory_place(const struct entry *directory, size_t words); /* the lowest empty sector with room, or 0 */
+
+/* Sets of sectors, bit s for sector s (named.c). */
+
+unsigned directory_named(const struct entry *directory, unsigned name); /* those with that name: none, one or several (02, request 10) */
+bool sectors_are_one(unsigned sectors);
+unsigned sectors_lowest(unsigned sectors);           /* 0 of none */
+void sectors_text(unsigned sectors, char *text);     /* as "sectors 3, 5 and 7" */
+void sectors_erasures(unsigned sectors, char *text); /* the options that erase them */
 
 /* What a sector is by the rules (sector.c). */
 
@@ -154,7 +161,7 @@ bool sector_is_bad(const struct logodwen_node *node, unsigned sector, char *rule
 bool sector_is_right(const struct logodwen_node *node, unsigned sector, struct entry entry, char *why);
 
 /* What is wrong with a sector, and what to do about it; no text where nothing is. */
-void sector_detail(const struct logodwen_node *node, unsigned sector, char *detail);
+void sector_detail(const struct logodwen_node *node, const struct entry *directory, unsigned sector, char *detail);
 
 /* The verdict on an image (verdict.c). */
 

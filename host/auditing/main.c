@@ -53,18 +53,36 @@ static bool is_flash_there(struct audit *audit) {
     return is_started(audit);
 }
 
-/* The sector that is to be erased, 0 where no file has the name. */
-static unsigned sector_to_erase(struct logodwen_node *node, struct erasure erasure) {
+/* The sectors that are meant: one by its number; by a name one, none, or several that share it. */
+static unsigned sectors_to_erase(struct logodwen_node *node, struct erasure erasure) {
     struct entry directory[SECTORS];
     if (erasure.is_sector)
-        return erasure.which;
+        return 1u << erasure.which;
     return node_directory(node, directory) ? directory_named(directory, erasure.which) : 0;
+}
+
+/* By a name that no file has, or several share, nothing is erased: the node answers ABORT, or is at fault. */
+static void complain_of_name(struct audit *audit, unsigned name, unsigned sectors, uint64_t answered) {
+    char answer[TEXT], sharing[TEXT], erasures[TEXT];
+    bool is_abort = logodwen_bc(answered) == LOGODWEN_BC_ABORT && logodwen_words(answered) == 0;
+    node_answer_text(answered, answer);
+    sectors_text(sectors, sharing);
+    sectors_erasures(sectors, erasures);
+    if (!is_abort)
+        say(audit->why, "DISPUTED: --erase %02X was answered %s; by the rules it is ABORT, since %s %s this name; please report it with the flash",
+            name, answer, sharing, sectors == 0 ? "has" : "share");
+    else if (sectors == 0)
+        say(audit->why, "--erase %02X: no file has this name, so nothing is erased, audited or kept; --summary shows the names", name);
+    else
+        say(audit->why, "--erase %02X: %s share this name, so nothing is erased, audited or kept; erase all but one of them (%s)", name,
+            sharing, erasures);
+    complain(audit, is_abort ? SOME_DIFFER : NOT_TRUSTED);
 }
 
 /* Whether the directory has a sector as empty now; what it has, as text. */
 static bool is_empty_now(struct logodwen_node *node, unsigned sector, char *has) {
     struct entry directory[SECTORS];
-    if (sector == 0 || !node_directory(node, directory))
+    if (!node_directory(node, directory))
         return say(has, "unknown");
     struct entry entry = directory[sector - SECTOR_FIRST];
     entry_text(entry, has);
@@ -73,12 +91,10 @@ static bool is_empty_now(struct logodwen_node *node, unsigned sector, char *has)
 
 /* Erases one file or sector; false where that could not be done. */
 static bool is_erased(struct audit *audit, struct erasure erasure) {
-    unsigned sector = sector_to_erase(&audit->node, erasure);
+    unsigned sectors = sectors_to_erase(&audit->node, erasure), sector = sectors_lowest(sectors);
     uint64_t answered = node_erase(&audit->node, erasure);
-    if (sector == 0 && logodwen_answer(answered) == LOGODWEN_REPLY && logodwen_bc(answered) == LOGODWEN_BC_ABORT) {
-        say(audit->why, "--erase %02X: no file has this name, so nothing is erased, audited or kept; --summary shows the names",
-            erasure.which);
-        complain(audit, SOME_DIFFER);
+    if (!sectors_are_one(sectors)) {
+        complain_of_name(audit, erasure.which, sectors, answered);
         return false;
     }
     unsigned set = node_erase_on(&audit->node);
@@ -87,8 +103,8 @@ static bool is_erased(struct audit *audit, struct erasure erasure) {
         report_erased(sector, set);
         return true;
     }
-    say(audit->why, "DISPUTED: sector %u should be erased and empty, but is not; words set: %u; the directory has it as %s", sector, set,
-        has);
+    say(audit->why, "DISPUTED: sector %u should be erased and empty, but is not; words set: %u; the directory has it as %s; please report it "
+        "with the flash", sector, set, has);
     complain(audit, NOT_TRUSTED);
     return false;
 }

@@ -83,15 +83,6 @@ size_t sector_words(unsigned sector) { return logodwen_sector_words(sector); }
 
 const uint8_t *sector_begin(const struct logodwen_node *node, unsigned sector) { return node->flash + 2 * logodwen_sector_start(sector); }
 
-unsigned directory_named(const struct entry *directory, unsigned name) {
-    for (unsigned sector = SECTOR_FIRST; sector <= SECTOR_LAST; sector++) {
-        unsigned first = directory[sector - SECTOR_FIRST].first;
-        if (rules_may_begin(first) && name_of(first) == name)
-            return sector;
-    }
-    return 0;
-}
-
 unsigned directory_place(const struct entry *directory, size_t words) {
     for (unsigned sector = SECTOR_FIRST; sector <= SECTOR_LAST; sector++)
         if (words <= sector_words(sector) && entry_is_empty(directory[sector - SECTOR_FIRST]))

@@ -131,7 +131,7 @@ static bool are_consistent(struct options *options, char *why) {
     if (options->summary && !options->together)
         return say(why, "--summary: each image has a flash of its own; give --together or --flash FILE");
     if (options->path_count == 0 && options->erasure_count == 0 && !options->summary && !options->keep && !options->version)
-        return say(why, "no image; name files or folders");
+        return say(why, "no image; name files or folders%s", options->flash != NULL ? ", or give --summary to see what the flash has" : "");
     return true;
 }
 

@@ -248,7 +248,7 @@ bool report_directory(struct logodwen_node *node, bool is_whole, char *why) {
     for (unsigned sector = SECTOR_FIRST; sector <= SECTOR_LAST; sector++) {
         struct entry entry = directory[sector - SECTOR_FIRST];
         char detail[TEXT], difference[TEXT];
-        sector_detail(node, sector, detail);
+        sector_detail(node, directory, sector, detail);
         (is_whole ? print_sector : print_wrong_sector)(sector, entry, detail);
         if (is_right && !sector_is_right(node, sector, entry, difference))
             is_right = say(why, "DISPUTED: %s; one of the two has a fault, so please report it with the flash", difference);

@@ -52,9 +52,23 @@ bool sector_is_right(const struct logodwen_node *node, unsigned sector, struct e
                is_bad ? rule : "");
 }
 
-void sector_detail(const struct logodwen_node *node, unsigned sector, char *detail) {
-    char rule[TEXT];
-    detail[0] = 0;
+/* Whether a sector shares its name; with which others, and what to do. */
+static bool is_name_shared(const struct entry *directory, unsigned sector, char *text) {
+    unsigned first = directory[sector - SECTOR_FIRST].first, sharing = directory_named(directory, name_of(first));
+    char others[TEXT], erasures[TEXT];
+    if (!rules_may_begin(first) || sectors_are_one(sharing))
+        return false;
+    sectors_text(sharing & ~(1u << sector), others);
+    sectors_erasures(sharing, erasures);
+    say(text, "shares the name %02X with %s, so commands by it are answered ABORT; erase all but one of them (%s)", name_of(first), others,
+        erasures);
+    return true;
+}
+
+void sector_detail(const struct logodwen_node *node, const struct entry *directory, unsigned sector, char *detail) {
+    char rule[TEXT], bad[TEXT] = "", shared[TEXT] = "";
     if (sector_is_bad(node, sector, rule))
-        say(detail, "%s; erase the sector (--erase-sector %u)", rule, sector);
+        say(bad, "%s; erase the sector (--erase-sector %u)", rule, sector);
+    bool is_shared = is_name_shared(directory, sector, shared);
+    say(detail, "%s%s%s", bad, bad[0] != 0 && is_shared ? "; " : "", shared);
 }

@@ -12,27 +12,31 @@ struct forecast {
 
 static struct forecast refused(enum verdict verdict) { return (struct forecast){.verdict = verdict, .bc = LOGODWEN_BC_ABORT}; }
 
-/* The name of a valid file is used: by which sector, and if that is bad, why. */
-static struct forecast foretell_used(const struct logodwen_node *node, unsigned holder, unsigned name) {
-    struct forecast forecast = refused(NAME_USED);
-    char rule[TEXT];
-    bool is_bad = sector_is_bad(node, holder, rule);
-    say(forecast.why, "sector %u has this name%s%s%s; erase it first (--erase %02X), or audit this image alone", holder,
-        is_bad ? ", and is bad (" : "", is_bad ? rule : "", is_bad ? ")" : "", name);
-    return forecast;
+/* The name of a valid file is used: by one sector, and if that is bad, why; or by several, of which none can be erased by name. */
+static void say_used(const struct logodwen_node *node, unsigned holders, unsigned name, char *why) {
+    char rule[TEXT], sectors[TEXT], erasures[TEXT];
+    sectors_text(holders, sectors);
+    sectors_erasures(holders, erasures);
+    if (!sectors_are_one(holders))
+        say(why, "%s have this name; erase them first (%s), or audit this image alone", sectors, erasures);
+    else if (sector_is_bad(node, sectors_lowest(holders), rule))
+        say(why, "%s has this name, and is bad (%s); erase it first (--erase %02X), or audit this image alone", sectors, rule, name);
+    else
+        say(why, "%s has this name; erase it first (--erase %02X), or audit this image alone", sectors, name);
 }
 
 /* The answer to a valid file: its name must be unused, and an empty sector have room. A file that no sector has room for is told apart
    from one that other files leave no room for. */
 static struct forecast foretell_valid(const struct logodwen_node *node, const struct entry *directory, const struct image *image) {
-    unsigned name = name_of(logodwen_get(image->bytes, 0)), holder = directory_named(directory, name);
+    unsigned name = name_of(logodwen_get(image->bytes, 0)), holders = directory_named(directory, name);
     unsigned place = directory_place(directory, image->words);
     struct forecast forecast = {.verdict = AGREES, .bc = LOGODWEN_BC_END, .sector = place};
     if (image->words > LOGODWEN_FILE_WORDS) {
         forecast = refused(TOO_LARGE);
         say(forecast.why, "%zu words; " FLASH_HOLDS, image->words);
-    } else if (holder != 0) {
-        forecast = foretell_used(node, holder, name);
+    } else if (holders != 0) {
+        forecast = refused(NAME_USED);
+        say_used(node, holders, name, forecast.why);
     } else if (place == 0) {
         forecast = refused(NO_ROOM);
         say(forecast.why, "no empty sector has room for %zu words; erase a file first (--erase NAME), or audit this image alone",
@@ -87,24 +91,24 @@ static bool is_read_back(struct logodwen_node *node, const struct image *image, 
     return say(detail, "word 0: signed %04X, read nothing; File Read was answered %s", header, text);
 }
 
-/* Whether the directory has the file where it went by the rules, as good and with its length. */
-static bool is_listed(struct logodwen_node *node, unsigned sector, unsigned place, const struct entry *directory, char *detail) {
+/* Whether the directory has the file where it went by the rules, and nowhere else, as good and with its length. */
+static bool is_listed(struct logodwen_node *node, unsigned holders, unsigned place, const struct entry *directory, char *detail) {
     char difference[TEXT];
-    if (sector != place)
-        return say(detail, "the words agree, but by the rules the file is in sector %u, and the directory has it in %u (0: in none)", place,
-                   sector);
-    return sector_is_right(node, sector, directory[sector - SECTOR_FIRST], difference)
-           || say(detail, "the words agree, but %s", difference);
+    if (holders != 1u << place) {
+        sectors_text(holders, difference);
+        return say(detail, "the words agree, but by the rules the file is in sector %u, and the directory has it in %s", place, difference);
+    }
+    return sector_is_right(node, place, directory[place - SECTOR_FIRST], difference) || say(detail, "the words agree, but %s", difference);
 }
 
 /* After a File Write that was answered END: where the directory has the file, and whether it is read back as it was signed. */
 static enum verdict read_back(struct logodwen_node *node, const struct image *image, unsigned place, struct finding *finding) {
     struct entry directory[SECTORS];
-    if (node_directory(node, directory))
-        finding->sector = directory_named(directory, name_of(finding->header));
+    unsigned holders = node_directory(node, directory) ? directory_named(directory, name_of(finding->header)) : 0;
+    finding->sector = sectors_lowest(holders);
     if (!is_read_back(node, image, finding->detail))
         return DIFFERS;
-    return is_listed(node, finding->sector, place, directory, finding->detail) ? AGREES : DISPUTED;
+    return is_listed(node, holders, place, directory, finding->detail) ? AGREES : DISPUTED;
 }
 
 static enum verdict write_and_read_back(struct logodwen_node *node, const struct image *image, struct finding *finding) {

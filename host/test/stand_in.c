@@ -14,6 +14,7 @@ enum { FIRST_JUDGED = 12, HEADER_JOINED, OTHER_LET_IN, JOINED_TOO_MUCH };       
 enum { MASK_0_EMPTY = 16, ALL_MASKS_FULL, CDP_WITH_SLAVES };                                    /* of the masks at start */
 enum { FIRST_OFF = 19, LENGTH_OFF, LENGTH_LEFT };                                               /* of the summary's words */
 enum { REMAINS_OVERLOOKED = 22 };                                                               /* of words behind a file */
+enum { LOWEST_TAKEN = 23 };                                                                     /* of a name in several sectors */
 enum { DIRECTORY_BYTES = 64, ENTRY_WORDS = 4, FIRST = 0, STATUS = 2, LENGTH = 3 };
 
 static bool is_own(const uint8_t *packet, size_t packet_len, unsigned id) {
@@ -101,6 +102,21 @@ static void summary_with_fault(uint64_t answered, uint8_t *reply) {
     logodwen_put(reply, words - 1, logodwen_fcs(reply, words - 1));
 }
 
+/* An Erase by name, with a fault: by the address of the lowest sector that has the name, though several have it. */
+static const uint8_t *erase_with_fault(const uint8_t *packet, size_t packet_len, const uint8_t *directory) {
+    static uint8_t at_lowest[4];
+    struct logodwen_header header;
+    if (FAULT != LOWEST_TAKEN || packet_len != sizeof at_lowest || !is_own(packet, packet_len, 0x47) || (packet[2] & 15u) == 0)
+        return packet;
+    for (unsigned sector = LOGODWEN_SECTOR_FIRST; sector <= LOGODWEN_SECTOR_LAST; sector++)
+        if (logodwen_read_header(logodwen_get(directory, ENTRY_WORDS * (size_t)(sector - LOGODWEN_SECTOR_FIRST) + FIRST), &header)
+            && header.name == (logodwen_get(packet, 1) >> 4 & 0xFFu)) {
+            logodwen_make_erase_start_at(at_lowest, sector);
+            return at_lowest;
+        }
+    return packet;
+}
+
 uint32_t logodwen2_start(uint32_t kind, uint32_t ports, uint32_t subdetector, uint16_t program_version,
                          uint16_t subdetector_version, uint16_t start_tests, uint32_t clock, const uint8_t *flash, size_t flash_len,
                          uint8_t *state, size_t state_len) {
@@ -129,8 +145,10 @@ uint64_t logodwen2_request(uint32_t now, uint32_t link, uint32_t bc, uint32_t re
     uint32_t joined = written == NULL ? 0 : logodwen_get_pm(written + LOGODWEN_AT_JOINED, 0);
     if (FAULT == OTHER_LET_IN && written != NULL && packet_len >= 2 && (bc & 2) == 0)
         link = written[LOGODWEN_AT_WRITE_LINK];
-    if (state_len == LOGODWEN_STATE_BYTES)
+    if (state_len == LOGODWEN_STATE_BYTES) {
         memcpy(before, state + LOGODWEN_AT_DIRECTORY, sizeof before);
+        packet = erase_with_fault(packet, packet_len, before);
+    }
     uint64_t answered = model_request(now, link, bc, receive_error, packet, packet_len, state, state_len, flash, flash_len, pm,
                                       pm_len, dm, dm_len, io, io_len, area, area_len, reply, reply_len);
     if (FAULT == ODD_BYTE_CLEARED && logodwen_answer(answered) == LOGODWEN_REPLY && dm_len % 2 == 1)
