@@ -26,7 +26,7 @@ use Rattle.border.specs.Kept.{erasingIn}
 use Rattle.border.specs.Answers.{InBits, endNumber, abortNumber, handed}
 use Rattle.border.specs.Files.{fileRead, fileLoad, Stands, sectorIn, inSector}
 
--- The sector that Read and Load are about: the lowest one that the directory in the state bytes has with that name.
+-- What Read and Load are about: the one sector that the directory in the state bytes has with that name, none, or several (02, request 10).
 abbrev pub namedIn : List ℕ → List ℕ → Target
 namedIn state header = targetOf (wordsIn 2 32 (drop 108 state)) (nameOf (getD (wordsOf 2 header) 0 0))
 
