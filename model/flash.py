@@ -1,5 +1,5 @@
-"""The flash, from 01 'Flash' and requests 5 and 6 of 02: its sectors, the directory that the state keeps of them, and what changes either. A
-directory is 32 words, four for each of the sectors 3 to 10; `erasing` is the sector being erased, or None."""
+"""The flash, from 01 'Flash' and requests 5, 6 and 10 of 02: its sectors, the directory that the state keeps of them, and what changes
+either. A directory is 32 words, four for each of the sectors 3 to 10; `erasing` is the sector being erased, or None."""
 
 from functools import lru_cache
 
@@ -9,6 +9,7 @@ SIZES = (32768, 262144)  # bench and full
 SECTORS = range(3, 11)  # the file sectors
 BLANK = 0xFFFF
 EMPTY, GOOD, BAD, ERASING = "empty", "good", "bad", "erasing"
+SEVERAL = "several"  # sectors have a name
 STATUS = {EMPTY: 0, GOOD: 0, BAD: 0x8000, ERASING: 0x4000}  # the status word
 
 
@@ -86,6 +87,11 @@ def named(directory, name):
     return next(iter(all_named(directory, name)), None)
 
 
+def searched(directory, name):
+    """What the name search says (02, request 10): None, the one sector that has the name, or SEVERAL."""
+    return SEVERAL if len(all_named(directory, name)) > 1 else named(directory, name)
+
+
 # What a command does with a sector.
 
 
@@ -121,8 +127,9 @@ def attributed(header, value):
 
 
 def sector_to_erase(directory, word):
-    """The sector that Erase's parameter means: low four bits zero a sector address, else a name; None where it is unknown."""
-    return addressed(word) if word & 15 == 0 else named(directory, name_of(word))
+    """The sector that Erase's parameter means: low four bits zero a sector address, else a name; None where it is unknown, and SEVERAL
+    where several sectors have the name."""
+    return addressed(word) if word & 15 == 0 else searched(directory, name_of(word))
 
 
 def blank(flash, sector, done, budget):

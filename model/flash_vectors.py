@@ -6,8 +6,8 @@ import random
 
 from build import file_of, header
 from files import DM, IO, PM, sealed
-from flash import BAD, BLANK, SECTORS, SIZES, STATUS, address_of, addressed, all_named, attributed, blank, directory_of, extent
-from flash import place_for, status_in, store, words_in
+from flash import BAD, BLANK, SECTORS, SEVERAL, SIZES, STATUS, address_of, addressed, all_named, attributed, blank, directory_of, extent
+from flash import place_for, searched, status_in, store, words_in
 from image_vectors import any_file, short
 from words import line_of, words_of
 
@@ -15,6 +15,7 @@ FIELDS = (
     "full", "erasing", "done", "name", "address", "length", "place", "word", "attributed", "value", "stored", "file_words", "budgets",
     "seed",
 )
+SEARCHED = {None: 0, SEVERAL: 1}  # what the name search says, else the sector
 NAMES = (0x21, 0x22, 0x7F, 0x00, 0xFF)
 
 
@@ -101,9 +102,8 @@ def answers(asked, file, budgets, flash):
     said = list(kept)
     if asked["place"] < 32:
         kept[asked["place"]] = asked["word"]
-    found = all_named(kept, asked["name"])
-    lowest = found[0] if found else 0
-    said += [len(found), lowest, lowest, addressed(asked["address"]) or 0]
+    found, answer = all_named(kept, asked["name"]), searched(kept, asked["name"])
+    said += [len(found), found[0] if found else 0, SEARCHED.get(answer, answer), addressed(asked["address"]) or 0]
     said += statuses(kept, flash, sector())
     said += [place_for(flash, kept, asked["length"], sector()) or 0]
     said += set_attribute(flash, asked["attributed"], asked["value"])

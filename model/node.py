@@ -1,5 +1,5 @@
-"""The whole node, from document 01 and requests 1, 2, 5 and 6 of 02: its state, the refusals, requests, own commands, and the five calls
-start, request, reply, poll and erase. A call takes a node and what it is lent, and hands back the next node with the answer; lent
+"""The whole node, from document 01 and requests 1, 2, 5, 6 and 10 of 02: its state, the refusals, requests, own commands, and the five
+calls start, request, reply, poll and erase. A call takes a node and what it is lent, and hands back the next node with the answer; lent
 lists change in place, and only if the call is accepted. An answer is a tuple: ("refused", number), ("started",), ("reply", BC, words
 in the reply buffer), ("ask", slave, word from which the request is sent on), ("waiting",), or ("erased", words set)."""
 
@@ -7,8 +7,8 @@ from dataclasses import dataclass, replace
 from typing import Optional
 
 from files import DM, IO, PM, file_length, name_of, sealed, segment_at, segments_of
-from flash import BAD, EMPTY, GOOD, SECTORS, SIZES, STATUS, attributed, blank, directory_of, entry, entry_of, extent, laid, named
-from flash import place_for, sector_to_erase, status_in, store, words_in
+from flash import BAD, EMPTY, GOOD, SECTORS, SEVERAL, SIZES, STATUS, attributed, blank, directory_of, entry, entry_of, extent, laid, named
+from flash import place_for, searched, sector_to_erase, status_in, store, words_in
 from group import ABORT, AREA, END, ERROR, NEXT, Answer, ending, fragment, is_late, single, slaves_of, tally_with, zero_length
 from memory import fits, load, perform, read
 
@@ -266,17 +266,18 @@ def with_entry(node, sector, entry):
 
 
 def target(node, lent, header):
-    """The sector that has the name in a header, None where there is none; and the words of its file, None where it isn't good."""
+    """The sector that has the name in a header, None where there is none, SEVERAL where there are several; and the words of its file, None
+    where it isn't good."""
     directory = list(node.directory)
-    sector = named(directory, name_of(header))
-    if sector is None:
-        return None, None
+    sector = searched(directory, name_of(header))
+    if sector in (None, SEVERAL):
+        return sector, None
     status, length = status_in(lent.flash, directory, sector)
     return sector, words_in(lent.flash, sector)[:length] if status == GOOD else None
 
 
 def of_bad_file(node):
-    """Read, Test and Load of a bad file add one FLASH error."""
+    """Read, Test and Load of a bad file add one FLASH error; so do Read and Load where several sectors have the name (02, request 10)."""
     return replace(node, flash_errors=more(node.flash_errors))
 
 
@@ -291,7 +292,7 @@ def file_read(node, lent, now, link, parameters):
 
 def file_test(node, lent, now, link, parameters):
     sector, words = target(node, lent, parameters[0])
-    if sector is None:
+    if sector in (None, SEVERAL):
         return node, ABORT
     if words is None:
         return of_bad_file(node), [STATUS[BAD]]
@@ -331,7 +332,7 @@ def flash_summary(node, lent, now, link, parameters):
 
 def erase_start(node, lent, now, link, parameters):
     sector = sector_to_erase(list(node.directory), parameters[0])
-    if sector is None:
+    if sector in (None, SEVERAL):
         return node, ABORT
     node = with_entry(node, sector, entry_of(lent.flash, sector, sector))
     return replace(node, erasing=Erasing(sector, 0)), END

@@ -5,6 +5,7 @@ from script import Script
 from scripts_flash import bad_sectors, directories, every_sector, files, long_files
 from scripts_lengths import erasing_lengths, shown_lengths, wrong_lengths
 from scripts_memory import headers, loads, long_segments, runs_of_memory, segments
+from scripts_names import doubled_names, kept_twice, one_being_erased, one_that_counts
 from scripts_remains import nothing_behind, remains, remains_come_and_go
 from scripts_requests import command_numbers, counts, first_bytes, lengths, small_commands, start_masks
 from scripts_slaves import groups, room, singles, tallies, times
@@ -25,6 +26,7 @@ SCRIPTS = (
     start_masks,
     shown_lengths, wrong_lengths, erasing_lengths,
     remains, remains_come_and_go, nothing_behind,
+    doubled_names, one_being_erased, one_that_counts, kept_twice,
 )
 
 

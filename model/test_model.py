@@ -1,6 +1,7 @@
 #!/usr/bin/env python3
 """The model against documents 01 and 02: each example of 01, the lines of the bench, what 01 says of every call, and what 02 says of
-files that come in several packets, of the masks at start, of the lengths in the summary and of remains behind a file."""
+files that come in several packets, of the masks at start, of the lengths in the summary, of remains behind a file and of names that
+several sectors have."""
 
 import random
 import unittest
@@ -355,6 +356,65 @@ class Remains(unittest.TestCase):
         self.node, _ = erase(self.node, self.lent.flash, 2048)
         self.assertEqual(self.send(0x45, *self.FILE), ("reply", END, 0))
         self.assertEqual((self.send(0x05, 0x0420), self.node.flash_errors), (("reply", 3, 9), 3))
+
+
+class Names(unittest.TestCase):
+    """02, request 10."""
+
+    def program(self, *places):
+        """A flash that was programmed elsewhere: a file of one name at some places, each with other words."""
+        self.lent = lent()
+        for place in places:
+            file = file_of([segment(DM, 0x2000, [place])], kind=1, name=0x42)
+            self.lent.flash[place:place + len(file)] = file
+        self.node, _ = start(CDP, 1, 0, 0, 0, 0, 0, self.lent.flash)
+
+    def send(self, *packet):
+        """What a command is answered, and how many FLASH errors it added."""
+        before = self.node.flash_errors
+        self.node, answer = request(self.node, self.lent, 0, 0, 3, 0, own(*packet))
+        return answer, self.node.flash_errors - before
+
+    def several(self):
+        """What each command says of several."""
+        left = (list(self.lent.flash), self.lent.memories[DM][:9], self.node.directory)
+        for number, errors in ((0x05, 1), (0x06, 0), (0x46, 1), (0x47, 0), (0x48, 0)):
+            self.assertEqual(self.send(number, 0x0421, *[0] * (number == 0x48)), (("reply", ABORT, 0), errors))
+        self.assertEqual(self.send(0x45, *self.lent.flash[4096:4101]), (("reply", ABORT, 0), 0))
+        self.assertEqual(left, (self.lent.flash, self.lent.memories[DM][:9], self.node.directory))
+
+    def erase(self, address):
+        self.assertEqual(self.send(0x47, address), (("reply", END, 0), 0))
+        self.node, _ = erase(self.node, self.lent.flash, 4096)
+
+    def test_several(self):
+        for places in ((2048, 4096), (4096, 28672), (2048, 4096, 8192)):
+            self.program(*places)
+            self.several()
+
+    def test_good_or_bad(self):
+        for wrong in ((2051,), (4099,), (2051, 4099)):
+            self.program(2048, 4096)
+            for place in wrong:
+                self.lent.flash[place] ^= 1
+            self.node, _ = start(CDP, 1, 0, 0, 0, 0, 0, self.lent.flash)
+            self.several()
+
+    def test_one_serves_again(self):
+        self.program(2048, 4096, 8192)
+        self.erase(0x0200)
+        self.several()
+        self.erase(0x0800)
+        self.assertEqual((self.send(0x05, 0x0420), self.lent.reply[3]), ((("reply", 3, 7), 0), 4096))
+        self.assertEqual(self.send(0x06, 0x0420), (("reply", 3, 3), 0))
+        self.assertEqual(self.send(0x47, 0x0421), (("reply", END, 0), 0))
+
+    def test_a_word_that_starts_no_file_does_not_count(self):
+        for word in (0xB421, 0x3420, 0x342F, 0x3431):
+            self.program(4096)
+            self.lent.flash[2048] = word
+            self.node, _ = start(CDP, 1, 0, 0, 0, 0, 0, self.lent.flash)
+            self.assertEqual(self.send(0x05, 0x0420), (("reply", 3, 7), 0))
 
 
 def long_file(length, pick):

@@ -1,4 +1,4 @@
-/* 01 'Flash', and requests 5 and 6 of 02: sectors, the directory, names, placing, attributes. */
+/* 01 'Flash', and requests 5, 6 and 10 of 02: sectors, the directory, names, placing, attributes. */
 #include "model.h"
 
 /* With U a sixteenth: words 0 to U-1 are sectors 0-2, sector 3 has U words, sectors 4-10 have 2U each. */
@@ -54,18 +54,24 @@ void model_directory(uint16_t *directory, struct run flash) {
     }
 }
 
-/* The lowest sector whose first word can start a file and has the name in bits 11-4. */
+static bool is_named(const uint16_t *directory, unsigned sector, unsigned header) {
+    unsigned first = directory[4 * (sector - SECTOR_FIRST)];
+    return model_may_start(first) && ((first ^ header) & 0x0FF0) == 0;
+}
+
+/* The sector whose first word can start a file and has the name in bits 11-4, if there is one and no other (02, request 10). */
 unsigned model_named(const uint16_t *directory, unsigned header) {
-    for (unsigned sector = SECTOR_FIRST; sector <= SECTOR_LAST; sector++) {
-        unsigned first = directory[4 * (sector - SECTOR_FIRST)];
-        if (model_may_start(first) && ((first ^ header) & 0x0FF0) == 0)
-            return sector;
-    }
-    return 0;
+    unsigned found = NO_SECTOR;
+    for (unsigned sector = SECTOR_FIRST; sector <= SECTOR_LAST; sector++)
+        if (is_named(directory, sector, header))
+            found = found == NO_SECTOR ? sector : SEVERAL;
+    return found;
 }
 
 /* A sector whose entry differs from the one worked out afresh is bad. */
 size_t model_good_file(const uint16_t *directory, struct run flash, unsigned sector) {
+    if (sector < SECTOR_FIRST)
+        return 0;
     size_t length = file_in(flash, sector);
     return has_entry(directory, sector, word_at(sector_bytes(flash, sector), 0), length) ? length : 0;
 }
@@ -74,7 +80,7 @@ unsigned model_place(const uint16_t *directory, struct run flash, size_t length)
     for (unsigned sector = SECTOR_FIRST; sector <= SECTOR_LAST; sector++)
         if (length <= model_sector_size(flash.words, sector) && has_entry(directory, sector, 0xFFFF, 0) && is_blank(flash, sector, 0))
             return sector;
-    return 0;
+    return NO_SECTOR;
 }
 
 unsigned model_sector_to_erase(const uint16_t *directory, unsigned parameter) {
@@ -83,7 +89,7 @@ unsigned model_sector_to_erase(const uint16_t *directory, unsigned parameter) {
     for (unsigned sector = SECTOR_FIRST; sector <= SECTOR_LAST; sector++)
         if (model_sector_address(sector) == parameter)
             return sector;
-    return 0;
+    return NO_SECTOR;
 }
 
 /* 11 to default clears bit 12, 10 to plain clears bit 13, 0X to default is refused, what holds already stays. */

@@ -10,7 +10,8 @@
 enum { CDP = 1, CDDC = 2 };
 enum { NEXT = 0, ERROR = 1, ABORT = 2, END = 3, DATA = 3 }; /* the BC of a reply */
 enum { PENDING_NOTHING = 0, PENDING_SLAVE = 1, PENDING_GROUP = 2 };
-enum { AREA = 12288, JOIN_AREA = 32768, SLAVES = 24, SECTOR_FIRST = 3, SECTOR_LAST = 10 };
+enum { AREA = 12288, JOIN_AREA = 32768, SLAVES = 24 };
+enum { NO_SECTOR = 0, SEVERAL = 1, SECTOR_FIRST = 3, SECTOR_LAST = 10 }; /* what a search finds: none, several, or one of 3 to 10 */
 enum { BENCH = 32768, FULL = 262144 };
 
 /* A lent run: its bytes, and how many words they are; a PM word is four bytes, any other two. */
@@ -78,10 +79,10 @@ size_t model_sector_size(size_t flash_words, unsigned sector);
 unsigned model_sector_address(unsigned sector);
 void model_lay_entry(uint16_t *directory, unsigned sector, unsigned first, unsigned status, size_t length);
 void model_directory(uint16_t *directory, struct run flash);
-unsigned model_named(const uint16_t *directory, unsigned header); /* the sector, 0 where no file has that name */
-size_t model_good_file(const uint16_t *directory, struct run flash, unsigned sector); /* its length, 0 where it is not good */
-unsigned model_place(const uint16_t *directory, struct run flash, size_t length);     /* the sector, 0 where none is fit */
-unsigned model_sector_to_erase(const uint16_t *directory, unsigned parameter);        /* the sector, 0 where it is unknown */
+unsigned model_named(const uint16_t *directory, unsigned header);
+size_t model_good_file(const uint16_t *directory, struct run flash, unsigned sector); /* its length, 0 where it is not good, or no sector */
+unsigned model_place(const uint16_t *directory, struct run flash, size_t length);
+unsigned model_sector_to_erase(const uint16_t *directory, unsigned parameter);
 bool model_attribute(unsigned *header, unsigned value);
 
 /* Memories (memory.c). */

@@ -182,7 +182,7 @@ static uint8_t *sector_bytes(const struct lent *lent, unsigned sector) {
 
 static struct outcome file_read(struct node *node, unsigned header, const struct lent *lent) {
     unsigned sector = model_named(node->directory, header);
-    if (sector == 0)
+    if (sector == NO_SECTOR)
         return zero(END);
     size_t length = model_good_file(node->directory, lent->flash, sector);
     if (length == 0) {
@@ -197,7 +197,7 @@ static struct outcome file_read(struct node *node, unsigned header, const struct
 
 static struct outcome file_test(struct node *node, unsigned header, const struct lent *lent) {
     unsigned sector = model_named(node->directory, header);
-    if (sector == 0)
+    if (sector == NO_SECTOR || sector == SEVERAL)
         return zero(ABORT);
     bool bad = model_good_file(node->directory, lent->flash, sector) == 0;
     if (bad)
@@ -208,7 +208,7 @@ static struct outcome file_test(struct node *node, unsigned header, const struct
 
 static struct outcome file_load(struct node *node, unsigned header, const struct lent *lent) {
     unsigned sector = model_named(node->directory, header);
-    if (sector == 0)
+    if (sector == NO_SECTOR)
         return zero(ABORT);
     size_t length = model_good_file(node->directory, lent->flash, sector);
     if (length == 0) {
@@ -230,10 +230,12 @@ static struct outcome file_load(struct node *node, unsigned header, const struct
 }
 
 static struct outcome file_write(struct node *node, struct parameters with, const struct lent *lent) {
-    if (with.n == 0 || model_file_length(with.words, with.n) != with.n || model_named(node->directory, word_at(with.words, 0)) != 0)
+    if (with.n == 0 || model_file_length(with.words, with.n) != with.n)
+        return zero(ABORT);
+    if (model_named(node->directory, word_at(with.words, 0)) != NO_SECTOR)
         return zero(ABORT);
     unsigned sector = model_place(node->directory, lent->flash, with.n);
-    if (sector == 0)
+    if (sector == NO_SECTOR)
         return zero(ABORT);
     memcpy(sector_bytes(lent, sector), with.words, 2 * with.n);
     model_lay_entry(node->directory, sector, word_at(with.words, 0), 0, with.n);
@@ -248,7 +250,7 @@ static struct outcome flash_summary(const struct node *node, uint8_t *reply) {
 
 static struct outcome erase_begin(struct node *node, unsigned parameter, const struct lent *lent) {
     unsigned sector = model_sector_to_erase(node->directory, parameter);
-    if (sector == 0)
+    if (sector == NO_SECTOR || sector == SEVERAL)
         return zero(ABORT);
     model_lay_entry(node->directory, sector, word_at(sector_bytes(lent, sector), 0), 0x4000, 0);
     node->erasing = true;
@@ -259,7 +261,7 @@ static struct outcome erase_begin(struct node *node, unsigned parameter, const s
 
 static struct outcome attribute_set(struct node *node, unsigned header, unsigned value, const struct lent *lent) {
     unsigned sector = model_named(node->directory, header);
-    size_t length = sector == 0 ? 0 : model_good_file(node->directory, lent->flash, sector);
+    size_t length = model_good_file(node->directory, lent->flash, sector);
     if (length == 0)
         return zero(ABORT);
     unsigned first = word_at(sector_bytes(lent, sector), 0);
