@@ -1,6 +1,7 @@
 /* Tests of the border: each refusal and their order, odd lengths, NULL with length 0, guard bytes round every run, alignment, files
-   in several packets, lengths in the directory, remains behind a file, the parts of what is answered, and the layout of the state. Every run stands between
-   guard bytes; after each call they are looked at, and after a refused one every byte of every run too. */
+   in several packets, lengths in the directory, remains behind a file, names that several sectors have, the parts of what is
+   answered, and the layout of the state. Every run stands between guard bytes; after each call they are looked at, and after a refused
+   one every byte of every run too. */
 #include "../../include/logodwen.h"
 
 #include <stdio.h>
@@ -531,6 +532,58 @@ static void test_remains(void) {
     }
 }
 
+/* Of a name that several sectors have, Read, Test, Load, Attribute Set and Erase by name are ABORT; Read and Load count an error, and
+   nothing else changes. Write finds it used (02, request 10). */
+static void check_several(int line) {
+    static const uint16_t ids[6] = {0x052E, 0x062E, 0x462E, 0x482E, 0x472E, 0x452E};
+    for (size_t i = 0; i < 6; i++) {
+        PACKET_OF(ids[i], 0x0211, 0x0001);
+        lengths[PACKET] = ids[i] == 0x482E ? 6 : 4;
+        if (ids[i] == 0x452E)
+            file_write(0x7211);
+        uint16_t errors = state_word(LOGODWEN_AT_FLASH_ERRORS);
+        check(request_at(1000, 0, LOGODWEN_BC_WHOLE, 0, line) == zero_length(LOGODWEN_BC_ABORT), "several: ABORT", line);
+        check(state_word(LOGODWEN_AT_FLASH_ERRORS) == errors + (ids[i] == 0x052E || ids[i] == 0x462E), "Read and Load count it", line);
+        check(is_same(FLASH, 0, rooms[FLASH]) && is_same(STATE, LOGODWEN_AT_ERASING, rooms[STATE]), "nothing else changes", line);
+    }
+}
+#define CHECK_SEVERAL() check_several(__LINE__)
+
+static void test_names_twice(void) {
+    for (unsigned bad = 0; bad < 4; bad++) { /* a bit for each of two sectors */
+        lend_with(0);
+        file_write(0x7211);
+        for (unsigned sector = 3; sector <= 5; sector += 2) {
+            uint8_t *to = runs[FLASH] + 2 * logodwen_sector_start(sector);
+            memcpy(to, runs[PACKET] + 2, 12);
+            to[8] ^= (uint8_t)(sector == 3 ? bad & 1 : bad >> 1);
+        }
+        CHECK(START(LOGODWEN_CDDC, 2, 0) == LOGODWEN_DONE && kept_length(3) == (bad & 1 ? 0 : 6) && kept_length(5) == (bad & 2 ? 0 : 6));
+        CHECK_SEVERAL();
+        PACKET_OF(0x472E, 0x0200); /* by address as before */
+        CHECK(REQUEST(1000, 0, LOGODWEN_BC_WHOLE, 0) == zero_length(LOGODWEN_BC_END) && ERASE(1) == (uint64_t)1 << 32);
+        PACKET_OF(0x052E, 0x0210);
+        CHECK(REQUEST(1000, 0, LOGODWEN_BC_WHOLE, 0) == zero_length(LOGODWEN_BC_ABORT) && ERASE(2047) == (uint64_t)2047 << 32);
+        CHECK(state_word(LOGODWEN_AT_FLASH_ERRORS) == 2);
+        if (bad & 2)
+            CHECK_BAD();
+        PACKET_OF(0x052E, 0x0210); /* one is left, and serves */
+        CHECK(REQUEST(1000, 0, LOGODWEN_BC_WHOLE, 0) == (bad & 2 ? zero_length(LOGODWEN_BC_ABORT) : with_words(8)));
+        PACKET_OF(0x472E, 0x0211);
+        CHECK(REQUEST(1000, 0, LOGODWEN_BC_WHOLE, 0) == zero_length(LOGODWEN_BC_END) && ERASE(4096) == (uint64_t)4096 << 32);
+        PACKET_OF(0x052E, 0x0210);
+        CHECK(REQUEST(1000, 0, LOGODWEN_BC_WHOLE, 0) == zero_length(LOGODWEN_BC_END));
+    }
+    lend_with(0); /* the search goes by the directory */
+    file_write(0x7211);
+    CHECK(REQUEST(1000, 0, LOGODWEN_BC_WHOLE, 0) == zero_length(LOGODWEN_BC_END));
+    logodwen_put(entry_word(10, 0), 0, 0x021E);
+    CHECK_SEVERAL();
+    logodwen_put(entry_word(10, 0), 0, 0x021F); /* which starts no file */
+    PACKET_OF(0x052E, 0x0210);
+    CHECK(REQUEST(1000, 0, LOGODWEN_BC_WHOLE, 0) == with_words(8));
+}
+
 static void test_group(void) {
     lay_out(3);
     CHECK(START(LOGODWEN_CDDC, 2, 0) == LOGODWEN_DONE);
@@ -788,6 +841,7 @@ int main(void) {
     test_alignment();
     test_lengths();
     test_remains();
+    test_names_twice();
     test_group();
     test_area();
     test_joining();

@@ -546,7 +546,7 @@ static void step_write(void) {
     case 0:
     case 1:
         packet_bytes = below(2);
-        bc = one_in(2) ? 2 : bc;
+        bc = one_in(was.pending ? 5 : 2) ? bc : 2;
         call_request(either, bc, one_in(6) ? wild() : 0);
         break;
     case 2:
@@ -696,7 +696,7 @@ static void step_state(void) {
         put_both(STATE_RUN, LOGODWEN_AT_TALLY, (uint8_t)(group ? below(one_in(10) ? 10 : 7) : 0));
         put_state_long(LOGODWEN_AT_ASKED, group ? set | (one_in(10) ? 0 : 1u << model[STATE_RUN][LOGODWEN_AT_SLAVE] % 24) : 0);
         put_state_long(LOGODWEN_AT_BUILT, !group ? 0 : one_in(3) ? 12160 + below(130) : one_in(10) ? any() : below(12000));
-        if (one_in(3)) { /* a write of the same link */
+        if (one_in(2)) { /* a write of the same link */
             put_both(STATE_RUN, LOGODWEN_AT_WRITE, 1);
             put_both(STATE_RUN, LOGODWEN_AT_WRITE_LINK, model[STATE_RUN][LOGODWEN_AT_LINK]);
         }
@@ -761,6 +761,21 @@ static void step_remains(void) {
         put_both(FLASH_RUN, at, before);
 }
 
+/* A file in one more sector, good or damaged, with nothing behind it, and commands on its name. */
+static void step_name_twice(void) {
+    unsigned place = below(8), other = below(8);
+    size_t from = 2 * logodwen_sector_start(3 + place), to = 2 * logodwen_sector_start(3 + other);
+    size_t words = logodwen_sector_words(3 + other), length = model_file_length(model[FLASH_RUN] + from, logodwen_sector_words(3 + place));
+    if (length == 0 || length > words || place == other)
+        return;
+    for (size_t at = 0; at < 2 * words; at++)
+        put_both(FLASH_RUN, to + at, at < 2 * length ? model[FLASH_RUN][from + at] : 0xFF);
+    if (one_in(3))
+        put_both(FLASH_RUN, to + 2 * length - 1, model[FLASH_RUN][to + 2 * length - 1] ^ 1);
+    start(1 + below(2));
+    step_file(place);
+}
+
 /* Other lengths for one call. */
 static void step_lengths(void) {
     size_t before[RUNS];
@@ -815,8 +830,8 @@ static void step(void) {
         step_erase();
     else if (one_in(40))
         step_flash();
-    else if (one_in(40))
-        one_in(2) ? step_entry() : step_remains();
+    else if (one_in(30))
+        one_in(3) ? step_entry() : one_in(2) ? step_remains() : step_name_twice();
     else if (one_in(25))
         step_state();
     else if (one_in(25))
@@ -825,7 +840,7 @@ static void step(void) {
         one_in(2) ? (void)call_poll() : step_erase();
     else if (one_in(100))
         step_start();
-    else if (standing().stands ? one_in(8) : !one_in(3))
+    else if (standing().stands ? one_in(12) : !one_in(3))
         step_request();
     else
         step_write();
