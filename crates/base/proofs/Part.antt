@@ -63,6 +63,21 @@ below-append [] b h g i = g i
 below-append (x ∷ a) b h g zero = h zero
 below-append (x ∷ a) b h g (suc i) = below-append a b (λ j. h (suc j)) g i
 
+-- runs of few words
+
+pub below-none : {m : ℕ} → 0 < m → Below m []
+below-none h i = h
+
+pub below-cons : {m : ℕ} (x : ℕ) (ws : List ℕ) → x < m → Below m ws → Below m (x ∷ ws)
+below-cons x ws h g zero = h
+below-cons x ws h g (suc i) = g i
+
+pub below-one : {m : ℕ} (x : ℕ) → x < m → Below m (x ∷ [])
+below-one x h = below-cons x [] h (below-none (omega arith))
+
+pub below-two : {m : ℕ} (x y : ℕ) → x < m → y < m → Below m (x ∷ y ∷ [])
+below-two x y h g = below-cons x (y ∷ []) h (below-one y g)
+
 -- agreement on a stretch
 
 pub same-sym : {a b : List ℕ} {from to : ℕ} → Same a b from to → Same b a from to

@@ -7,7 +7,7 @@ use mathlib.Core.List.{List, [], _∷_}
 use lib.ListN.{length, getD, take, drop}
 use lib.Dec.{leb, eqb}
 use Rattle.base.specs.Words.{blanks, Below}
-use Rattle.base.proofs.Part.{below-take, below-drop, below-append}
+use Rattle.base.proofs.Part.{below-take, below-drop, below-append, below-one}
 use Rattle.base.proofs.Pick.{pick-case}
 use Rattle.flash.specs.Geometry.{isSector, bySector, unitOf, sizeOf, startOf, sectorAddress, sectorOf}
 use Rattle.flash.specs.Status.{firstOf, statusIn, statusWord, fourthWord}
@@ -86,10 +86,6 @@ blanks-below zero i = omega arith
 blanks-below (suc n) zero = omega arith
 blanks-below (suc n) (suc i) = blanks-below n i
 
-one-below : (x : ℕ) → x < 65536 → Below 65536 (x ∷ [])
-one-below x h zero = h
-one-below x h (suc i) = omega arith
-
 cleared-below : {old new : ℕ} → old < 65536 → Cleared old new → new < 65536
 cleared-below h (Cleared.bit12 p e) = omega arith
 cleared-below h (Cleared.bit13 p e) = omega arith
@@ -114,7 +110,7 @@ module _ (n : Node) (link bc : ℕ) (packet : List ℕ) (l : Lent) (b : Below 65
   why-below (Change.Headed s end header) w =
       let first = first-below (sectorOf (l .flash) s) (sector-below (l .flash) s h) in
       let cleared = setting-tells (firstOf (sectorOf (l .flash) s)) (getD packet 2 0) header (w .set) in
-      stored-below (l .flash) s (header ∷ []) h (one-below header (cleared-below first cleared))
+      stored-below (l .flash) s (header ∷ []) h (below-one header (cleared-below first cleared))
   why-below (Change.Begun s) w = h
   why-below (Change.Blanked budget) w = absurd w
 

@@ -5,15 +5,15 @@ use native.Mathlib.Omega.{arith}
 use mathlib.Core.Path.{_≡_, refl, sym, ap, _∙_}
 use mathlib.Core.Bool.{Bool, true, false, _&&_}
 use mathlib.Core.List.{List, [], _∷_, _++_}
-use lib.Bits.{bitXor, xor-lt}
 use lib.Dec.{ltb, leb, eqb}
 use lib.ListN.{length, getD, take, length-take}
 use borrow.Author.Tests.{leb-false}
 use Rattle.base.specs.Pick.{pick}
 use Rattle.base.specs.Words.{Below, laid}
 use Rattle.base.proofs.Pick.{pick-case}
-use Rattle.base.proofs.Part.{below-take, below-append}
-use Rattle.fcs.specs.Fcs.{polynomial, fcsBit, fcsBits, fcsWord, fcsFrom, fcsOf}
+use Rattle.base.proofs.Part.{below-take, below-append, below-none, below-cons, below-one, below-two}
+use Rattle.fcs.specs.Fcs.{fcsOf}
+use Rattle.fcs.proofs.Bounds.{fcs-below}
 use Rattle.group.specs.Kind.{answer, Answer as SlaveAnswer, datOf, codeOf, kindOf}
 use Rattle.group.specs.Slaves.{above, nextOf}
 use Rattle.group.specs.Time.{isLate}
@@ -47,37 +47,6 @@ use Rattle.node.specs.Files.{fileWriteOf, joined, isErasing, placedFor, writeAt
 use Rattle.flash.specs.declared.Found.{Found}
 use Rattle.border.proofs.Runs.{below-laid}
 
--- the check sequence is a 16-bit word
-
-bit-below : (c d : ℕ) → fcsBit c d < 65536
-unfolding fcsBit
-bit-below c d = xor-lt 16 (c * 2 % 65536) (bitXor (c / 32768) d % 2 * polynomial) (omega arith) (omega arith)
-
-bits-below : (k c b : ℕ) → c < 65536 → fcsBits k c b < 65536
-unfolding fcsBits
-bits-below zero c b h = h
-bits-below (suc k) c b h = bits-below k (fcsBit c (b / 2 ^ k % 2)) b (bit-below c (b / 2 ^ k % 2))
-
-from-below : (c : ℕ) (ws : List ℕ) → c < 65536 → fcsFrom c ws < 65536
-unfolding fcsFrom fcsWord
-from-below c [] h = h
-from-below c (w ∷ ws) h = from-below (fcsWord c w) ws (bits-below 8 (fcsBits 8 c (w / 256)) (w % 256) (bits-below 8 c (w / 256) h))
-
--- runs of few words
-
-none-below : Below 65536 []
-none-below i = omega arith
-
-cons-below : (x : ℕ) (ws : List ℕ) → x < 65536 → Below 65536 ws → Below 65536 (x ∷ ws)
-cons-below x ws h g zero = h
-cons-below x ws h g (suc i) = g i
-
-one-below : (x : ℕ) → x < 65536 → Below 65536 (x ∷ [])
-one-below x h = cons-below x [] h none-below
-
-two-below : (x y : ℕ) → x < 65536 → y < 65536 → Below 65536 (x ∷ y ∷ [])
-two-below x y h g = cons-below x (y ∷ []) h (one-below y g)
-
 -- an answer whose numbers are those of the C types, with at most as many words as the border takes
 pub record SmallAnswer (a : SlaveAnswer) : Type 0 where
   pub words : Below 65536 (a .words)
@@ -86,13 +55,13 @@ pub record SmallAnswer (a : SlaveAnswer) : Type 0 where
   pub address : a .heard .«rx_address» < 65536
 
 data-below : (kind : Kind) (a : SlaveAnswer) → SmallAnswer a → Below 65536 (dataOf kind a)
-data-below Kind.Late a s = none-below
-data-below Kind.Errors a s = two-below (a .heard .«rx_status») (a .heard .«rx_address») (s .status) (s .address)
-data-below (Kind.Zero z) a s = none-below
+data-below Kind.Late a s = below-none (omega arith)
+data-below Kind.Errors a s = below-two (a .heard .«rx_status») (a .heard .«rx_address») (s .status) (s .address)
+data-below (Kind.Zero z) a s = below-none (omega arith)
 data-below (Kind.Faulty f) a s =
     let words : ℕ = min (length (a .words)) 65535 in
     let first : ℕ = getD (a .words) 0 0 in
-    cons-below (a .heard .«rx_status») (words ∷ first ∷ []) (s .status) (two-below words first (omega arith) (s .words 0))
+    below-cons (a .heard .«rx_status») (words ∷ first ∷ []) (s .status) (below-two words first (omega arith) (s .words 0))
 data-below Kind.Whole a s = below-take (length (a .words) - 2) (a .words) (s .words)
 
 data-short : (kind : Kind) (a : SlaveAnswer) → SmallAnswer a → length (dataOf kind a) ≤ 32768
@@ -105,9 +74,9 @@ data-short Kind.Whole a s = omega (arith, s .short, length-take (length (a .word
 fragment-below : (kind : Kind) (slave : ℕ) (a : SlaveAnswer) → SmallAnswer a → Below 65536 (fragmentBy kind slave a)
 fragment-below kind slave a s =
     let status : ℕ = statusOf kind (a .words) slave in
-    cons-below (length (dataOf kind a) + 1) (dataOf kind a ++ (status ∷ [])) (omega (arith, data-short kind a s))
+    below-cons (length (dataOf kind a) + 1) (dataOf kind a ++ (status ∷ [])) (omega (arith, data-short kind a s))
     (below-append (dataOf kind a) (status ∷ []) (data-below kind a s)
-    (one-below status (status-fits (datOf kind) (codeOf kind) (bitsOf kind (a .words)) slave)))
+    (below-one status (status-fits (datOf kind) (codeOf kind) (bitsOf kind (a .words)) slave)))
 
 -- as many words, and 16-bit words
 pub record Kept (before after : List ℕ) : Type 0 where
@@ -161,7 +130,7 @@ sealed-below buffer w status h g =
     let fcs : ℕ = fcsOf (take w buffer ++ (status ∷ [])) in
     pick-case (λ (x : Sent). Below 65536 (x .buffer)) (leb (w + 2) (length buffer))
     (λ _. below-laid buffer w (status ∷ fcs ∷ []) h
-    (two-below status fcs g (from-below 0xFFFF (take w buffer ++ (status ∷ [])) (omega arith))))
+    (below-two status fcs g (fcs-below (take w buffer ++ (status ∷ [])))))
     (λ _. h)
 
 end-below : (t : Tally) (buffer : List ℕ) (w own : ℕ) → Below 65536 buffer → own < 65536 → Below 65536 (endBy t buffer w own .buffer)
@@ -221,7 +190,7 @@ poll-kept n clock buffer b =
     judged-kept (pollVerdict n (length buffer)) n buffer (pollEffect n clock buffer) b
     (pick-case (λ (e : Effect). Kept buffer (e .reply)) (isLate clock (askedAt (n .pending)))
     (λ _. hears-kept (n .pending) n clock silent [] buffer
-    (record { words = none-below; short = omega arith; status = omega arith; address = omega arith }) b)
+    (record { words = below-none (omega arith); short = omega arith; status = omega arith; address = omega arith }) b)
     (λ _. stays buffer b))
 
 -- a request that is not an own command leaves the buffer

@@ -161,7 +161,7 @@ fn whole_tallied(tally: Tally) -> Tally
 }
 
 // The tally with one answer more.
-pub(crate) fn tallied(tally: Tally, kind: Kind) -> Tally
+pub fn tallied(tally: Tally, kind: Kind) -> Tally
     ensures { λ r. ⌜ r ≡ tallied tally kind ⌝ }
 {
     match kind {

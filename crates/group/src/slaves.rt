@@ -20,11 +20,13 @@ pub fn is_late(clock: u32, asked: u32) -> bool
     60 <= ticks_since(clock, asked)
 }
 
-// Slave s of a set: 1 where it is in it, else 0.
-fn bit(set: u32, s: u32) -> usize
-    requires { ⌜ s < 24 ⌝ }
+// Slave s of a set: 1 where it is in it, else 0. A set has 32 bits at most.
+pub fn bit(set: u32, s: u32) -> usize
     ensures { λ r. ⌜ (r ≡ set / 2 ^ s % 2) × (r < 2) ⌝ }
 {
+    if 32 <= s {
+        return 0;
+    }
     ((set >> s) % 2) as usize
 }
 

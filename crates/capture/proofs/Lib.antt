@@ -1,0 +1,7 @@
+pub mod Shows
+pub mod NodeStatus
+pub mod Makes
+pub mod Views
+pub mod Accepts
+pub mod Assembled
+pub mod Steps

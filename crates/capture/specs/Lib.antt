@@ -1,0 +1,3 @@
+pub mod Acceptable
+pub mod Splits
+pub mod Reader
