@@ -36,7 +36,7 @@ use Rattle.capture.proofs.NodeStatus.{node-made}
 use Rattle.capture.proofs.Makes.{Makes, makes}
 use Rattle.capture.proofs.Views.{Open, StatusFits, status-tells, ReadOn, on-tells, counts}
 
-broken-accepted : {i : ℕ} → Capture.Broken i ≡ Capture.Accepted → ⊥
+pub broken-accepted : {i : ℕ} → Capture.Broken i ≡ Capture.Accepted → ⊥
 broken-accepted e = let z : _≡_ {A = ℕ} 0 1 = cc in omega arith
 
 -- where the end was read, the words end in the group's status word and the FCS

@@ -4,4 +4,5 @@ pub mod Makes
 pub mod Views
 pub mod Accepts
 pub mod Assembled
+pub mod Local
 pub mod Steps
