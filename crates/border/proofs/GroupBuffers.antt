@@ -1,6 +1,6 @@
 -- The reply buffer of a group, in words: what slaves answer leaves as many words in it, and 16-bit words; and a request that asks a slave,
 -- or comes while another is pending, leaves it as it was. Assumes nothing.
-use Prim.Native.Nat.{ℕ, zero, suc, min, _+_, _-_, _*_, _/_, _%_, _^_, _≤_, _<_}
+use Prim.Native.Nat.{ℕ, min, _+_, _-_, _*_, _/_, _%_, _≤_, _<_}
 use native.Mathlib.Omega.{arith}
 use mathlib.Core.Path.{_≡_, refl, sym, ap, _∙_}
 use mathlib.Core.Bool.{Bool, true, false, _&&_}

@@ -2,26 +2,25 @@
 -- By induction over the slaves. Assumes nothing.
 use Prim.Native.Nat.{ℕ, suc, _+_, _-_, _*_, _/_, _%_, _≤_, _<_}
 use mathlib.Core.Path.{_≡_, refl, sym, ap, subst, _∙_}
-use mathlib.Core.Bool.{Bool, true, false, _&&_, not, false≢true}
+use mathlib.Core.Bool.{true, false, not, false≢true}
 use mathlib.Core.List.{List, [], _∷_, _++_, append-assoc}
 use native.Mathlib.Nat.{add-zero}
 use native.Mathlib.Omega.{arith}
-use borrow.Author.Tests.{leb-true, leb-false, ltb-false, ltb-true, eqb-true, not-false}
+use borrow.Author.Tests.{leb-true, leb-false, ltb-false, eqb-true, not-false}
 use lib.Dec.{ltb, leb, eqb}
 use lib.ListN.{length, getD, take, drop, replicate, length-append, length-replicate, take-append-drop, drop-of-length-le}
 use lib.Seq.{drop-drop, drop-cons, take-at}
-use Rattle.base.specs.Pick.{pick}
 use Rattle.base.specs.Words.{Below, part, laid}
-use Rattle.base.proofs.Pick.{pick-second, pick-first, and-left, and-right}
+use Rattle.base.proofs.Pick.{pick-second, pick-first, and-left}
 use Rattle.base.proofs.Part.{length-part, getD-part, below-drop, below-take, drop-two}
 use Rattle.fcs.specs.Fcs.{fcsOf}
 use Rattle.report.specs.Status.{ownStatus}
 use Rattle.group.specs.Kind.{Answer, datOf, codeOf, hasRoom, keptFree, kindOf}
 use Rattle.group.specs.Tally.{tallied, tallyFrom}
 use Rattle.group.specs.Slaves.{slavesOf}
-use Rattle.group.specs.Fragment.{statusWord, statusOf, bitsOf, dataOf, framed, fragmentBy, fragmentOf, built}
-use Rattle.group.specs.Ending.{sent, replied, trailer, groupStatus}
-use Rattle.group.specs.Whole.{fragmentsOf, kindsOf, joined, assembled, dataReply, groupSent, groupOf}
+use Rattle.group.specs.Fragment.{statusWord, bitsOf, framed, fragmentBy, fragmentOf, built}
+use Rattle.group.specs.Ending.{sent, replied, trailer}
+use Rattle.group.specs.Whole.{fragmentsOf, kindsOf, joined, assembled, dataReply, groupSent}
 use Rattle.group.specs.declared.Built.{Built}
 use Rattle.group.specs.declared.Kind.{Kind}
 use Rattle.group.specs.declared.Tally.{Tally}
@@ -34,7 +33,7 @@ use Rattle.capture.specs.declared.Step.{Step}
 use Rattle.capture.proofs.Shows.{shown-tells, status-is}
 use Rattle.capture.proofs.NodeStatus.{node-made}
 use Rattle.capture.proofs.Makes.{Makes, makes}
-use Rattle.capture.proofs.Views.{Open, StatusFits, status-tells, ReadOn, on-tells, counts}
+use Rattle.capture.proofs.Views.{Open, status-tells, on-tells, counts}
 
 pub broken-accepted : {i : ℕ} → Capture.Broken i ≡ Capture.Accepted → ⊥
 broken-accepted e = let z : _≡_ {A = ℕ} 0 1 = cc in omega arith

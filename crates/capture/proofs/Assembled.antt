@@ -1,13 +1,13 @@
 -- What our node assembles is read to its end: each fragment by its kind, one behind the other, then status word and FCS. Assumes nothing.
 use Prim.Native.Nat.{ℕ, zero, suc, min, _+_, _-_, _*_, _/_, _%_, _≤_, _<_}
-use mathlib.Core.Path.{_≡_, refl, sym, ap, subst, _∙_}
+use mathlib.Core.Path.{_≡_, refl, sym, ap, _∙_}
 use mathlib.Core.Bool.{Bool, true, false, _&&_, not}
 use mathlib.Core.List.{List, [], _∷_, _++_, append-assoc}
 use native.Mathlib.Numerals.{add-one}
 use native.Mathlib.Nat.{add-zero}
 use native.Mathlib.Omega.{arith}
-use borrow.Author.Tests.{eq-eqb, ne-eqb, eqb-true, eqb-false, le-leb, lt-leb, le-ltb, leb-true, leb-false, not-true}
-use lib.Dec.{leb, eqb}
+use borrow.Author.Tests.{eq-eqb, ne-eqb, eqb-true, eqb-false, le-leb, lt-leb, le-ltb, leb-false, not-true}
+use lib.Dec.{eqb}
 use lib.ListN.{length, getD, take, length-append, length-take, List·getD-append}
 use lib.Seq.{take-at, getD-at, getD-append-add}
 use Rattle.base.specs.Pick.{pick}
@@ -18,11 +18,10 @@ use Rattle.fcs.specs.Fcs.{fcsOf}
 use Rattle.report.specs.Status.{ownStatus}
 use Rattle.group.specs.Kind.{Answer, datOf, codeOf, hasRoom, keptFree, fcsRight, dataKind, kindOf}
 use Rattle.group.specs.Tally.{tallied, tallyFrom}
-use Rattle.group.specs.Fragment.{statusWord, slaveBits, faultBits, bitsOf, statusOf, dataOf, framed, fragmentBy, fragmentOf, built}
+use Rattle.group.specs.Fragment.{faultBits, bitsOf, statusOf, dataOf, framed, fragmentOf, built}
 use Rattle.group.specs.Slaves.{hasSlave, slavesFrom, slavesOf}
 use Rattle.group.specs.Ending.{Sent, sent, replied, trailer, groupStatus}
-use Rattle.group.specs.Whole.{fragmentsOf, kindsOf, joined, assembled, dataReply, groupSent, groupOf}
-use Rattle.group.specs.declared.Built.{Built}
+use Rattle.group.specs.Whole.{fragmentsOf, kindsOf, joined, assembled, dataReply, groupSent}
 use Rattle.group.specs.declared.Fault.{Fault}
 use Rattle.group.specs.declared.Kind.{Kind}
 use Rattle.group.specs.declared.Tally.{Tally}
@@ -31,7 +30,7 @@ use Rattle.group.proofs.Groups.{group-sent}
 use Rattle.group.proofs.Rooms.{room-kept}
 use Rattle.group.proofs.Status.{status-slave, status-bits}
 use Rattle.capture.specs.Acceptable.{Acceptable}
-use Rattle.capture.specs.Reader.{kindNumber, shownBy, countFits, faultBitsFit, kindFits, isCommon, statusFits, hasPlace, readStatus, isNodeStatus, readFragment, readEnd, ended, readFrom, readOf}
+use Rattle.capture.specs.Reader.{shownBy, countFits, faultBitsFit, kindFits, isCommon, statusFits, hasPlace, readStatus, isNodeStatus, readFragment, readEnd, ended, readFrom, readOf}
 use Rattle.capture.specs.declared.Capture.{Capture}
 use Rattle.capture.specs.declared.Shown.{Shown}
 use Rattle.capture.specs.declared.Step.{Step}

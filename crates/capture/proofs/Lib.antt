@@ -5,4 +5,8 @@ pub mod Views
 pub mod Accepts
 pub mod Assembled
 pub mod Local
+pub mod Begins
+pub mod Says
+pub mod Splitting
+pub mod ShutOut
 pub mod Steps

@@ -3,7 +3,7 @@
 use Prim.Native.Nat.{ℕ, _+_, _*_, _/_, _≤_, _<_}
 use mathlib.Core.Path.{_≡_, refl, sym, ap, subst, _∙_}
 use mathlib.Core.Bool.{Bool, true, false, not}
-use mathlib.Core.List.{List, [], _∷_, _++_}
+use mathlib.Core.List.{List, [], _∷_}
 use native.Mathlib.Omega.{arith}
 use borrow.Author.Tests.{lt-leb, lt-ltb, leb-true, leb-false}
 use lib.Dec.{leb, eqb}
@@ -22,10 +22,9 @@ use Rattle.group.specs.declared.Tally.{Tally}
 use Rattle.capture.specs.Acceptable.{isMask}
 use Rattle.capture.specs.Reader.{shownBy, hasPlace, readStatus, isNodeStatus, readFragment, readEnd, ended, readFrom, readOf}
 use Rattle.capture.specs.declared.Capture.{Capture}
-use Rattle.capture.specs.declared.Shown.{Shown}
 use Rattle.capture.specs.declared.Step.{Step}
 use Rattle.capture.proofs.Steps.{first-breaks, by-status, place-below}
-use Rattle.capture.proofs.Views.{firstIn, statusIn, ReadOn, on-tells, Breaks, broken-tells, status-counts, EndBreaks, end-breaks}
+use Rattle.capture.proofs.Views.{firstIn, on-tells, Breaks, broken-tells, status-counts, EndBreaks, end-breaks}
 use Rattle.capture.proofs.Accepts.{broken-accepted, end-tells, five-each}
 
 -- a fragment whose status word both runs have
@@ -131,7 +130,7 @@ read-further ws s ss b b′ h =
     let fits = leb-true (w + (l + 1) + 5 * length ss + 2) 12288 (and-right (leb 1 l) (hasRoom keptFree w (l + 1) (length ss)) (r .place)) in
     record { on = omega arith; within = omega arith; room = omega arith }
 
-same-place : {i j : ℕ} → Capture.Broken j ≡ Capture.Broken i → j ≡ i
+pub same-place : {i j : ℕ} → Capture.Broken j ≡ Capture.Broken i → j ≡ i
 same-place e = cc
 
 pub from-where : (ss ws : List ℕ) (b : Built) (i : ℕ) → b .words ≤ length ws → b .words + 5 * length ss + 2 ≤ 12288 → readFrom ss ws b ≡ Capture.Broken i → Where ws b i

@@ -1,12 +1,12 @@
 -- For every fragment that fits there is a slave's answer that our node takes into just this fragment: each kind with its own. Assumes nothing.
-use Prim.Native.Nat.{ℕ, zero, suc, min, _+_, _-_, _*_, _/_, _%_, _≤_, _<_}
+use Prim.Native.Nat.{ℕ, zero, suc, min, _+_, _-_, _*_, _%_, _≤_, _<_}
 use mathlib.Core.Path.{_≡_, refl, sym, ap, _∙_}
 use mathlib.Core.Bool.{Bool, true, false, _&&_, not}
 use mathlib.Core.List.{List, [], _∷_, _++_, append-assoc}
 use native.Mathlib.Omega.{arith}
-use borrow.Author.Tests.{eq-eqb, ne-eqb, eqb-true, leb-true, lt-leb, le-ltb, not-true, leb-false}
+use borrow.Author.Tests.{eq-eqb, ne-eqb, eqb-true, leb-true, le-ltb, not-true, leb-false}
 use lib.Dec.{leb, eqb}
-use lib.ListN.{length, getD, take, replicate, length-append, length-replicate}
+use lib.ListN.{length, getD, replicate, length-append, length-replicate}
 use lib.Seq.{take-at, getD-at}
 use Rattle.base.specs.Words.{Below}
 use Rattle.base.proofs.Pick.{yes, no, and-left, and-right}
@@ -62,7 +62,7 @@ sealed-bits ws bits h =
 
 -- words of 16 bits
 
-zeros-below : (n : ℕ) → Below 65536 (replicate n 0)
+pub zeros-below : (n : ℕ) → Below 65536 (replicate n 0)
 zeros-below zero i = omega arith
 zeros-below (suc n) zero = omega arith
 zeros-below (suc n) (suc i) = zeros-below n i

@@ -79,3 +79,12 @@ node-passes t tests mode =
     let e : groupStatus t (ownStatus tests mode) ≡ groupStatus t (v * 64) = ap (groupStatus t) (own-is tests mode) ∙ cleared t v small in
     ap (λ (x : ℕ). isNodeStatus x t) e
     ∙ eq-eqb (groupStatus t (v * 64)) (groupStatus t (groupStatus t (v * 64) / 64 % 8 * 64)) (ap (λ (x : ℕ). groupStatus t (x * 64)) (sym (shows-bits t v small)))
+
+-- it is a 16-bit word
+pub node-below : (t : Tally) (tests mode : ℕ) → groupStatus t (ownStatus tests mode) < 65536
+node-below t tests mode =
+    let v : ℕ = some (tests / 256 % 16) * 4 + mode / 2 % 2 * 2 + mode % 2 in
+    let small : v < 8 = let s = some-below (tests / 256 % 16) in omega arith in
+    let e = error-below t in
+    let g : groupStatus t (ownStatus tests mode) ≡ errorBit t * 512 + v * 64 = ap (groupStatus t) (own-is tests mode) ∙ group-bits t v 32 small (omega arith) refl in
+    omega (arith, g, e, small)

@@ -3,7 +3,7 @@
 use Prim.Native.Nat.{ℕ, _+_, _*_, _/_, _≤_, _<_}
 use mathlib.Core.Path.{_≡_, refl, sym, ap, _∙_}
 use mathlib.Core.Bool.{Bool, true, false, not}
-use mathlib.Core.List.{List, [], _∷_}
+use mathlib.Core.List.{List, _∷_}
 use native.Mathlib.Omega.{arith}
 use borrow.Author.Tests.{le-leb, lt-leb, leb-true}
 use lib.Dec.{leb}
@@ -15,7 +15,6 @@ use Rattle.group.specs.Slaves.{hasSlave, slavesUp, above}
 use Rattle.group.specs.declared.Built.{Built}
 use Rattle.group.proofs.Sets.{from-none, from-turn}
 use Rattle.capture.specs.Reader.{shownBy, hasPlace, readStatus, readFragment, readSlave, readEnd, ended, readFrom}
-use Rattle.capture.specs.declared.Capture.{Capture}
 use Rattle.capture.specs.declared.Step.{Step}
 
 -- a fragment whose first word is there

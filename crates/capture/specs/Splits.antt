@@ -2,7 +2,6 @@
 use Prim.Native.Nat.{ℕ, _+_, _%_}
 use mathlib.Core.Path.{_≡_}
 use mathlib.Core.List.{List, [], _∷_, _++_}
-use lib.ListN.{length}
 use Rattle.group.specs.Slaves.{slavesOf}
 use Rattle.group.specs.Fragment.{framed}
 use Rattle.group.specs.Whole.{joined}
