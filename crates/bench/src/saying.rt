@@ -126,7 +126,7 @@ fn say_what(what: What) -> bool {
         What::NoNumber64 => say(b"no decimal number below 18446744073709551616"),
         What::NoBc => say(b"no BC, 0 to 3"),
         What::NoFlag => say(b"neither 0 nor 1"),
-        What::NoTicks => say(b"not one to eight hex digits"),
+        What::NoHex32 => say(b"not one to eight hex digits"),
         What::NoWord => say(b"not four hex digits"),
     }
 }

@@ -79,7 +79,7 @@ base-some Shape.Number32 = omega arith
 base-some Shape.Number64 = omega arith
 base-some Shape.Bc = omega arith
 base-some Shape.Flag = omega arith
-base-some Shape.Ticks = omega arith
+base-some Shape.Hex32 = omega arith
 base-some Shape.Word = omega arith
 
 pub base-small : (shape : Shape) → baseOf shape ≤ limitOf shape + 1
@@ -87,7 +87,7 @@ base-small Shape.Number32 = omega arith
 base-small Shape.Number64 = omega arith
 base-small Shape.Bc = omega arith
 base-small Shape.Flag = omega arith
-base-small Shape.Ticks = omega arith
+base-small Shape.Hex32 = omega arith
 base-small Shape.Word = omega arith
 
 -- what a field is worth is within its shape's limit
@@ -109,7 +109,7 @@ worth-none Shape.Number32 = refl
 worth-none Shape.Number64 = refl
 worth-none Shape.Bc = refl
 worth-none Shape.Flag = refl
-worth-none Shape.Ticks = refl
+worth-none Shape.Hex32 = refl
 worth-none Shape.Word = refl
 
 -- a word has four digits

@@ -32,7 +32,7 @@ shapesOf Kind.Request = Shape.Bc ∷ []
 shapesOf Kind.Reply = Shape.Number32 ∷ Shape.Bc ∷ Shape.Flag ∷ Shape.Word ∷ Shape.Word ∷ []
 shapesOf Kind.Poll = []
 shapesOf Kind.Erase = Shape.Number64 ∷ []
-shapesOf Kind.Clock = Shape.Ticks ∷ []
+shapesOf Kind.Clock = Shape.Hex32 ∷ []
 shapesOf Kind.Fault = []
 shapesOf Kind.Help = []
 
@@ -52,7 +52,7 @@ whatOf Shape.Number32 = What.NoNumber32
 whatOf Shape.Number64 = What.NoNumber64
 whatOf Shape.Bc = What.NoBc
 whatOf Shape.Flag = What.NoFlag
-whatOf Shape.Ticks = What.NoTicks
+whatOf Shape.Hex32 = What.NoHex32
 whatOf Shape.Word = What.NoWord
 
 -- A wrong field: its number, counted from 1, and what is wrong with it.

@@ -37,7 +37,7 @@ baseOf Shape.Number32 = 10
 baseOf Shape.Number64 = 10
 baseOf Shape.Bc = 4
 baseOf Shape.Flag = 2
-baseOf Shape.Ticks = 16
+baseOf Shape.Hex32 = 16
 baseOf Shape.Word = 16
 
 -- .. with how many digits, ..
@@ -46,7 +46,7 @@ digitsOk Shape.Number32 n = leb 1 n
 digitsOk Shape.Number64 n = leb 1 n
 digitsOk Shape.Bc n = eqb n 1
 digitsOk Shape.Flag n = eqb n 1
-digitsOk Shape.Ticks n = leb 1 n && leb n 8
+digitsOk Shape.Hex32 n = leb 1 n && leb n 8
 digitsOk Shape.Word n = eqb n 4
 
 -- .. and up to which number.
@@ -55,7 +55,7 @@ limitOf Shape.Number32 = 4294967295
 limitOf Shape.Number64 = 18446744073709551615
 limitOf Shape.Bc = 3
 limitOf Shape.Flag = 1
-limitOf Shape.Ticks = 4294967295
+limitOf Shape.Hex32 = 4294967295
 limitOf Shape.Word = 65535
 
 -- What a field is worth by its shape, or that it has another one.

@@ -54,7 +54,7 @@ taken Kind.Request fs = Said.Request (requestOf fs)
 taken Kind.Reply fs = Said.Reply (replyOf fs)
 taken Kind.Poll fs = Said.Poll
 taken Kind.Erase fs = Said.Erase (item Shape.Number64 fs 1)
-taken Kind.Clock fs = Said.Clock (item Shape.Ticks fs 1)
+taken Kind.Clock fs = Said.Clock (item Shape.Hex32 fs 1)
 taken Kind.Fault fs = Said.Fault
 taken Kind.Help fs = Said.Help
 

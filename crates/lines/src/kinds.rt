@@ -71,7 +71,7 @@ fn shape_at(kind: Kind, i: usize) -> Shape
         Kind::Reply => reply_shape(i),
         Kind::Poll => Shape::Word,
         Kind::Erase => first_or_word(Shape::Number64, i),
-        Kind::Clock => first_or_word(Shape::Ticks, i),
+        Kind::Clock => first_or_word(Shape::Hex32, i),
         Kind::Fault => Shape::Word,
         Kind::Help => Shape::Word,
     }
@@ -120,7 +120,7 @@ fn what_of(shape: Shape) -> What
         Shape::Number64 => What::NoNumber64,
         Shape::Bc => What::NoBc,
         Shape::Flag => What::NoFlag,
-        Shape::Ticks => What::NoTicks,
+        Shape::Hex32 => What::NoHex32,
         Shape::Word => What::NoWord,
     }
 }

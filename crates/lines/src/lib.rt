@@ -36,7 +36,7 @@ pub enum What {
     NoNumber64,
     NoBc,
     NoFlag,
-    NoTicks,
+    NoHex32,
     NoWord,
 }
 
@@ -59,13 +59,13 @@ pub enum Said {
     Wrong(Wrong),
 }
 
-// The shape of a field: a decimal number of 32 or 64 bits, a BC, a flag, a clock in hex, a word in hex.
+// The shape of a field: a decimal number of 32 or 64 bits, a BC, a flag, a number of 32 bits in hex, a word in hex.
 enum Shape {
     Number32,
     Number64,
     Bc,
     Flag,
-    Ticks,
+    Hex32,
     Word,
 }
 

@@ -51,7 +51,7 @@ fn base_of(shape: Shape) -> u64
         Shape::Number64 => 10,
         Shape::Bc => 4,
         Shape::Flag => 2,
-        Shape::Ticks => 16,
+        Shape::Hex32 => 16,
         Shape::Word => 16,
     }
 }
@@ -65,7 +65,7 @@ fn digits_ok(shape: Shape, n: usize) -> bool
         Shape::Number64 => 1 <= n,
         Shape::Bc => n == 1,
         Shape::Flag => n == 1,
-        Shape::Ticks => (1 <= n) & (n <= 8),
+        Shape::Hex32 => (1 <= n) & (n <= 8),
         Shape::Word => n == 4,
     }
 }
@@ -79,7 +79,7 @@ fn limit_of(shape: Shape) -> u64
         Shape::Number64 => 18446744073709551615,
         Shape::Bc => 3,
         Shape::Flag => 1,
-        Shape::Ticks => 4294967295,
+        Shape::Hex32 => 4294967295,
         Shape::Word => 65535,
     }
 }

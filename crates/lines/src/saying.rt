@@ -149,7 +149,7 @@ fn take(line: &[u8], first: usize, kind: Kind, words: &mut [u16]) -> Said
         Kind::Reply => Said::Reply(reply(line, first, words)),
         Kind::Poll => Said::Poll,
         Kind::Erase => Said::Erase(item(line, first, 0, Shape::Number64)),
-        Kind::Clock => Said::Clock(item32(line, first, 0, Shape::Ticks)),
+        Kind::Clock => Said::Clock(item32(line, first, 0, Shape::Hex32)),
         Kind::Fault => Said::Fault,
         Kind::Help => Said::Help,
     }
