@@ -14,7 +14,7 @@ use Rattle.base.proofs.Pick.{pick-case}
 use Rattle.lines.specs.Fields.{firstLength, fieldsBehind, behind, fieldsFrom}
 use Rattle.lines.specs.Numbers.{fits, worthOf, wordsIn}
 use Rattle.lines.specs.Kinds.{Walked, shapesOf, takesWords, whatOf, wrong, walked, wordsFit, endFits}
-use Rattle.lines.specs.Said.{restFits, verdictOf, wordsOf, Says}
+use Rattle.lines.specs.Said.{restOf, rowFits, verdictOf, wordsOf, Says}
 use Rattle.lines.specs.declared.Kind.{Kind}
 use Rattle.lines.specs.declared.Said.{Said}
 use Rattle.lines.specs.declared.Shape.{Shape}
@@ -95,19 +95,22 @@ walked-left k (s ∷ ss) (f ∷ fs) gs h =
     (λ _ e. walked-left (k + 1) ss fs gs e) (λ _ e. absurd (let z : _≡_ {A = ℕ} 0 1 = cc in omega arith)) h
 
 -- so the words of a line whose fields fit have room
+pub row-room : (k : ℕ) (ss : List Shape) (more : Bool) (room : ℕ) (fs : List (List ℕ)) → more ≡ true
+    → rowFits k ss more room fs ≡ Verdict.Fits → length (drop (length ss) fs) ≤ room
+row-room k ss more room fs t h = by-walk (walked k ss fs) refl h
+  where
+    by-walk : (w : Walked) → walked k ss fs ≡ w → restOf (k + length ss) more room w ≡ Verdict.Fits → length (drop (length ss) fs) ≤ room
+    by-walk (Walked.Left gs) e f =
+        let l = walked-left k ss fs gs e in
+        let g : wordsFit (k + length ss) room gs ≡ Verdict.Fits =
+        sym (ap (λ (b : Bool). pick b (wordsFit (k + length ss) room gs) (endFits (k + length ss) gs)) t) ∙ f in
+        rw (sym l) (words-room (k + length ss) room gs g)
+    by-walk (Walked.Bad w) e f = absurd (not-fits f)
+
 pub fits-room : (kind : Kind) (room : ℕ) (fs : List (List ℕ)) → takesWords kind ≡ true → verdictOf kind room fs ≡ Verdict.Fits
     → length (drop (length (shapesOf kind)) (drop 1 fs)) ≤ room
 unfolding verdictOf
-fits-room kind room fs t h = by-walk (walked 2 (shapesOf kind) (drop 1 fs)) refl h
-  where
-    by-walk : (w : Walked) → walked 2 (shapesOf kind) (drop 1 fs) ≡ w → restFits kind room w ≡ Verdict.Fits
-        → length (drop (length (shapesOf kind)) (drop 1 fs)) ≤ room
-    by-walk (Walked.Left gs) e f =
-        let l = walked-left 2 (shapesOf kind) (drop 1 fs) gs e in
-        let g : wordsFit (2 + length (shapesOf kind)) room gs ≡ Verdict.Fits =
-        sym (ap (λ (b : Bool). pick b (wordsFit (2 + length (shapesOf kind)) room gs) (endFits (2 + length (shapesOf kind)) gs)) t) ∙ f in
-        rw (sym l) (words-room (2 + length (shapesOf kind)) room gs g)
-    by-walk (Walked.Bad w) e f = absurd (not-fits f)
+fits-room kind room fs t h = row-room 2 (shapesOf kind) (takesWords kind) room (drop 1 fs) t h
 
 -- a turn of the loop that stores words, and its end
 module _ (words : List ℕ) (i : ℕ) {fs : List (List ℕ)} where

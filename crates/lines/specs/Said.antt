@@ -1,6 +1,7 @@
 -- What a line says, and what it leaves in the buffer for words. docs/BENCH.md 'Lines' and 'Answers', 01 'Examples'. Assumes nothing.
 use Prim.Native.Nat.{ℕ, _+_}
 use mathlib.Core.Path.{_≡_}
+use mathlib.Core.Bool.{Bool}
 use mathlib.Core.List.{List, []}
 use lib.Dec.{eqb}
 use lib.ListN.{length, getD, drop}
@@ -18,15 +19,21 @@ use Rattle.lines.specs.declared.Shape.{Shape}
 use Rattle.lines.specs.declared.Verdict.{Verdict}
 use Rattle.lines.specs.declared.What.{What}
 
--- What is left behind the fields that a line must have: words where the kind takes them, else nothing.
-abbrev pub restFits : Kind → ℕ → Walked → Verdict
-restFits kind room (Walked.Left fs) =
-    pick (takesWords kind) (wordsFit (2 + length (shapesOf kind)) room fs) (endFits (2 + length (shapesOf kind)) fs)
-restFits kind room (Walked.Bad w) = Verdict.No w
+-- What is left behind the fields that a line must have, from field k on: words where they may follow, else nothing.
+abbrev pub restOf : ℕ → Bool → ℕ → Walked → Verdict
+restOf k more room (Walked.Left fs) = pick more (wordsFit k room fs) (endFits k fs)
+restOf k more room (Walked.Bad w) = Verdict.No w
 
--- Whether all fields fit, or which is the first that doesn't. The first field has told the kind.
+-- A line's fields from field k on, by the shapes that they must have, and whether words may follow: all fit, or which is the first that doesn't.
+abbrev pub rowFits : ℕ → List Shape → Bool → ℕ → List (List ℕ) → Verdict
+rowFits k shapes more room fs = restOf (k + length shapes) more room (walked k shapes fs)
+
+-- The same of a kind, whose first field has told it.
+abbrev pub restFits : Kind → ℕ → Walked → Verdict
+restFits kind room w = restOf (2 + length (shapesOf kind)) (takesWords kind) room w
+
 unfoldable pub verdictOf : Kind → ℕ → List (List ℕ) → Verdict
-verdictOf kind room fs = restFits kind room (walked 2 (shapesOf kind) (drop 1 fs))
+verdictOf kind room fs = rowFits 2 (shapesOf kind) (takesWords kind) room (drop 1 fs)
 
 -- What a field is worth.
 abbrev pub item : Shape → List (List ℕ) → ℕ → ℕ
