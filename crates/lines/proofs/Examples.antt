@@ -5,10 +5,11 @@ use Rattle.lines.specs.Fields.{bodyLength, isBlank, isQuiet, fields, sam
 use Rattle.lines.specs.Numbers.{digitOf, areDigits, numberFrom, numberIn, valueOf}
 use Rattle.lines.specs.Kinds.{namedBy, walked, wordsFit}
 use Rattle.lines.specs.Said.{verdictOf, bodySaid, said, stored}
+use Rattle.lines.specs.Captures.{captureFits, captureBody, captureSaid, captureStored}
 use Rattle.lines.specs.Examples.{Examples}
 
 pub examples : Examples
-unfolding laid bodyLength isBlank isQuiet fields same digitOf areDigits numberFrom numberIn valueOf namedBy walked wordsFit verdictOf bodySaid said stored
+unfolding laid bodyLength isBlank isQuiet fields same digitOf areDigits numberFrom numberIn valueOf namedBy walked wordsFit verdictOf bodySaid said stored captureFits captureBody captureSaid captureStored
 examples =
     record {
       first = refl;
@@ -38,4 +39,9 @@ examples =
       too-many = refl;
       budget = refl;
       no-room = refl;
+      capture = refl;
+      capture-words = refl;
+      mask-alone = refl;
+      mask-long = refl;
+      capture-word = refl;
     }

@@ -5,14 +5,15 @@ use mathlib.Core.Path.{_≡_, refl, sym, ap, ap₂, _∙_}
 use mathlib.Core.Bool.{Bool, true, false}
 use mathlib.Core.List.{List, [], _∷_}
 use native.Mathlib.Numerals.{add-one}
+use native.Mathlib.Nat.{sub-zero}
 use native.Mathlib.Omega.{arith}
 use lib.Dec.{eqb}
-use lib.ListN.{length, getD, drop, length-drop, drop-of-length-le}
+use lib.ListN.{length, getD, take, drop, length-drop, drop-of-length-le}
 use lib.Seq.{take-all, drop-cons, drop-drop}
 use Rattle.base.specs.Pick.{pick}
 use Rattle.base.specs.Words.{part}
 use Rattle.base.proofs.Pick.{pick-case}
-use Rattle.lines.specs.Fields.{isSpace, isBlank, longer, fields, firstLength, fieldsBehind, behind, fieldsFrom, same, FieldEnd}
+use Rattle.lines.specs.Fields.{bodyLength, bodyOf, isSpace, isBlank, longer, fields, firstLength, fieldsBehind, behind, fieldsFrom, same, FieldEnd}
 
 -- the rest of a run is its next byte and the rest behind that: how a loop goes on
 pub rest : (s : List ℕ) (i : ℕ) → i < length s → drop i s ≡ getD s i 0 ∷ drop (i + 1) s
@@ -20,6 +21,10 @@ rest s i h = rw (add-one i) (drop-cons s i 0 h)
 
 pub rest-none : (s : List ℕ) (i : ℕ) → length s ≤ i → drop i s ≡ []
 rest-none s i h = drop-of-length-le s h
+
+-- the part of a line that is lent to be read is the line without its end
+pub lent-body : (line : List ℕ) (n : ℕ) → n ≡ bodyLength line → take (n - 0) line ≡ bodyOf line
+lent-body line n e = ap (λ (k : ℕ). take k line) (sub-zero n ∙ e)
 
 -- blanks, a byte at a time
 

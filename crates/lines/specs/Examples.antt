@@ -5,13 +5,19 @@ use mathlib.Core.Bool.{true}
 use mathlib.Core.List.{List, [], _∷_}
 use Rattle.lines.specs.Kinds.{wrong}
 use Rattle.lines.specs.Said.{said, stored}
+use Rattle.lines.specs.Captures.{captureSaid, captureStored}
 use Rattle.lines.specs.Text.{bytes}
+use Rattle.lines.specs.declared.CaptureSaid.{CaptureSaid}
 use Rattle.lines.specs.declared.Said.{Said}
 use Rattle.lines.specs.declared.What.{What}
 
 -- A request with so many words, from a link and with a BC.
 abbrev pub asks : ℕ → ℕ → ℕ → Said
 asks link bc n = Said.Request (record { link = link; bc = bc; words = n })
+
+-- A capture with a mask and so many words.
+abbrev pub captures : ℕ → ℕ → CaptureSaid
+captures mask n = CaptureSaid.Captured (record { mask = mask; words = n })
 
 -- A buffer of four words.
 abbrev pub four : List ℕ
@@ -51,3 +57,9 @@ pub record Examples : Type 0 where
   pub too-many : said (bytes "poll\t") 4 ≡ Said.Wrong (wrong 2 What.TooMany)
   pub budget : said (bytes "erase\t18446744073709551616") 4 ≡ Said.Wrong (wrong 2 What.NoNumber64)
   pub no-room : said (bytes "0\t3\t0001\t0002") 1 ≡ Said.Wrong (wrong 4 What.NoRoom)
+  -- captured group replies (02, request 3): a mask and words, a mask alone, and lines that can't be read
+  pub capture : captureSaid (bytes "00ffFFFF\t000A\t8001\r") 4 ≡ captures 0xFFFFFF 2
+  pub capture-words : captureStored (bytes "00ffFFFF\t000A\t8001\r") four ≡ 0x000A ∷ 0x8001 ∷ 3 ∷ 4 ∷ []
+  pub mask-alone : captureSaid (bytes "1") 4 ≡ captures 1 0
+  pub mask-long : captureSaid (bytes "000000001\t00A") 4 ≡ CaptureSaid.Wrong (wrong 1 What.NoHex32)
+  pub capture-word : captureSaid (bytes "1\t000A\tA") 4 ≡ CaptureSaid.Wrong (wrong 3 What.NoWord)

@@ -155,7 +155,7 @@ fn walk(line: &[u8], from: usize, kind: Kind) -> Step
 }
 
 // Walks the words behind a place, the first of them in field k.
-fn walk_words(line: &[u8], from: usize, k: usize, room: usize) -> Verdict
+pub(crate) fn walk_words(line: &[u8], from: usize, k: usize, room: usize) -> Verdict
     requires { ⌜ (from ≤ length (now line)) × (k ≤ 7) ⌝ }
     ensures { λ r. ⌜ r ≡ wordsFit k room (behind (now (line .entry)) from) ⌝ }
 {

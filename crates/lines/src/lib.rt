@@ -1,9 +1,13 @@
-// What a line of the bench says. A line is its fields, parted by tabs; `parse` says what it means, or which field is the first that
-// can't be read, and stores the words of a request or a reply. docs/BENCH.md has the lines in full. No function here reads or writes.
+// What a line says. A line is its fields, parted by tabs; `parse` says what one of the bench means, or which field is the first that
+// can't be read, and stores the words of a request or a reply; `parse_capture` does the same for a captured group reply. docs/BENCH.md has
+// the lines in full. No function here reads or writes.
+ghost use Rattle.lines.specs.Captures.{ParseCaptureSays};
 ghost use Rattle.lines.specs.Said.{ParseSays};
+use crate::captures::read_capture;
 use crate::fields::body_length;
 use crate::saying::read;
 
+mod captures;
 mod fields;
 mod kinds;
 mod numbers;
@@ -23,6 +27,12 @@ pub struct Reply {
     pub errors: bool,
     pub status: u16,
     pub address: u16,
+    pub words: usize,
+}
+
+// A captured group reply: the slave mask, and so many words in the buffer.
+pub struct Captured {
+    pub mask: u32,
     pub words: usize,
 }
 
@@ -56,6 +66,13 @@ pub enum Said {
     Clock(u32),
     Fault,
     Help,
+    Wrong(Wrong),
+}
+
+// What a capture's line says.
+pub enum CaptureSaid {
+    Nothing,
+    Captured(Captured),
     Wrong(Wrong),
 }
 
@@ -104,11 +121,19 @@ enum Step {
     Bad(Wrong),
 }
 
-// What a line says, without its line end. The words of a request or a reply go to the start of `words`; every other word there, and for
+// What a line of the bench says, without its line end. The words of a request or a reply go to the start of `words`; every other word there, and for
 // every other line all of them, stay as they are.
 pub fn parse(line: &[u8], words: &mut [u16]) -> Said
     ensures { λ r. ⌜ ParseSays (now (line .entry)) (now (words .entry)) r (now (words .exit)) ⌝ }
 {
     let n = body_length(line);
     read(&line[0..n], words)
+}
+
+// What a capture's line says (02, request 3), without its line end. Its words go to the start of `words`, and all else there stays as it is.
+pub fn parse_capture(line: &[u8], words: &mut [u16]) -> CaptureSaid
+    ensures { λ r. ⌜ ParseCaptureSays (now (line .entry)) (now (words .entry)) r (now (words .exit)) ⌝ }
+{
+    let n = body_length(line);
+    read_capture(&line[0..n], words)
 }

@@ -117,3 +117,12 @@ pub(crate) fn worth(shape: Shape, field: &[u8]) -> u64
         Value::Isnt => 0,
     }
 }
+
+// The same for a shape of 32 bits.
+pub(crate) fn worth32(shape: Shape, field: &[u8]) -> u32
+    requires { ⌜ limitOf shape ≤ 4294967295 ⌝ }
+    ensures { λ r. ⌜ r ≡ worthOf shape (now (field .entry)) ⌝ }
+{
+    let value = worth(shape, field);
+    value as u32
+}

@@ -26,6 +26,7 @@ use crate::fields::skip;
 use crate::kinds::check;
 use crate::kinds::named_by;
 use crate::numbers::worth;
+use crate::numbers::worth32;
 
 // What the field behind a place is worth; 0 at the line's end.
 fn worth_behind(line: &[u8], at: usize, shape: Shape) -> u64
@@ -66,14 +67,6 @@ fn item16(line: &[u8], at: usize, n: usize) -> u16
     value as u16
 }
 
-// The link of a request: what the first field is worth.
-fn link_of(first: &[u8]) -> u32
-    ensures { λ r. ⌜ r ≡ worthOf Shape.Number32 (now (first .entry)) ⌝ }
-{
-    let value = worth(Shape::Number32, first);
-    value as u32
-}
-
 // A word of a line.
 fn word_of(field: &[u8]) -> u16
     ensures { λ r. ⌜ r ≡ worthOf Shape.Word (now (field .entry)) ⌝ }
@@ -83,7 +76,7 @@ fn word_of(field: &[u8]) -> u16
 }
 
 // Stores the words behind a place, and says how many they are.
-fn store(line: &[u8], from: usize, words: &mut [u16]) -> usize
+pub(crate) fn store(line: &[u8], from: usize, words: &mut [u16]) -> usize
     requires { ⌜ (from ≤ length (now line)) × (length (behind (now line) from) ≤ length (now words)) ⌝ }
     ensures { λ r. ⌜ (r ≡ length (behind (now (line .entry)) from)) × (now (words .exit) ≡ laid (now (words .entry)) 0 (wordsIn (behind (now (line .entry)) from))) ⌝ }
 {
@@ -112,7 +105,7 @@ fn request(line: &[u8], first: usize, words: &mut [u16]) -> Request
     requires { ⌜ (first ≤ length (now line)) × (length (drop 1 (behind (now line) first)) ≤ length (now words)) ⌝ }
     ensures { λ r. ⌜ (r ≡ requestOf (fieldsFrom (now (line .entry)) first)) × (now (words .exit) ≡ laid (now (words .entry)) 0 (wordsIn (drop 1 (behind (now (line .entry)) first)))) ⌝ }
 {
-    let link = link_of(&line[0..first]);
+    let link = worth32(Shape::Number32, &line[0..first]);
     let bc = item32(line, first, 0, Shape::Bc);
     let n = store_behind(line, first, 1, words);
     Request { link, bc, words: n }

@@ -1,13 +1,13 @@
 -- `lines::parse` meets its contract: what is read is the line without its end. Assumes nothing.
-use Prim.Native.Nat.{ℕ, _-_}
-use mathlib.Core.Path.{_≡_, ap, _∙_}
+use Prim.Native.Nat.{ℕ}
+use mathlib.Core.Path.{ap, _∙_}
 use mathlib.Core.List.{List}
-use native.Mathlib.Nat.{sub-zero}
 use borrow.Author.Needs.{needs}
-use lib.ListN.{length, take}
+use lib.ListN.{length}
 use Rattle.base.specs.Words.{laid}
-use Rattle.lines.specs.Fields.{bodyOf, fields}
+use Rattle.lines.specs.Fields.{fields}
 use Rattle.lines.specs.Said.{bodySaid, said, wordsOf, stored}
+use Rattle.lines.proofs.Splitting.{lent-body}
 use Rattle.lines.proofs.parse.Statement.{statement}
 use Rattle.lines.proofs.parse.Tie as tie
 
@@ -37,8 +37,7 @@ returns c =
     let a = c .before .before .before .before .before .before .before .before .args in
     let line = a .line .now in
     let ws = a .words .now in
-    let e : take (body-length .result - 0) line
-    ≡ bodyOf line = ap (λ (n : ℕ). take n line) (sub-zero (body-length .result) ∙ body-length .ensures .0) in (
+    let e = lent-body line (body-length .result) (body-length .ensures .0) in (
       read .ensures .0 ∙ ap (λ (s : List ℕ). bodySaid s (length ws)) e,
       read .ensures .1
           ∙ ap (λ (s : List ℕ). laid ws 0 (wordsOf (bodySaid s (length ws)) (fields s))) e,

@@ -9,17 +9,17 @@ use Rattle.lines.specs.declared.Shape.{Shape}
 use Rattle.lines.proofs.saying.request.Statement.{statement}
 use Rattle.lines.proofs.saying.request.Tie as tie
 
-sub-link-of : tie.Need-sub-link-of
-sub-link-of c = search needs
+sub-worth32 : tie.Need-sub-worth32
+sub-worth32 c = search needs
 
-part-link-of-start : tie.Need-part-link-of-start
-part-link-of-start c = search needs
+part-worth32-start : tie.Need-part-worth32-start
+part-worth32-start c = search needs
 
-part-link-of-end : tie.Need-part-link-of-end
-part-link-of-end c = search needs
+part-worth32-end : tie.Need-part-worth32-end
+part-worth32-end c = search needs
 
-link-of-requires : tie.Need-link-of-requires
-link-of-requires c κs = search needs
+worth32-requires : tie.Need-worth32-requires
+worth32-requires c κs = search needs
 
 item32-requires : tie.Need-item32-requires
 item32-requires c κs = search needs
@@ -34,7 +34,7 @@ returns : tie.Need-returns
 returns c =
     let store-behind = c .before .before .store-behind in
     let a = c .before .before .before .before .before .before .before .before .before .args in
-    let link = c .before .before .before .before .before .link-of .ensures
+    let link = c .before .before .before .before .before .worth32 .ensures
     ∙ ap (λ (n : ℕ). worthOf Shape.Number32 (take n (a .line .now))) (sub-zero (a .first)) in (
       (λ i. record { link = link i; bc = (c .before .before .before .before .item32 .ensures) i; words = (store-behind .ensures .0) i }),
       store-behind .ensures .1,
@@ -44,10 +44,10 @@ pub request-spec : {M : Type 1} → statement M
 request-spec =
     tie.close
     (tie.spec
-    sub-link-of
-    part-link-of-start
-    part-link-of-end
-    link-of-requires
+    sub-worth32
+    part-worth32-start
+    part-worth32-end
+    worth32-requires
     item32-requires
     store-behind-requires
     same-length
