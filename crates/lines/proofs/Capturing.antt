@@ -3,7 +3,7 @@ use Prim.Native.Nat.{ℕ, _≤_}
 use mathlib.Core.Path.{_≡_, refl}
 use mathlib.Core.Bool.{Bool, true, false}
 use mathlib.Core.List.{List, [], _∷_}
-use lib.ListN.{length}
+use lib.ListN.{length, drop}
 use Rattle.base.specs.Pick.{pick}
 use Rattle.lines.specs.Numbers.{fits}
 use Rattle.lines.specs.Kinds.{Walked, wrong, walked, wordsFit}
@@ -20,13 +20,13 @@ by-mask : (room : ℕ) (fs : List (List ℕ)) (w : Wrong) (t : Bool)
 by-mask room fs w true = refl
 by-mask room fs w false = refl
 
-module _ (room : ℕ) (f : List ℕ) (fs : List (List ℕ)) where
-  -- the first field is looked at, and then the words
-  pub capture-fits : captureFits room (f ∷ fs) ≡ pick (fits Shape.Hex32 f) (wordsFit 2 room fs) (Verdict.No (wrong 1 What.NoHex32))
-  unfolding captureFits walked
-  capture-fits = by-mask room fs (wrong 1 What.NoHex32) (fits Shape.Hex32 f)
+-- the first field is looked at, and then the words
+pub capture-fits : (room : ℕ) (f : List ℕ) (fs : List (List ℕ))
+    → captureFits room (f ∷ fs) ≡ pick (fits Shape.Hex32 f) (wordsFit 2 room fs) (Verdict.No (wrong 1 What.NoHex32))
+unfolding captureFits walked
+capture-fits room f fs = by-mask room fs (wrong 1 What.NoHex32) (fits Shape.Hex32 f)
 
-  -- words that fit have room
-  pub capture-room : captureFits room (f ∷ fs) ≡ Verdict.Fits → length fs ≤ room
-  unfolding captureFits
-  capture-room h = row-room 1 (Shape.Hex32 ∷ []) true room (f ∷ fs) refl h
+-- words that fit have room
+pub capture-room : (room : ℕ) (fs : List (List ℕ)) → captureFits room fs ≡ Verdict.Fits → length (drop 1 fs) ≤ room
+unfolding captureFits
+capture-room room fs h = row-room 1 (Shape.Hex32 ∷ []) true room fs refl h

@@ -1,4 +1,4 @@
--- What a caller of `parse` may count on: by the cases of what a line says. Assumes nothing.
+-- What a caller of `parse` or `parse_capture` may count on: by the cases of what a line says. Assumes nothing.
 use Prim.Native.Nat.{ℕ, _≤_}
 use mathlib.Core.Path.{_≡_, refl, sym, ap, _∙_}
 use mathlib.Core.List.{List, []}
@@ -12,13 +12,16 @@ use Rattle.lines.specs.Fields.{bodyOf, isQuiet, fields}
 use Rattle.lines.specs.Numbers.{worthOf}
 use Rattle.lines.specs.Kinds.{namedBy}
 use Rattle.lines.specs.Said.{verdictOf, taken, judged, saidBy, bodySaid, said, wordsOf, stored}
-use Rattle.lines.specs.Laws.{UnreadableKeeps, countOf, WordsThere}
+use Rattle.lines.specs.Captures.{captureFits, captureBy, captureBody, captureSaid, captureWords, captureStored}
+use Rattle.lines.specs.Laws.{UnreadableKeeps, countOf, WordsThere, CaptureKeeps, captureCount, CaptureThere}
+use Rattle.lines.specs.declared.CaptureSaid.{CaptureSaid}
 use Rattle.lines.specs.declared.Kind.{Kind}
 use Rattle.lines.specs.declared.Named.{Named}
 use Rattle.lines.specs.declared.Said.{Said}
 use Rattle.lines.specs.declared.Shape.{Shape}
 use Rattle.lines.specs.declared.Verdict.{Verdict}
 use Rattle.lines.proofs.Walking.{fits-room}
+use Rattle.lines.proofs.Capturing.{capture-room}
 
 pub unreadable-keeps : UnreadableKeeps
 unfolding stored
@@ -64,3 +67,24 @@ unfolding said bodySaid
 words-there line room =
     let fs = fields (bodyOf line) in
     pick-case (There room fs) (isQuiet (bodyOf line)) {x = Said.Nothing} (λ _. (refl, omega arith)) (λ _. there-said (namedBy (getD fs 0 [])) room fs)
+
+-- the same of a capture's line
+
+pub capture-keeps : CaptureKeeps
+unfolding captureStored
+capture-keeps line ws w h =
+    ap (λ (d : CaptureSaid). laid ws 0 (captureWords d (fields (bodyOf line)))) h ∙ sym (laid-none ws 0)
+
+abbrev CaptureIs : ℕ → List (List ℕ) → CaptureSaid → Type 0
+CaptureIs room fs d = (length (captureWords d fs) ≡ captureCount d) × (captureCount d ≤ room)
+
+there-capture : (room : ℕ) (fs : List (List ℕ)) (v : Verdict) → captureFits room fs ≡ v → CaptureIs room fs (captureBy v fs)
+there-capture room fs Verdict.Fits e = (length-map (drop 1 fs) (worthOf Shape.Word), capture-room room fs e)
+there-capture room fs (Verdict.No w) e = (refl, omega arith)
+
+pub capture-there : CaptureThere
+unfolding captureSaid captureBody
+capture-there line room =
+    let fs = fields (bodyOf line) in
+    pick-case (CaptureIs room fs) (isQuiet (bodyOf line)) {x = CaptureSaid.Nothing} (λ _. (refl, omega arith))
+    (λ _. there-capture room fs (captureFits room fs) refl)

@@ -1,10 +1,12 @@
--- What a caller of `parse` may count on, whatever the line. docs/BENCH.md 'Answers', 01 'What calls owe'. Assumes nothing.
+-- What a caller of `parse` or `parse_capture` may count on, whatever the line. docs/BENCH.md 'Answers', 01 'What calls owe'. Assumes nothing.
 use Prim.Native.Nat.{ℕ, _≤_}
 use mathlib.Core.Path.{_≡_}
 use mathlib.Core.List.{List}
 use lib.ListN.{length}
 use Rattle.lines.specs.Fields.{bodyOf, fields}
 use Rattle.lines.specs.Said.{said, wordsOf, stored}
+use Rattle.lines.specs.Captures.{captureSaid, captureWords, captureStored}
+use Rattle.lines.specs.declared.CaptureSaid.{CaptureSaid}
 use Rattle.lines.specs.declared.Said.{Said}
 use Rattle.lines.specs.declared.Wrong.{Wrong}
 
@@ -29,3 +31,18 @@ abbrev pub WordsThere : Type 0
 WordsThere =
     (line : List ℕ) (room : ℕ)
     → (length (wordsOf (said line room) (fields (bodyOf line))) ≡ countOf (said line room)) × (countOf (said line room) ≤ room)
+
+-- The same two of a capture's line.
+abbrev pub CaptureKeeps : Type 0
+CaptureKeeps = (line ws : List ℕ) (w : Wrong) → captureSaid line (length ws) ≡ CaptureSaid.Wrong w → captureStored line ws ≡ ws
+
+abbrev pub captureCount : CaptureSaid → ℕ
+captureCount (CaptureSaid.Captured c) = c .words
+captureCount CaptureSaid.Nothing = 0
+captureCount (CaptureSaid.Wrong w) = 0
+
+abbrev pub CaptureThere : Type 0
+CaptureThere =
+    (line : List ℕ) (room : ℕ)
+    → (length (captureWords (captureSaid line room) (fields (bodyOf line))) ≡ captureCount (captureSaid line room))
+    × (captureCount (captureSaid line room) ≤ room)

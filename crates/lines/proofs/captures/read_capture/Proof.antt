@@ -4,11 +4,11 @@ use mathlib.Core.Path.{_≡_, refl, sym, ap, ap₂, _∙_}
 use mathlib.Core.Bool.{false}
 use mathlib.Core.List.{List}
 use borrow.Author.Needs.{needs}
-use lib.ListN.{length, take}
+use lib.ListN.{length}
 use Rattle.base.specs.Words.{laid}
 use Rattle.base.proofs.Pick.{yes, no}
 use Rattle.base.proofs.Laid.{laid-none}
-use Rattle.lines.specs.Fields.{isQuiet, fields, firstLength, behind, fieldsFrom}
+use Rattle.lines.specs.Fields.{isQuiet, fields, fieldsFrom}
 use Rattle.lines.specs.Captures.{captureFits, captureBy, captureBody, captureWords, CaptureSays}
 use Rattle.lines.specs.declared.CaptureSaid.{CaptureSaid}
 use Rattle.lines.specs.declared.Verdict.{Verdict}
@@ -66,11 +66,7 @@ enum-told c = search needs
 take-capture-requires : tie.Need-take-capture-requires
 take-capture-requires c κs =
     let at = c .before .before .before in
-    let first = at .before .first-length in (
-      first .ensures .1,
-      capture-room (length (ws at)) (take (first .result) (line at)) (behind (line at) (first .result))
-          (sym (at .check-capture .ensures) ∙ c .before .enum-told .given .1),
-    )
+    (at .before .first-length .ensures .1, capture-room (length (ws at)) (from at) (sym (at .check-capture .ensures) ∙ c .before .enum-told .given .1))
 
 returns-2 : tie.Need-returns-2
 returns-2 c =
