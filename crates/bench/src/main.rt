@@ -11,12 +11,14 @@ use crate::calls::ask;
 use crate::calls::erase;
 use crate::calls::hear;
 use crate::calls::poll;
-use crate::saying::say_done;
 use crate::saying::say_help;
-use crate::saying::say_long;
-use crate::saying::say_unread;
-use crate::saying::say_unwritten;
-use crate::saying::say_wrong;
+use answers::line_room;
+use answers::next_number;
+use answers::say_end;
+use answers::say_long;
+use answers::say_unwritten;
+use answers::say_wrong;
+use answers::words_room;
 use lines::Said;
 use node::Node;
 
@@ -85,21 +87,6 @@ fn reply_room() -> [u16; 12288]
     [0; 12288]
 }
 
-// A line with its end, and as many words as such a line can have, which are five bytes each.
-fn line_room() -> [u8; 200000]
-    ensures { λ r. ⌜ r ≡ replicate 200000 0 ⌝ }
-    ensures { λ r. ⌜ length r ≡ 200000 ⌝ }
-{
-    [0; 200000]
-}
-
-fn words_room() -> [u16; 40000]
-    ensures { λ r. ⌜ r ≡ replicate 40000 0 ⌝ }
-    ensures { λ r. ⌜ length r ≡ 40000 ⌝ }
-{
-    [0; 40000]
-}
-
 // The longest request that is sent on to a slave.
 fn held_room() -> [u16; 8192]
     ensures { λ r. ⌜ r ≡ replicate 8192 0 ⌝ }
@@ -116,9 +103,8 @@ fn start(flash: &[u16]) -> Node {
 
 // What is kept as a line comes: it is counted where it isn't the rest of one that was too long.
 fn counted(kept: Kept, cut: bool) -> Kept {
-    let one = if kept.cut { 0 } else { 1 };
     Kept {
-        number: std::num::wrapping_add_u64(kept.number, one),
+        number: next_number(kept.number, kept.cut),
         clock: kept.clock,
         fault: kept.fault,
         held: kept.held,
@@ -246,12 +232,13 @@ fn turn(
     )
 }
 
-// The end of the input, after so many lines: whether it was read to its end.
+// How it ends: with the input, after so many lines, or at a line whose answer can't be written.
 fn end(failed: bool, number: u64) -> bool {
-    if failed {
-        return say_unread(number);
-    }
-    say_done()
+    say_end(b"bench", failed, number)
+}
+
+fn stop(number: u64) -> bool {
+    say_unwritten(b"bench", number)
 }
 
 fn main() {
@@ -303,7 +290,7 @@ fn main() {
             &mut reply,
         );
         if !after.told {
-            say_unwritten(after.kept.number);
+            stop(after.kept.number);
             return;
         }
     }

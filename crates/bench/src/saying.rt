@@ -2,24 +2,13 @@
 // nothing more where something could not.
 ghost use Prim.Native.Nat.{_+_, _*_, _≤_, _<_};
 ghost use lib.ListN.{length};
+use answers::say;
+use answers::say_decimal;
+use answers::say_number;
 use group::Reply;
-use lines::What;
-use lines::Wrong;
 use node::Answer;
 use node::Asking;
 use node::refusals::refusal_number;
-
-fn say(text: &[u8]) -> bool {
-    io::write_all(1, text)
-}
-
-fn say_decimal(number: u64) -> bool {
-    io::print_decimal(1, number)
-}
-
-fn say_number(number: u64) -> bool {
-    say(b"\t") && say_decimal(number)
-}
 
 // A hex digit, as a capital.
 fn glyph(digit: u16) -> u8
@@ -113,40 +102,6 @@ pub fn say_answer(number: u64, answer: Answer, held: &[u16], buffer: &[u16]) -> 
     say_decimal(number) && say_come(answer, held, buffer) && say(b"\n")
 }
 
-// What is wrong with a field.
-fn say_what(what: What) -> bool {
-    match what {
-        What::NoLink => say(
-            b"no link, and none of reply, poll, erase, clock, error, help; fields are parted by tabs",
-        ),
-        What::Missing => say(b"missing"),
-        What::TooMany => say(b"one too many"),
-        What::NoRoom => say(b"no room for this word"),
-        What::NoNumber32 => say(b"no decimal number below 4294967296"),
-        What::NoNumber64 => say(b"no decimal number below 18446744073709551616"),
-        What::NoBc => say(b"no BC, 0 to 3"),
-        What::NoFlag => say(b"neither 0 nor 1"),
-        What::NoHex32 => say(b"not one to eight hex digits"),
-        What::NoWord => say(b"not four hex digits"),
-    }
-}
-
-// A line that can't be read, by its first wrong field.
-pub fn say_wrong(number: u64, wrong: Wrong) -> bool {
-    let what = wrong.what;
-    say_decimal(number)
-        && say(b"\tUNREADABLE\tfield ")
-        && say_decimal(wrong.field as u64)
-        && say(b": ")
-        && say_what(what)
-        && say(b"\n")
-}
-
-// A line that is too long.
-pub fn say_long(number: u64) -> bool {
-    say_decimal(number) && say(b"\tUNREADABLE\tthe line has 200,000 bytes or more\n")
-}
-
 // The lines that the bench takes.
 pub fn say_help() -> bool {
     say(b"LINK BC [WORD..]                              a request from a link\n")
@@ -170,25 +125,4 @@ pub fn say_help() -> bool {
         && say(
             b"For example 0 3 0D2E 1234, with tabs for the spaces, is a Ping from link 0, and answers 1234 0020 4F08.\n",
         )
-}
-
-// Why the bench stopped, on standard error; and on descriptor 3, where host/bench waits for it, that it has come to the end.
-fn complain(text: &[u8]) -> bool {
-    io::write_all(2, text)
-}
-
-pub fn say_unread(number: u64) -> bool {
-    complain(b"bench: standard input can't be read; lines read before that: ")
-        && io::print_decimal(2, number)
-        && complain(b"\n")
-}
-
-pub fn say_unwritten(number: u64) -> bool {
-    complain(b"bench: standard output can't be written; stopped at the answer to line ")
-        && io::print_decimal(2, number)
-        && complain(b"\n")
-}
-
-pub fn say_done() -> bool {
-    io::write_all(3, b"done\n")
 }

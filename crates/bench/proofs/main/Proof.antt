@@ -105,8 +105,8 @@ slice-aggregate-turn-8 c = search needs
 turn-requires : tie.Need-turn-requires Inv-loop μ-loop
 turn-requires c κs = search needs
 
-say-unwritten-requires : tie.Need-say-unwritten-requires Inv-loop μ-loop
-say-unwritten-requires c κs = search needs
+stop-requires : tie.Need-stop-requires Inv-loop μ-loop
+stop-requires c κs = search needs
 
 returns-2 : tie.Need-returns-2 Inv-loop μ-loop
 returns-2 c = search needs
@@ -159,7 +159,7 @@ main-spec =
     slice-aggregate-turn-7
     slice-aggregate-turn-8
     turn-requires
-    say-unwritten-requires
+    stop-requires
     returns-2
     loop-less
     loop-again
