@@ -87,7 +87,7 @@ def parsed(line):
 def help_lines():
     """What docs/BENCH.md says that help prints."""
     page = (ROOT / "docs" / "BENCH.md").read_text()
-    return [line[4:] for line in page.split("`help` prints\n\n")[1].splitlines() if line.startswith("    ")]
+    return [line[4:] for line in page.split("`help` prints\n\n")[1].split("\n\n")[0].splitlines()]
 
 
 class Bench:

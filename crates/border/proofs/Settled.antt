@@ -19,4 +19,5 @@ pub lines-settled : LinesSettled
 lines-settled =
     record {
       parse = λ κs given x y v w p q. (p .0 ∙ sym (q .0), λ i. (v .0, ((p .1 ∙ sym (q .1)) i, v .1 .1)));
+      capture = λ κs given x y v w p q. (p .0 ∙ sym (q .0), λ i. (v .0, ((p .1 ∙ sym (q .1)) i, v .1 .1)));
     }

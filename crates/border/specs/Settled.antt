@@ -1,5 +1,5 @@
 -- What calls owe, at the C border: the statement of every entry settles the number that it answers and each byte of each run that it is
--- lent, for refused entries too. So it is with the reader of the bench's lines. 01 'What calls owe'. The statements are the functions' own
+-- lent, for refused entries too. So it is with the readers of lines. 01 'What calls owe'. The statements are the functions' own
 -- contracts, as a caller has them. Assumes nothing.
 use Rattle.demands.specs.Settled.{Settles}
 use Rattle.logodwen.proofs as Logodwen
@@ -14,6 +14,7 @@ pub record EntriesSettled : Type 0 where
   pub erase : Settles Logodwen.logodwen2_erase.Kinds.ps Logodwen.logodwen2_erase.Kinds.r Logodwen.logodwen2_erase.Reads.Learnt
   pub fcs : Settles Logodwen.sequence.logodwen2_fcs.Kinds.ps Logodwen.sequence.logodwen2_fcs.Kinds.r Logodwen.sequence.logodwen2_fcs.Reads.Learnt
 
--- The reader of the bench's lines: what a line says, and each word of the buffer.
+-- The readers of lines, the bench's and captures: what a line says, and each word of the buffer.
 pub record LinesSettled : Type 0 where
   pub parse : Settles Lines.parse.Kinds.ps Lines.parse.Kinds.r Lines.parse.Reads.Learnt
+  pub capture : Settles Lines.parse_capture.Kinds.ps Lines.parse_capture.Kinds.r Lines.parse_capture.Reads.Learnt

@@ -13,7 +13,8 @@ use lib.Seq.{take-all, drop-cons, drop-drop}
 use Rattle.base.specs.Pick.{pick}
 use Rattle.base.specs.Words.{part}
 use Rattle.base.proofs.Pick.{pick-case}
-use Rattle.lines.specs.Fields.{bodyLength, bodyOf, isSpace, isBlank, longer, fields, firstLength, fieldsBehind, behind, fieldsFrom, same, FieldEnd}
+use Rattle.lines.specs.Fields.{bodyLength, bodyOf, isSpace, isBlank}
+use Rattle.lines.specs.Fields.{longer, fields, firstLength, fieldsBehind, behind, fieldsFrom, same, FieldEnd}
 
 -- the rest of a run is its next byte and the rest behind that: how a loop goes on
 pub rest : (s : List ℕ) (i : ℕ) → i < length s → drop i s ≡ getD s i 0 ∷ drop (i + 1) s

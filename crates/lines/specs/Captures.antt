@@ -1,5 +1,4 @@
--- What a line says that has a captured group reply, and what it leaves in the buffer for words: the slave mask, then the words (02, request 3).
--- docs/BENCH.md 'Captures as lines'. Assumes nothing.
+-- What a capture's line says, and what it leaves in the buffer for words. 02, request 3; docs/BENCH.md 'Captures as lines'. Assumes nothing.
 use Prim.Native.Nat.{ℕ}
 use mathlib.Core.Path.{_≡_}
 use mathlib.Core.Bool.{true}

@@ -24,11 +24,11 @@ abbrev pub restOf : ℕ → Bool → ℕ → Walked → Verdict
 restOf k more room (Walked.Left fs) = pick more (wordsFit k room fs) (endFits k fs)
 restOf k more room (Walked.Bad w) = Verdict.No w
 
--- A line's fields from field k on, by the shapes that they must have, and whether words may follow: all fit, or which is the first that doesn't.
+-- Whether all fields from field k on fit, or which is the first that doesn't: a row of shapes that they must have, and whether words may follow.
 abbrev pub rowFits : ℕ → List Shape → Bool → ℕ → List (List ℕ) → Verdict
 rowFits k shapes more room fs = restOf (k + length shapes) more room (walked k shapes fs)
 
--- The same of a kind, whose first field has told it.
+-- The same of a kind's fields, behind the first one, which has told the kind.
 abbrev pub restFits : Kind → ℕ → Walked → Verdict
 restFits kind room w = restOf (2 + length (shapesOf kind)) (takesWords kind) room w
 

@@ -121,8 +121,8 @@ enum Step {
     Bad(Wrong),
 }
 
-// What a line of the bench says, without its line end. The words of a request or a reply go to the start of `words`; every other word there, and for
-// every other line all of them, stay as they are.
+// What a line of the bench says, without its line end. The words of a request or a reply go to the start of `words`; every other word
+// there, and for every other line all of them, stay as they are.
 pub fn parse(line: &[u8], words: &mut [u16]) -> Said
     ensures { λ r. ⌜ ParseSays (now (line .entry)) (now (words .entry)) r (now (words .exit)) ⌝ }
 {

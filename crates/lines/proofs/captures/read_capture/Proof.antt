@@ -17,7 +17,7 @@ use Rattle.lines.proofs.Capturing.{capture-room}
 use Rattle.lines.proofs.captures.read_capture.Statement.{statement}
 use Rattle.lines.proofs.captures.read_capture.Tie as tie
 
--- the line, the buffer and where the first field ends, from the place behind the verdict
+-- the line, the buffer and the fields as they are walked, from the place behind the verdict
 abbrev line : tie.After-check-capture → List ℕ
 line c = c .before .before .before .before .before .before .args .line .now
 
@@ -29,7 +29,8 @@ from c = fieldsFrom (line c) (c .before .first-length .result)
 
 -- a line that is not quiet says what its verdict says
 by-fields : (c : tie.After-check-capture) {v : Verdict} {r : CaptureSaid} {after : List ℕ} → c .check-capture .result ≡ v
-    → CaptureSays (captureBy v (from c)) (from c) (ws c) r after → CaptureSays (captureBody (line c) (length (ws c))) (fields (line c)) (ws c) r after
+    → CaptureSays (captureBy v (from c)) (from c) (ws c) r after
+    → CaptureSays (captureBody (line c) (length (ws c))) (fields (line c)) (ws c) r after
 unfolding captureBody
 by-fields c {v} e h =
     let split : from c ≡ fields (line c) = ap (fieldsFrom (line c)) (c .before .first-length .ensures .0) ∙ sym (fields-split (line c)) in
@@ -66,7 +67,8 @@ enum-told c = search needs
 take-capture-requires : tie.Need-take-capture-requires
 take-capture-requires c κs =
     let at = c .before .before .before in
-    (at .before .first-length .ensures .1, capture-room (length (ws at)) (from at) (sym (at .check-capture .ensures) ∙ c .before .enum-told .given .1))
+    let fit = sym (at .check-capture .ensures) ∙ c .before .enum-told .given .1 in
+    (at .before .first-length .ensures .1, capture-room (length (ws at)) (from at) fit)
 
 returns-2 : tie.Need-returns-2
 returns-2 c =
