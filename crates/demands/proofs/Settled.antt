@@ -6,7 +6,7 @@ use Rattle.memory.specs.Load.{Loaded}
 use Rattle.group.specs.Fragment.{Assembly}
 use Rattle.group.specs.Ending.{Sent}
 use Rattle.node.specs.Effect.{Outcome}
-use Rattle.demands.specs.Settled.{BaseSettled, FcsSettled, ImageSettled, FlashSettled, MemorySettled, GroupSettled, ReportSettled, NodeSettled, Settled}
+use Rattle.demands.specs.Settled.{BaseSettled, FcsSettled, ImageSettled, FlashSettled, MemorySettled, GroupSettled, ReportSettled, CaptureSettled, NodeSettled, Settled}
 
 pub base-settled : BaseSettled
 base-settled =
@@ -108,9 +108,11 @@ group-settled =
       judge-zero-bc = λ κs given x y v w p q. (p ∙ sym q, refl);
       judge-has-room = λ κs given x y v w p q. (p ∙ sym q, refl);
       judge-kind-of = λ κs given x y v w p q. (p ∙ sym q, refl);
+      judge-tallied = λ κs given x y v w p q. (p ∙ sym q, refl);
       judge-tally-number = λ κs given x y v w p q. (p ∙ sym q, refl);
       slaves-ticks-since = λ κs given x y v w p q. (p ∙ sym q, refl);
       slaves-is-late = λ κs given x y v w p q. (p ∙ sym q, refl);
+      slaves-bit = λ κs given x y v w p q. (p .0 ∙ sym (q .0), refl);
       slaves-first-slave = λ κs given x y v w p q. (p ∙ sym q, refl);
       slaves-next-slave = λ κs given x y v w p q. (p ∙ sym q, refl);
       slaves-slaves-above = λ κs given x y v w p q. (p ∙ sym q, refl);
@@ -124,6 +126,12 @@ report-settled =
       node-status = λ κs given x y v w p q. (p ∙ sym q, refl);
       attributes = λ κs given x y v w p q. (p ∙ sym q, refl);
       has-masks = λ κs given x y v w p q. (p ∙ sym q, refl);
+    }
+
+pub capture-settled : CaptureSettled
+capture-settled =
+    record {
+      read-group = λ κs given x y v w p q. (p ∙ sym q, refl);
     }
 
 pub node-settled : NodeSettled
@@ -174,5 +182,6 @@ settled =
       memory = memory-settled;
       group = group-settled;
       report = report-settled;
+      capture = capture-settled;
       node = node-settled;
     }

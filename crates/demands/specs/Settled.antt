@@ -13,6 +13,7 @@ use Rattle.flash.proofs as Flash
 use Rattle.memory.proofs as Memory
 use Rattle.group.proofs as Group
 use Rattle.report.proofs as Report
+use Rattle.capture.proofs as Capture
 use Rattle.node.proofs as Node
 
 -- Whatever a function is given and lent, any two results that its statement allows are the same: what it returns, in a given sense,
@@ -117,9 +118,11 @@ pub record GroupSettled : Type 0 where
   pub judge-zero-bc : Settles Group.judge.zero_bc.Kinds.ps Group.judge.zero_bc.Kinds.r Group.judge.zero_bc.Reads.Learnt
   pub judge-has-room : Settles Group.judge.has_room.Kinds.ps Group.judge.has_room.Kinds.r Group.judge.has_room.Reads.Learnt
   pub judge-kind-of : Settles Group.judge.kind_of.Kinds.ps Group.judge.kind_of.Kinds.r Group.judge.kind_of.Reads.Learnt
+  pub judge-tallied : Settles Group.judge.tallied.Kinds.ps Group.judge.tallied.Kinds.r Group.judge.tallied.Reads.Learnt
   pub judge-tally-number : Settles Group.judge.tally_number.Kinds.ps Group.judge.tally_number.Kinds.r Group.judge.tally_number.Reads.Learnt
   pub slaves-ticks-since : Settles Group.slaves.ticks_since.Kinds.ps Group.slaves.ticks_since.Kinds.r Group.slaves.ticks_since.Reads.Learnt
   pub slaves-is-late : Settles Group.slaves.is_late.Kinds.ps Group.slaves.is_late.Kinds.r Group.slaves.is_late.Reads.Learnt
+  pub slaves-bit : Settles Group.slaves.bit.Kinds.ps Group.slaves.bit.Kinds.r Group.slaves.bit.Reads.Learnt
   pub slaves-first-slave : Settles Group.slaves.first_slave.Kinds.ps Group.slaves.first_slave.Kinds.r Group.slaves.first_slave.Reads.Learnt
   pub slaves-next-slave : Settles Group.slaves.next_slave.Kinds.ps Group.slaves.next_slave.Kinds.r Group.slaves.next_slave.Reads.Learnt
   pub slaves-slaves-above : Settles Group.slaves.slaves_above.Kinds.ps Group.slaves.slaves_above.Kinds.r Group.slaves.slaves_above.Reads.Learnt
@@ -131,6 +134,10 @@ pub record ReportSettled : Type 0 where
   pub node-status : Settles Report.node_status.Kinds.ps Report.node_status.Kinds.r Report.node_status.Reads.Learnt
   pub attributes : Settles Report.attributes.Kinds.ps Report.attributes.Kinds.r Report.attributes.Reads.Learnt
   pub has-masks : Settles Report.has_masks.Kinds.ps Report.has_masks.Kinds.r Report.has_masks.Reads.Learnt
+
+-- Captured group replies.
+pub record CaptureSettled : Type 0 where
+  pub read-group : Settles Capture.read_group.Kinds.ps Capture.read_group.Kinds.r Capture.read_group.Reads.Learnt
 
 -- The node: the five calls, and the parts that decide before anything is done.
 pub record NodeSettled : Type 0 where
@@ -177,4 +184,5 @@ pub record Settled : Type 0 where
   pub memory : MemorySettled
   pub group : GroupSettled
   pub report : ReportSettled
+  pub capture : CaptureSettled
   pub node : NodeSettled
