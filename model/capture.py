@@ -67,7 +67,8 @@ def answered(mask, words, exact):
     slaves, tried = slaves_of(mask), set()
 
     def agree(laid, at):
-        return words[at : at + len(laid)] == laid[: max(0, len(words) - at)]
+        seen = words[at : at + len(laid)]
+        return seen == (laid if exact else laid[: len(seen)])
 
     def from_slave(place, built, tally):
         if (place, built, tally) in tried:
