@@ -85,8 +85,7 @@ def answered(mask, words, exact):
         return None
 
     def end(built, tally):
-        total = built + 2
-        if zero_length(tally) is not None or total < len(words) or exact and total != len(words):
+        if zero_length(tally) is not None or built + 2 < len(words):
             return None
         return next(([own] for own in OWN if agree(ending(words[:built], tally, own), built)), None)
 

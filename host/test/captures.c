@@ -75,7 +75,8 @@ static uint64_t answer(unsigned slave, unsigned mood, size_t room) {
     if (n > 0 && one_in(12))
         packet[2 * n - 1] ^= 1;
     logodwen_put_pm(lent.state + LOGODWEN_AT_ASKED_AT, 0, 0);
-    return model_reply(now, slave, bc, error, rx_status, rx_address, packet, 2 * n, lent.state, sizeof lent.state, lent.reply, sizeof lent.reply);
+    return model_reply(now, slave, bc, error, rx_status, rx_address, packet, 2 * n, lent.state, sizeof lent.state, lent.reply,
+                       sizeof lent.reply);
 }
 
 /* A group of the mask's slaves, as the capture. Where all say the same without words there is no data: its fragments, under a right end. */
@@ -191,8 +192,8 @@ static void make_capture(void) {
 /* The comparison. */
 
 static void differs(const char *what, uint64_t by_library, uint64_t by_model) {
-    printf("captures: seed %" PRIu64 ", capture %lu (mask %" PRIX32 ", %zu words): %s is %" PRIx64 " by the library, %" PRIx64 " by the model\n",
-           seed, captures, mask, words, what, by_library, by_model);
+    printf("captures: seed %" PRIu64 ", capture %lu (mask %" PRIX32 ", %zu words): ", seed, captures, mask, words);
+    printf("%s is %" PRIx64 " by the library, %" PRIx64 " by the model\n", what, by_library, by_model);
     exit(1);
 }
 
