@@ -1,7 +1,7 @@
 /* logodwen.h: the reference node for a host in C (liblogodwen.a).
 
    A node is a state machine without memory of its own: the host keeps the node's state as 180 bytes, its flash and its memories as
-   runs of bytes, and lends them to each call. There are five calls, and one that works out a check sequence:
+   runs of bytes, and lends them to each call. There are five calls, and two entries that need no node:
 
        logodwen_start      a node starts on a flash
        logodwen_request    a packet from a master came in on a link
@@ -9,6 +9,7 @@
        logodwen_poll       time went by while a slave is being asked
        logodwen_erase      a bit of an erasure that is going on is done
        logodwen_fcs        the check sequence of words
+       logodwen_capture    whether words are a group's reply, as this or another node may have sent it, and if not, from which word on
 
    A call either does all that it answers, or is refused and changes nothing. Every call ends, gives an answer for any numbers and any
    bytes that it is lent, and touches no byte outside the lent runs: that is proved, so no input has to be kept away from it.
@@ -32,8 +33,8 @@
    at the same time in different threads; calls that share a run (the state above all) may not.
 
    Words: a word is two bytes, a word of program memory (PM) four, the low byte first. Of a PM word the low 24 bits count, and a store
-   clears the others. The five calls take lengths in bytes (`_len`); bytes that are not a whole word at the end of a run are ignored, and
-   stay as they are. The helpers count in words (`words`, `count`, `room`).
+   clears the others. The five calls and logodwen_capture take lengths in bytes (`_len`); bytes that are not a whole word at the end of a
+   run are ignored, and stay as they are. The helpers count in words (`words`, `count`, `room`).
 
    Times are in ticks of 10 ms and count modulo 2^32. A slave that has not answered 60 ticks after it was asked is late. */
 #ifndef LOGODWEN_H
@@ -82,6 +83,7 @@ extern "C" {
 #define LOGODWEN_STACK_POLL 4096u
 #define LOGODWEN_STACK_ERASE 4096u
 #define LOGODWEN_STACK_FCS 4096u
+#define LOGODWEN_STACK_CAPTURE 4096u
 
 /* The kinds of node. */
 #define LOGODWEN_CDP 1u  /* has no slaves */
@@ -111,9 +113,11 @@ extern "C" {
 #define LOGODWEN_REFUSED_UNASKED 7u     /* a reply or a poll with nothing pending, or a reply from a slave that is not being asked */
 
 /* What a call that is not refused answers: see logodwen_answer and those below it. */
-#define LOGODWEN_REPLY 1u   /* a reply to the master stands in the reply buffer, or has no words */
-#define LOGODWEN_ASK 2u     /* a slave is to be sent the request, from some word on */
-#define LOGODWEN_WAITING 3u /* poll only: the slave is not late yet */
+#define LOGODWEN_REPLY 1u    /* a reply to the master stands in the reply buffer, or has no words */
+#define LOGODWEN_ASK 2u      /* a slave is to be sent the request, from some word on */
+#define LOGODWEN_WAITING 3u  /* poll only: the slave is not late yet */
+#define LOGODWEN_ACCEPTED 4u /* capture only: the words are a group's reply */
+#define LOGODWEN_BROKEN 5u   /* capture only: they are none, from some word on */
 
 /* The entries. Names that begin with logodwen2_ are the symbols of the archive; a host writes the short names below. */
 
@@ -184,11 +188,22 @@ uint64_t logodwen2_erase(uint64_t budget,
    ignored. */
 uint16_t logodwen2_fcs(const uint8_t *bytes, size_t len);
 
+/* Whether words that some node sent are a group's reply, by the rules by which this node assembles one. It is never refused, changes
+   nothing, and needs no node. Answers LOGODWEN_ACCEPTED: answers of the slaves exist from which this node assembles just these words, and
+   they split in only one way into a fragment for each slave (logodwen_read_fragment). Or LOGODWEN_BROKEN, with the place of the first word
+   that breaks the rules (logodwen_place): the words before it begin some group's reply for this mask, with it they begin none. A reply that
+   is cut short breaks at its own length, where the next word should stand. So a place is at most that, and at most 12,288.
+     mask                  the slaves that were asked, bit s for slave s. An empty one, or one with a bit above 23, has no reply: broken at 0
+     words                 the reply, status word and FCS included. No words are broken at 0: where every slave answers the same without
+                           words, that answer is the group's reply, and it has no fragments */
+uint64_t logodwen2_capture(uint32_t mask, const uint8_t *words, size_t words_len);
+
 #define logodwen_start logodwen2_start
 #define logodwen_request logodwen2_request
 #define logodwen_reply logodwen2_reply
 #define logodwen_poll logodwen2_poll
 #define logodwen_erase logodwen2_erase
+#define logodwen_capture logodwen2_capture
 
 /* The same of so many words. It ends a segment's body and every reply that has words. */
 static inline uint16_t logodwen_fcs(const uint8_t *bytes, size_t words) { return logodwen2_fcs(bytes, 2 * words); }
@@ -201,7 +216,8 @@ static inline uint16_t logodwen_fcs(const uint8_t *bytes, size_t words) { return
 /* Why the call was refused, or LOGODWEN_DONE. */
 static inline unsigned logodwen_refusal(uint64_t answered) { return (unsigned)(answered & 0xFFu); }
 
-/* LOGODWEN_REPLY, LOGODWEN_ASK or LOGODWEN_WAITING; 0 of a call that was refused, and of logodwen_erase. */
+/* LOGODWEN_REPLY, LOGODWEN_ASK or LOGODWEN_WAITING, of logodwen_capture LOGODWEN_ACCEPTED or LOGODWEN_BROKEN; 0 of a call that was
+   refused, and of logodwen_erase. */
 static inline unsigned logodwen_answer(uint64_t answered) { return (unsigned)(answered >> 8 & 0xFFu); }
 
 /* Of LOGODWEN_REPLY: its BC. Else LOGODWEN_NONE. */
@@ -210,7 +226,14 @@ static inline unsigned logodwen_bc(uint64_t answered) {
 }
 
 /* Of LOGODWEN_REPLY: how many words of the reply buffer it has, from word 0 on. Of logodwen_erase: how many words were set. Else 0. */
-static inline uint32_t logodwen_words(uint64_t answered) { return (uint32_t)(answered >> 32); }
+static inline uint32_t logodwen_words(uint64_t answered) {
+    return logodwen_answer(answered) == LOGODWEN_BROKEN ? 0 : (uint32_t)(answered >> 32);
+}
+
+/* Of LOGODWEN_BROKEN: the place of the first word that breaks the rules, counted from 0. Else LOGODWEN_NONE. */
+static inline uint32_t logodwen_place(uint64_t answered) {
+    return logodwen_answer(answered) == LOGODWEN_BROKEN ? (uint32_t)(answered >> 32) : LOGODWEN_NONE;
+}
 
 /* Of LOGODWEN_ASK: the slave. Else LOGODWEN_NONE. */
 static inline unsigned logodwen_slave(uint64_t answered) {
@@ -918,7 +941,8 @@ static inline const char *logodwen_code_text(unsigned code) {
 }
 
 /* Reads the fragment at a place of a group's reply: answers the place past it, or 0 where none stands there that a node could have laid,
-   and then leaves `fragment`. The walk over a reply, whose FCS is to be looked at first (logodwen_is_sealed):
+   and then leaves `fragment`. The walk over a reply, whose FCS is to be looked at first (logodwen_is_sealed); over one that another node
+   sent it goes to the end where logodwen_capture has accepted the words:
 
        for (size_t at = 0; at + LOGODWEN_TAIL_WORDS < words; ) {
            at = logodwen_read_fragment(reply, words, at, &fragment);

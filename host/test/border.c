@@ -1,7 +1,7 @@
 /* Tests of the border: each refusal and their order, odd lengths, NULL with length 0, guard bytes round every run, alignment, files
-   in several packets, lengths in the directory, remains behind a file, names that several sectors have, the parts of what is
-   answered, and the layout of the state. Every run stands between guard bytes; after each call they are looked at, and after a refused
-   one every byte of every run too. */
+   in several packets, lengths in the directory, remains behind a file, names that several sectors have, captured group replies, the
+   parts of what is answered, and the layout of the state. Every run stands between guard bytes; after each call they are looked at,
+   and after a refused one every byte of every run too. */
 #include "../../include/logodwen.h"
 
 #include <stdio.h>
@@ -609,6 +609,84 @@ static void test_group(void) {
     CHECK(POLL(0x36) == LOGODWEN_REFUSED_UNASKED);
 }
 
+/* Captured group replies (02, request 3). */
+
+static uint64_t capture_of(uint32_t mask, int line) {
+    remember();
+    uint64_t answered = logodwen_capture(mask, lent(PACKET), lengths[PACKET]);
+    look_round(1, line); /* it changes no byte, refused or not */
+    return answered;
+}
+#define CAPTURE(mask) capture_of(mask, __LINE__)
+
+static uint64_t accepted(void) { return (uint64_t)LOGODWEN_ACCEPTED << 8; }
+static uint64_t broken(uint64_t place) { return (uint64_t)LOGODWEN_BROKEN << 8 | place << 32; }
+
+/* Lays a reply of these words and their FCS. */
+static void capture_packet(size_t count, const uint16_t *words) {
+    packet(count, words);
+    logodwen_put(runs[PACKET], count, logodwen_fcs(runs[PACKET], count));
+    lengths[PACKET] += 2;
+}
+#define CAPTURE_OF(...) capture_packet(sizeof(uint16_t[]){__VA_ARGS__} / 2, (const uint16_t[]){__VA_ARGS__})
+
+/* 01's examples in one reply, with an odd byte behind it and without, at every shift from an aligned place; cut short anywhere; and with
+   any one of its words changed where no other will do. */
+static void test_capture(void) {
+    for (size_t shift = 0; shift < 9; shift++) {
+        lay_out(shift);
+        CAPTURE_OF(0x0001, 0x1005, 0x0003, 0xAAAA, 0x0001, 0x81A7, 0x0001, 0x2817, 0x0300);
+        CHECK(CAPTURE(0x8000A0) == accepted());
+        lengths[PACKET]++;
+        CHECK(CAPTURE(0x8000A0) == accepted());
+        lengths[PACKET]++;
+        CHECK(CAPTURE(0x8000A0) == broken(10));
+        for (size_t words = 0; words < 10; words++)
+            for (size_t odd = 0; odd < 2; odd++) {
+                lengths[PACKET] = 2 * words + odd;
+                CHECK(CAPTURE(0x8000A0) == broken(words));
+            }
+        lengths[PACKET] = 20;
+        static const size_t judged[5] = {1, 5, 7, 8, 9}; /* statuses, node status, FCS */
+        for (size_t i = 0; i < 5; i++) {
+            runs[PACKET][2 * judged[i]] ^= 1;
+            CHECK(CAPTURE(0x8000A0) == broken(judged[i]));
+            runs[PACKET][2 * judged[i]] ^= 1;
+        }
+        CHECK(CAPTURE(0x8000A1) == broken(1) && CAPTURE(0x0000A0) == broken(6));
+        CHECK(CAPTURE(0) == broken(0) && CAPTURE(0x1000000) == broken(0) && CAPTURE(0x18000A0) == broken(0));
+    }
+}
+
+/* What the parts of the answer are, and that no other entry's part is among them. */
+static void test_capture_answers(void) {
+    CHECK(logodwen_answer(broken(7)) == LOGODWEN_BROKEN && logodwen_answer(accepted()) == LOGODWEN_ACCEPTED);
+    CHECK(logodwen_refusal(broken(7)) == LOGODWEN_DONE && logodwen_refusal(accepted()) == LOGODWEN_DONE);
+    CHECK(logodwen_place(broken(7)) == 7 && logodwen_place(broken(0)) == 0 && logodwen_place(accepted()) == LOGODWEN_NONE);
+    CHECK(logodwen_words(broken(7)) == 0 && logodwen_words(accepted()) == 0);
+    CHECK(logodwen_place(with_words(7)) == LOGODWEN_NONE && logodwen_place((uint64_t)7 << 32) == LOGODWEN_NONE);
+    CHECK(logodwen_bc(broken(7)) == LOGODWEN_NONE && logodwen_slave(broken(7)) == LOGODWEN_NONE && !logodwen_is_next(broken(0)));
+    CHECK(strcmp(logodwen_reply_text(broken(7)), "not a reply") == 0);
+}
+
+/* The longest reply: a sole slave's 12,286 words, of which its FCS and status go and a length, a status and the tail come; and a length
+   word that says one more. */
+static void test_longest_capture(void) {
+    lay_out(0);
+    memset(runs[PACKET], 0, LOGODWEN_REPLY_BYTES);
+    logodwen_put(runs[PACKET], 0, 12285);
+    logodwen_put(runs[PACKET], 12285, 0x8000);
+    logodwen_put(runs[PACKET], 12287, logodwen_fcs(runs[PACKET], 12287));
+    lengths[PACKET] = LOGODWEN_REPLY_BYTES;
+    CHECK(CAPTURE(1) == accepted());
+    lengths[PACKET] += 2;
+    CHECK(CAPTURE(1) == broken(12288));
+    logodwen_put(runs[PACKET], 0, 12286);
+    CHECK(CAPTURE(1) == broken(0));
+    logodwen_put(runs[PACKET], 0, 12285); /* a second slave's fragment has no room behind it */
+    CHECK(CAPTURE(3) == broken(0));
+}
+
 /* Files in several packets. */
 
 /* A first packet of this link, of two words that begin no file, on a node with two links. */
@@ -843,6 +921,9 @@ int main(void) {
     test_remains();
     test_names_twice();
     test_group();
+    test_capture();
+    test_capture_answers();
+    test_longest_capture();
     test_area();
     test_joining();
     test_divisions();

@@ -367,6 +367,53 @@ static void try_group(unsigned long turn) {
     free(reply);
 }
 
+/* What a slave says by chance: nothing, something with receive errors, a reply of no words, or words, mostly sealed. */
+static uint64_t answer_by_chance(struct logodwen_node *node, unsigned slave, uint32_t now) {
+    uint8_t packet[2 * 12];
+    size_t words = any() % 3 == 0 ? 0 : 1 + any() % 12;
+    for (size_t i = 0; i < words; i++)
+        logodwen_put(packet, i, (uint16_t)any());
+    if (words > 1 && any() % 8 != 0)
+        logodwen_put(packet, words - 1, logodwen_fcs(packet, words - 1));
+    if (any() % 8 == 0)
+        return logodwen_node_poll(node, now + LOGODWEN_LATE_TICKS);
+    uint32_t bc = words == 0 || any() % 8 == 0 ? any() % 4 : LOGODWEN_BC_WHOLE;
+    return logodwen_node_reply(node, now, slave, bc, any() % 8 == 0, (uint16_t)any(), (uint16_t)any(), packet, words);
+}
+
+/* A group's reply of a node is accepted for its mask, and the walk goes over a fragment of each slave of it, in order, to the tail. Cut
+   short it breaks at its length, and with a word more behind its end. */
+static void try_capture(unsigned long turn) {
+    static const struct logodwen_given kind = {LOGODWEN_CDDC, 1, 0, 0, 0, 0, 0};
+    static struct logodwen_node node;
+    uint32_t mask = (uint32_t)1 << any() % LOGODWEN_SLAVES | (any() & (any() % 4 == 0 ? 0xFFFFFFu : 0x3Cu)), slaves = mask;
+    uint8_t packet[2 * 3];
+    if (turn == 0) {
+        logodwen_node_blank(&node);
+        logodwen_node_start(&node, &kind);
+    }
+    size_t at = logodwen_make_to_slaves(packet, mask);
+    uint64_t answered = logodwen_node_send(&node, 0, 0, packet, at + logodwen_make_status(packet + 2 * at));
+    while (logodwen_answer(answered) == LOGODWEN_ASK)
+        answered = answer_by_chance(&node, logodwen_slave(answered), 0);
+    size_t words = logodwen_words(answered), cut = words == 0 ? 0 : any() % words;
+    if (words == 0)
+        return;
+    if (logodwen_capture(mask, node.reply, 2 * words + 1) != (uint64_t)LOGODWEN_ACCEPTED << 8)
+        differs("a node's own group reply, captured,", turn);
+    if (logodwen_place(logodwen_capture(mask, node.reply, 2 * cut)) != cut
+        || logodwen_place(logodwen_capture(mask, node.reply, 2 * words + 2)) != words)
+        differs("the place where a captured reply breaks", turn);
+    for (at = 0; at + LOGODWEN_TAIL_WORDS < words; slaves &= slaves - 1) {
+        struct logodwen_fragment fragment;
+        at = logodwen_read_fragment(node.reply, words, at, &fragment);
+        if (at == 0 || slaves == 0 || (slaves & (0 - slaves)) != (uint32_t)1 << fragment.slave)
+            differs("a fragment of a captured reply", turn);
+    }
+    if (slaves != 0)
+        differs("the number of fragments in a captured reply", turn);
+}
+
 static void try_sequence(unsigned long turn) {
     size_t words = any() % 70;
     uint8_t *bytes = malloc(2 * words + 1);
@@ -470,6 +517,7 @@ int main(int arguments, char **argument) {
     for (unsigned long turn = 0; turn < turns; turn++) {
         try_file(turn);
         try_group(turn);
+        try_capture(turn);
         try_sequence(turn);
         try_write(turn);
     }

@@ -63,14 +63,16 @@ static void requests(void) {
     group_request();
 }
 
-/* All replies of the group that was asked last. */
+/* All replies of the group that was asked last, and the words of its own. */
+static size_t replied;
+
 static void replies(void) {
     for (unsigned slave = 0; slave < LOGODWEN_SLAVES; slave++) {
         size_t words = slave == 0 ? 12280 : slave == 1 ? 32767 : 3;
         for (size_t i = 0; i < words; i++)
             logodwen_put(packet, i, (uint16_t)i);
         logodwen_put(packet, words, logodwen_fcs(packet, words));
-        logodwen_node_reply(&node, 0, slave, slave % 4 == 3 ? 2 : 3, slave == 5, 0, 0, packet, words + 1);
+        replied = logodwen_words(logodwen_node_reply(&node, 0, slave, slave % 4 == 3 ? 2 : 3, slave == 5, 0, 0, packet, words + 1));
     }
 }
 
@@ -86,6 +88,13 @@ static void erases(void) {
 }
 
 static void sequences(void) { logodwen_put(packet, 0, logodwen_fcs(packet, 1000)); }
+
+/* That group's reply, and the same with words left over. */
+static void captures(void) {
+    if (logodwen_answer(logodwen_capture(0xFFFFFF, node.reply, 2 * replied)) != LOGODWEN_ACCEPTED
+        || logodwen_answer(logodwen_capture(0xFFFFFF, node.reply, sizeof node.reply)) != LOGODWEN_BROKEN)
+        exit(2);
+}
 
 /* Measuring. */
 
@@ -128,6 +137,7 @@ int main(void) {
     int wrong = measure("start", starts, LOGODWEN_STACK_START);
     wrong += measure("request", requests, LOGODWEN_STACK_REQUEST);
     wrong += measure("reply", replies, LOGODWEN_STACK_REPLY);
+    wrong += measure("capture", captures, LOGODWEN_STACK_CAPTURE);
     group_request();
     wrong += measure("poll", polls, LOGODWEN_STACK_POLL);
     wrong += measure("erase", erases, LOGODWEN_STACK_ERASE);
