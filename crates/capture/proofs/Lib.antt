@@ -1,3 +1,4 @@
+pub mod Masks
 pub mod Shows
 pub mod NodeStatus
 pub mod Makes

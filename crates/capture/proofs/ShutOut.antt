@@ -1,22 +1,22 @@
 -- The wrong readers are shut out: a captured reply has one answer only, and theirs is another. Assumes nothing.
-use Prim.Native.Nat.{ℕ, zero, suc, _+_, _/_, _%_, _^_, _<_}
+use Prim.Native.Nat.{ℕ, zero, suc}
 use mathlib.Core.Path.{_≡_, refl, sym, ap, _∙_}
 use mathlib.Core.Bool.{Bool, true, _&&_}
 use mathlib.Core.List.{List, [], _∷_}
-use native.Mathlib.Nat.{lt-of-lt-of-le, pow-le-pow-right, div-eq-of-lt}
 use native.Mathlib.Omega.{arith}
-use borrow.Author.Tests.{ltb-true, ne-eqb}
+use borrow.Author.Tests.{ltb-true}
 use lib.Dec.{ltb}
 use Rattle.base.specs.Words.{Below}
-use Rattle.base.proofs.Pick.{no, and-left, and-right}
+use Rattle.base.proofs.Pick.{and-left, and-right}
 use Rattle.fcs.specs.Fcs.{fcsBit, fcsBits, fcsWord, fcsFrom}
-use Rattle.group.specs.Slaves.{slavesFrom, slavesOf}
+use Rattle.group.specs.Slaves.{slavesOf}
 use Rattle.group.specs.Fragment.{built}
 use Rattle.group.specs.declared.Tally.{Tally}
 use Rattle.group.proofs.Sets.{from-taken}
 use Rattle.capture.specs.Reader.{readFragment, readFrom, readOf}
 use Rattle.capture.specs.ShutOut.{Reader, Right, roomy, aborts, ShutOut}
 use Rattle.capture.specs.declared.Capture.{Capture}
+use Rattle.capture.proofs.Masks.{none-from}
 use Rattle.capture.proofs.Says.{reads, reads-once}
 
 -- words of 16 bits, by one test
@@ -43,13 +43,6 @@ unfolding fcsFrom fcsWord fcsBits fcsBit all-below
 aborts-below = below aborts refl
 
 -- the slaves of two small masks
-none-from : (n s set : ℕ) → set < 2 ^ s → slavesFrom n s set ≡ []
-unfolding slavesFrom
-none-from zero s set h = refl
-none-from (suc n) s set h =
-    let e : set / 2 ^ s ≡ 0 = div-eq-of-lt h in
-    let more : set < 2 ^ (s + 1) = lt-of-lt-of-le h (pow-le-pow-right (omega arith) (omega arith)) in
-    sym (no _ (ne-eqb (set / 2 ^ s % 2) 1 (λ f. omega arith)) refl) ∙ none-from n (s + 1) set more
 
 slave-zero : slavesOf 1 ≡ 0 ∷ []
 slave-zero = sym (from-taken 0 1 (omega arith) refl) ∙ ap (λ (ss : List ℕ). 0 ∷ ss) (none-from 23 1 1 (omega arith))

@@ -15,6 +15,7 @@ use Rattle.demands.proofs.Packets.{any-division, left-alone}
 use Rattle.demands.proofs.Asks.{group-is-asked}
 use Rattle.demands.proofs.Starts.{starts-full}
 use Rattle.demands.proofs.Groups.{group-is-its-fragments, asked-in-order, each-asked-once, fragments-stand, nothing-past-the-words}
+use Rattle.demands.proofs.Captures.{data-is-acceptable}
 use Rattle.demands.proofs.ClosedRun.{closed-run}
 
 pub demands : Demands logodwen
@@ -39,6 +40,7 @@ demands =
       each-asked-once = each-asked-once;
       fragments-stand = fragments-stand;
       nothing-past-the-words = nothing-past-the-words;
+      data-is-acceptable = data-is-acceptable;
       closed-run = closed-run;
       no-stale-record = no-stale-record;
       lengths-shown = lengths-shown;

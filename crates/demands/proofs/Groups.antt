@@ -52,10 +52,10 @@ use Rattle.demands.proofs.Events.{Going, Quiet, becomes, hearing, erase
 use Rattle.demands.proofs.Taken.{verdictOn}
 
 -- a group that has ended
-record Over (h : Host) (x : Sent) : Type 0 where
-  reply : h .turn .answer ≡ Answer.Reply (x .reply)
-  buffer : h .buffer ≡ x .buffer
-  nothing : h .turn .node .pending ≡ Pending.Nothing
+pub record Over (h : Host) (x : Sent) : Type 0 where
+  pub reply : h .turn .answer ≡ Answer.Reply (x .reply)
+  pub buffer : h .buffer ≡ x .buffer
+  pub nothing : h .turn .node .pending ≡ Pending.Nothing
 
 -- where the host stands when of slave s, now asked, and those of ss so many have been heard
 record Ran (own : ℕ) (m : Assembly) (s : ℕ) (ss : List ℕ) (hs : List SlaveAnswer) (before : List ℕ) (h : Host) : Type 0 where
@@ -223,16 +223,16 @@ module _ (r : GroupRun logodwen) where
       (λ _. pick-case Finds (eqb (bcOf (r .bc)) 3) (λ _. pick-case Finds (writes (r .node .writing) (r .link)) (λ _ a. absurd (reply-asks _ a)) (λ _. whole-found))
       (λ _. pick-case Finds (eqb (bcOf (r .bc)) 2) (λ _. first-found (r .node .writing)) (λ _. later-found (r .node .writing) (eqb (bcOf (r .bc)) 1))))))
 
-  record Begins (h : Host) : Type 0 where
-    from : ℕ
-    first : ℕ
-    others : List ℕ
-    these : slavesOf set ≡ first ∷ others
-    going : Going (r .link) from set (statusIn (r .node)) (r .clock) first others (built 0 Tally.Nothing) h
-    buffer : h .buffer ≡ r .lent .reply
-    asked : h .asked ≡ first ∷ []
+  pub record Begins (h : Host) : Type 0 where
+    pub from : ℕ
+    pub first : ℕ
+    pub others : List ℕ
+    pub these : slavesOf set ≡ first ∷ others
+    pub going : Going (r .link) from set (statusIn (r .node)) (r .clock) first others (built 0 Tally.Nothing) h
+    pub buffer : h .buffer ≡ r .lent .reply
+    pub asked : h .asked ≡ first ∷ []
 
-  begins : Begins (begun r)
+  pub begins : Begins (begun r)
   unfolding requestOf stateOk
   begins = go verdict refl (r .asks)
     where
@@ -290,20 +290,20 @@ module _ (r : GroupRun logodwen) where
       go (Verdict.No x) e a = let z : _≡_ {A = ℕ} 0 1 = cc in absurd (omega arith)
 
 -- where the host stands after a run, in the words of the statements
-record Stands (r : GroupRun logodwen) (ss : List ℕ) (hs : List SlaveAnswer) : Type 0 where
-  going : length hs < length ss
+pub record Stands (r : GroupRun logodwen) (ss : List ℕ) (hs : List SlaveAnswer) : Type 0 where
+  pub going : length hs < length ss
       → (atLast r .buffer ≡ takenAll (assembly (r .lent .reply) (built 0 Tally.Nothing)) ss hs .reply)
       × (isAsked (atLast r .turn .node .pending) (getD ss (length hs) 0) ≡ true)
-  ended : length hs ≡ length ss → Over (atLast r) (groupOf (r .lent .reply) ss hs (statusIn (r .node)))
-  asked : atLast r .asked ≡ take (length hs + 1) ss
-  some : 0 < length ss
-  space : 12288 ≤ length (r .lent .reply)
+  pub ended : length hs ≡ length ss → Over (atLast r) (groupOf (r .lent .reply) ss hs (statusIn (r .node)))
+  pub asked : atLast r .asked ≡ take (length hs + 1) ss
+  pub some : 0 < length ss
+  pub space : 12288 ≤ length (r .lent .reply)
 
 module _ (r : GroupRun logodwen) where
   abbrev buffer : List ℕ
   buffer = r .lent .reply
 
-  stands : Stands r (slaves r) (said r)
+  pub stands : Stands r (slaves r) (said r)
   stands =
       let b = begins r in
       let y : Ran (statusIn (r .node)) (assembly buffer (built 0 Tally.Nothing)) (b .first) (b .others) (heards (r .clock) (b .first ∷ b .others) (r .events)) (b .first ∷ []) (atLast r) = ran-from (b .buffer) (b .asked) (ran (r .events) (b .going) (r .kept)) in

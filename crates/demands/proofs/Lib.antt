@@ -22,6 +22,7 @@ pub mod Starts
 pub mod Asks
 pub mod Events
 pub mod Groups
+pub mod Captures
 pub mod Anchors
 pub mod ClosedRun
 pub mod Demands

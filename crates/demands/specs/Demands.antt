@@ -8,7 +8,7 @@ use Rattle.demands.specs.Reached.{NoStaleRecord, LengthsShown, SummaryIs
 use Rattle.demands.specs.Flash.{ErasureFollows, Erases, OneSector, NoBitRises}
 use Rattle.demands.specs.Files.{Writes, ReadsBack, NeverCorrupted, GoodIsServed, SeveralAbort, StaysSingle, FlashFollows}
 use Rattle.demands.specs.Packets.{AnyDivision, LeftAlone}
-use Rattle.demands.specs.Groups.{StartsFull, GroupIsAsked, GroupIsItsFragments, AskedInOrder, EachAskedOnce, FragmentsStand, NothingPastTheWords}
+use Rattle.demands.specs.Groups.{StartsFull, GroupIsAsked, GroupIsItsFragments, AskedInOrder, EachAskedOnce, FragmentsStand, NothingPastTheWords, DataIsAcceptable}
 use Rattle.demands.specs.ClosedRun.{ClosedRun}
 
 pub record Demands (M : Machine) : Type 0 where
@@ -41,6 +41,8 @@ pub record Demands (M : Machine) : Type 0 where
   pub each-asked-once : EachAskedOnce M
   pub fragments-stand : FragmentsStand M
   pub nothing-past-the-words : NothingPastTheWords M
+  -- Its data are accepted by a reader of captured replies.
+  pub data-is-acceptable : DataIsAcceptable M
   -- One run, worked out: start, File Write, File Read.
   pub closed-run : ClosedRun M
   -- 3 No stale record. After any sequence of calls, refused ones and half-done erasures included, the directory kept is the one worked out

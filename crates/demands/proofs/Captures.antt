@@ -1,0 +1,121 @@
+-- The data of a group's reply are acceptable: they are our node's own assembly, of answers that came over the wire. Assumes nothing.
+use Prim.Native.Nat.{ℕ, _+_, _*_, _≤_, _<_}
+use mathlib.Core.Path.{_≡_, sym, ap, subst, _∙_}
+use mathlib.Core.Bool.{Bool, true, _&&_, _||_}
+use mathlib.Core.List.{List, [], _∷_}
+use native.Mathlib.Omega.{arith}
+use borrow.Author.Tests.{ltb-true}
+use lib.Dec.{ltb, leb, eqb}
+use lib.ListN.{length, take, length-append}
+use Rattle.base.specs.Words.{laid}
+use Rattle.base.proofs.Pick.{and-left, and-right, pick-case}
+use Rattle.base.proofs.Part.{below-none}
+use Rattle.base.proofs.Laid.{part-laid}
+use Rattle.group.specs.Time.{isLate}
+use Rattle.group.specs.Kind.{Answer as SlaveAnswer}
+use Rattle.group.specs.Tally.{tallyFrom}
+use Rattle.group.specs.Slaves.{hasSlave, above}
+use Rattle.group.specs.Fragment.{built}
+use Rattle.group.specs.Ending.{Sent, sent, replied, trailer, groupStatus}
+use Rattle.group.specs.Whole.{kindsOf, assembled, dataReply, groupSent, groupOf}
+use Rattle.group.specs.declared.Built.{Built}
+use Rattle.group.specs.declared.Reply.{Reply}
+use Rattle.group.specs.declared.Tally.{Tally}
+use Rattle.group.proofs.Groups.{group-sent}
+use Rattle.capture.specs.Acceptable.{AllOnWire, Acceptable}
+use Rattle.capture.proofs.Masks.{is-mask}
+use Rattle.capture.proofs.Accepts.{five-each}
+use Rattle.node.specs.Valid.{askOk, pendingOk}
+use Rattle.node.specs.Settings.{statusIn}
+use Rattle.node.specs.Slaves.{ask, gathering}
+use Rattle.node.specs.declared.Answer.{Answer}
+use Rattle.node.specs.declared.Pending.{Pending}
+use Rattle.node.proofs.Ranges.{ranges-tell}
+use Rattle.demands.specs.Machine.{logodwen}
+use Rattle.demands.specs.Events.{Event, heards}
+use Rattle.demands.specs.Groups.{setAsked, begun, atLast, slaves, said, AreWire, DataIsAcceptable}
+use Rattle.demands.proofs.Groups.{Over, begins, stands}
+
+-- what is heard in such calls came over the wire
+heard-wire : (at : ℕ) (ss : List ℕ) (es : List Event) → AreWire es → AllOnWire (heards at ss es)
+unfolding heards AreWire AllOnWire
+heard-wire at [] es w = tt
+heard-wire at (s ∷ ss) [] w = tt
+heard-wire at (s ∷ ss) (Event.Requested clock link bc errors packet m x ∷ es) w = heard-wire at (s ∷ ss) es (w .1)
+heard-wire at (s ∷ ss) (Event.Replied clock slave bc errors status address words ∷ es) w =
+    let next : AllOnWire (heards clock ss es) = heard-wire clock ss es (w .1) in
+    let same : AllOnWire (heards at (s ∷ ss) es) = heard-wire at (s ∷ ss) es (w .1) in
+    pick-case AllOnWire (eqb s slave) (λ _. (record { status = w .0 .0; address = w .0 .1; words = w .0 .2 }, next)) (λ _. same)
+heard-wire at (s ∷ ss) (Event.Polled clock ∷ es) w =
+    let next : AllOnWire (heards clock ss es) = heard-wire clock ss es (w .1) in
+    let same : AllOnWire (heards at (s ∷ ss) es) = heard-wire at (s ∷ ss) es (w .1) in
+    pick-case AllOnWire (isLate clock at) (λ _. (record { status = omega arith; address = omega arith; words = below-none (omega arith) }, next)) (λ _. same)
+heard-wire at (s ∷ ss) (Event.Erased budget ∷ es) w = heard-wire at (s ∷ ss) es (w .1)
+
+-- the set of a pending group has 24 bits
+set-below : (ports link s at set from : ℕ) (b : Built) → pendingOk ports (Pending.Group (ask link s at) (gathering set from b)) ≡ true → set < 16777216
+set-below ports link s at set from b h =
+    let t : Bool = hasSlave set s in
+    let u : Bool = ltb set 16777216 in
+    let v : Bool = leb (b .words + 5 * (length (above set s) + 1) + 2) 12288 in
+    let x : Bool = eqb from 1 || eqb from 2 in
+    let g = and-right (askOk ports (ask link s at)) (t && u && v && x) h in
+    ltb-true set 16777216 (and-right t u (and-left (t && u) v (and-left (t && u && v) x g)))
+
+-- a whole group that sends words sends data: they stand at the front of the buffer
+
+abbrev front : Sent → List ℕ
+front x = take (x .reply .words) (x .buffer)
+
+abbrev SendsFront : List ℕ → Sent → Type 0
+SendsFront buffer x = 0 < x .reply .words → x ≡ sent (laid buffer 0 (front x)) (replied 3 (length (front x)))
+
+module _ (buffer : List ℕ) where
+  data-front : (ws : List ℕ) (t : Tally) (own : ℕ) → SendsFront buffer (sent (laid buffer 0 (dataReply ws t own)) (replied 3 (length ws + 2)))
+  data-front ws t own h =
+      let reply : List ℕ = dataReply ws t own in
+      let n : length reply ≡ length ws + 2 = length-append ws (trailer ws (groupStatus t own)) in
+      let f : take (length ws + 2) (laid buffer 0 reply) ≡ reply = part-laid buffer 0 reply (length ws + 2) n (omega arith) in
+      ap (λ (l : List ℕ). sent (laid buffer 0 l) (replied 3 (length ws + 2))) (sym f)
+      ∙ ap (λ (m : ℕ). sent (laid buffer 0 (take (length ws + 2) (laid buffer 0 reply))) (replied 3 m)) (sym (ap length f ∙ n))
+
+  by-tally : (ws : List ℕ) (t : Tally) (own : ℕ) → SendsFront buffer (groupSent buffer t ws own)
+  by-tally ws Tally.Nothing own = data-front ws Tally.Nothing own
+  by-tally ws (Tally.Zero z) own = λ h. absurd (omega arith)
+  by-tally ws Tally.Whole own = data-front ws Tally.Whole own
+  by-tally ws Tally.Mixed own = data-front ws Tally.Mixed own
+
+  sends-front : (ss : List ℕ) (hs : List SlaveAnswer) (own : ℕ) → 5 * length ss + 2 ≤ 12288 → 12288 ≤ length buffer → SendsFront buffer (groupOf buffer ss hs own)
+  sends-front ss hs own h l =
+      subst (SendsFront buffer) (sym (group-sent buffer ss hs own h l)) (by-tally (assembled ss hs 0) (tallyFrom Tally.Nothing (kindsOf ss hs 0)) own)
+
+pub data-is-acceptable : DataIsAcceptable logodwen
+data-is-acceptable r all wire reply e n =
+    let set : ℕ = setAsked (r .node) (r .packet) in
+    let s = stands r in
+    let b = begins r in
+    let x : Sent = groupOf (r .lent .reply) (slaves r) (said r) (statusIn (r .node)) in
+    let o : Over (atLast r) x = s .ended all in
+    let same : x .reply ≡ reply = same-reply (sym (o .reply) ∙ e) in
+    let pending = ranges-tell (begun r .turn .node) (b .going .ok) .pending in
+    let ok = subst (λ (p : Pending). pendingOk (begun r .turn .node .given .ports) p ≡ true) (b .going .pending) pending in
+    let below : set < 16777216 = set-below (begun r .turn .node .given .ports) (r .link) (b .first) (r .clock) set (b .from) (built 0 Tally.Nothing) ok in
+    let some : 0 < x .reply .words = subst (λ (y : Reply). 0 < y .words) (sym same) n in
+    let sends = sends-front (r .lent .reply) (slaves r) (said r) (statusIn (r .node)) (five-each set) (s .space) some in
+    let acceptable : Acceptable set (front x) =
+    record {
+      slaves = is-mask set (s .some) below;
+      said = said r;
+      each = all;
+      wire = heard-wire (r .clock) (slaves r) (r .events) wire;
+      tests = r .node .given .«start_tests»;
+      mode = r .node .mode;
+      buffer = r .lent .reply;
+      room = s .space;
+      some = subst (λ (y : Sent). 0 < y .reply .words) sends some;
+      sends = sends;
+    } in
+    subst (Acceptable set) (ap (λ (y : Reply). take (y .words) (x .buffer)) same ∙ ap (take (reply .words)) (sym (o .buffer))) acceptable
+  where
+    same-reply : {p q : Reply} → Answer.Reply p ≡ Answer.Reply q → p ≡ q
+    same-reply h = cc
