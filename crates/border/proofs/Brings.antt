@@ -23,7 +23,7 @@ use Rattle.node.proofs.Ranges.{ranges-tell}
 use Rattle.demands.specs.Requests.{isCommand, isLast, isWrite, ended, brought}
 use Rattle.codec.specs.Bytes.{valueOf, numberAt, wordsIn, wordsOf}
 use Rattle.codec.specs.StateBytes.{standingIn, writingOf, nodeIn, areState}
-use Rattle.codec.proofs.Runs.{part-words}
+use Rattle.codec.proofs.Runs.{words-front}
 use Rattle.logodwen.specs.Entry.{furtherWords}
 use Rattle.logodwen.proofs.Fine.{state-sound}
 use Rattle.border.specs.Files.{fileWrite, Stands, Brings}
@@ -70,10 +70,6 @@ words-append (suc k) (x ∷ y ∷ a) b h =
     words-two x y (a ++ b)
     ∙ ap (λ (ws : List ℕ). valueOf (x ∷ y ∷ []) ∷ ws) (words-append k a b (omega (arith, h)))
     ∙ ap (λ (ws : List ℕ). ws ++ wordsOf 2 b) (sym (words-two x y a))
-
-words-front : (k : ℕ) (bytes : List ℕ) → k * 2 ≤ length bytes → wordsOf 2 (take (k * 2) bytes) ≡ take k (wordsOf 2 bytes)
-unfolding wordsOf
-words-front k bytes h = part-words 0 k (length bytes / 2) bytes (omega arith) (omega arith)
 
 -- what it brings, over words and bytes
 pub record Brought (state : List ℕ) (link bc : ℕ) (packet : List ℕ) (x : Further) (file : List ℕ) : Type 0 where

@@ -376,6 +376,10 @@ part-each k s m n bs pos h fits =
 pub part-words : (s m n : ℕ) (bs : List ℕ) → s + m ≤ n → n * 2 ≤ length bs → wordsOf 2 (part bs (s * 2) (m * 2)) ≡ part (wordsIn 2 n bs) s m
 part-words s m n bs h fits = part-each 2 s m n bs (omega arith) h fits
 
+pub words-front : (k : ℕ) (bs : List ℕ) → k * 2 ≤ length bs → wordsOf 2 (take (k * 2) bs) ≡ take k (wordsOf 2 bs)
+unfolding wordsOf
+words-front k bs h = part-words 0 k (length bs / 2) bs (omega arith) (omega arith)
+
 -- a part that is lent, and given back with words stored at its front
 pub part-put : (k : ℕ) (bs words : List ℕ) (at : ℕ) {from to : ℕ} {ys : List ℕ} → (at + length words) * k ≤ length bs → from ≡ at * k → to ≡ (at + length words) * k
     → ys ≡ storeWords k words (part bs from (to - from))
