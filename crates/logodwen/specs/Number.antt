@@ -4,6 +4,7 @@
 use Prim.Native.Nat.{ℕ, _+_, _*_, _%_}
 use Rattle.node.specs.State.{refusalNumber}
 use Rattle.node.specs.declared.Answer.{Answer}
+use Rattle.capture.specs.declared.Capture.{Capture}
 
 -- The number of a call that is done: its fields, each in its bits.
 abbrev pub fields : ℕ → ℕ → ℕ → ℕ → ℕ
@@ -17,3 +18,9 @@ answerNumber (Answer.Reply r) = fields 1 (r .bc) 0 (r .words)
 answerNumber (Answer.Ask a) = fields 2 (a .slave) (a .from) 0
 answerNumber Answer.Waiting = fields 3 0 0 0
 answerNumber (Answer.Erased count) = fields 0 0 0 count
+
+-- What the reader of captured replies says, as one number: bits 15-8 are 4 where the reply is accepted, and 5 where it is broken, with the
+-- place of the word that breaks it in bits 63-32; all others are 0. 02, request 3.
+abbrev pub captureNumber : Capture → ℕ
+captureNumber Capture.Accepted = fields 4 0 0 0
+captureNumber (Capture.Broken place) = fields 5 0 0 place

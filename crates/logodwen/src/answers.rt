@@ -1,8 +1,10 @@
-// What a call answers, as one number, and how many words of the reply buffer it has laid.
+// What a call answers, and what the reader of captured replies says, as one number; and how many words of the reply buffer a call has laid.
 ghost use mathlib.Core.Path.{_≡_};
 ghost use Rattle.node.specs.declared.Answer.{Answer};
-ghost use Rattle.logodwen.specs.Number.{fields, answerNumber};
+ghost use Rattle.capture.specs.declared.Capture.{Capture};
+ghost use Rattle.logodwen.specs.Number.{fields, answerNumber, captureNumber};
 ghost use Rattle.logodwen.specs.Touch.{repliedWords};
+use capture::Capture;
 use node::Answer;
 use node::refusals::refusal_number;
 
@@ -23,6 +25,16 @@ pub fn answer_number(answer: Answer) -> u64
         Answer::Ask(asking) => done(2, asking.slave as u64, asking.from as u64, 0),
         Answer::Waiting => done(3, 0, 0, 0),
         Answer::Erased(count) => done(0, 0, 0, count as u64),
+    }
+}
+
+// What the reader of captured replies says, as one number.
+pub fn capture_number(capture: Capture) -> u64
+    ensures { λ r. ⌜ r ≡ captureNumber capture ⌝ }
+{
+    match capture {
+        Capture::Accepted => done(4, 0, 0, 0),
+        Capture::Broken(place) => done(5, 0, 0, place as u64),
     }
 }
 

@@ -23,6 +23,7 @@ use node::Verdict;
 use node::refusals::refusal_number;
 
 mod answers;
+pub mod captured;
 mod checks;
 mod erasing;
 mod files;
