@@ -12,6 +12,7 @@ entries-settled =
       reply = λ κs given x y v w p q. (ap (λ (a : Answered). a .number) (p ∙ sym q), λ i. (v .0, (v .1 .0, (v .1 .1 .0, (v .1 .1 .1 .0, (v .1 .1 .1 .1 .0, (v .1 .1 .1 .1 .1 .0, (v .1 .1 .1 .1 .1 .1 .0, ((p ∙ sym q) i .state, ((p ∙ sym q) i .runs .reply, v .1 .1 .1 .1 .1 .1 .1 .1 .1))))))))));
       poll = λ κs given x y v w p q. (ap (λ (a : Answered). a .number) (p ∙ sym q), λ i. (v .0, ((p ∙ sym q) i .state, ((p ∙ sym q) i .runs .reply, v .1 .1 .1))));
       fcs = λ κs given x y v w p q. (p ∙ sym q, refl);
+      capture = λ κs given x y v w p q. (p ∙ sym q, refl);
       erase = λ κs given x y v w p q. (ap (λ (a : Answered). a .number) (p ∙ sym q), λ i. (v .0, ((p ∙ sym q) i .state, ((p ∙ sym q) i .runs .flash, v .1 .1 .1))));
     }
 
