@@ -70,8 +70,6 @@ unsigned directory_place(const struct entry *directory, size_t words); /* the lo
 /* Sets of sectors, bit s for sector s (named.c). */
 
 unsigned directory_named(const struct entry *directory, unsigned name); /* those with that name: none, one or several (02, request 10) */
-bool sectors_are_one(unsigned sectors);
-unsigned sectors_lowest(unsigned sectors);           /* 0 of none */
 void sectors_text(unsigned sectors, char *text);     /* as "sectors 3, 5 and 7" */
 void sectors_erasures(unsigned sectors, char *text); /* the options that erase them */
 

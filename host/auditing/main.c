@@ -10,27 +10,15 @@ struct audit {
     struct flash_file file;
     struct logodwen_node node;
     size_t totals[VERDICTS];
-    int status;
     char why[TEXT];
 };
-
-static void ends_with(struct audit *audit, int status) {
-    if (audit->status < status)
-        audit->status = status;
-}
-
-/* Says on standard error what is wrong, and ends with a status. */
-static void complain(struct audit *audit, int status) {
-    lines_complain(audit->why);
-    ends_with(audit, status);
-}
 
 static bool is_started(struct audit *audit) {
     uint32_t refusal = node_start(&audit->node);
     if (refusal == LOGODWEN_DONE)
         return true;
     say(audit->why, "the node did not start, refusal %s", logodwen_refusal_text(refusal));
-    complain(audit, NOT_TRUSTED);
+    complain(audit->why, NOT_TRUSTED);
     return false;
 }
 
@@ -39,7 +27,7 @@ static bool is_flash_there(struct audit *audit) {
     if (options->flash == NULL) {
         node_blank(&audit->node);
     } else if (!flash_file_open(&audit->file, options->flash, options->keep, &audit->node, audit->why)) {
-        complain(audit, NOT_READ);
+        complain(audit->why, NOT_READ);
         return false;
     }
     if (audit->file.is_new && !options->asked.quiet)
@@ -70,7 +58,7 @@ static void complain_of_name(struct audit *audit, unsigned name, unsigned sector
     else
         say(audit->why, "--erase %02X: %s share this name, so nothing is erased, audited or kept; erase all but one of them (%s)", name,
             sharing, erasures);
-    complain(audit, is_abort ? SOME_WRONG : NOT_TRUSTED);
+    complain(audit->why, is_abort ? SOME_WRONG : NOT_TRUSTED);
 }
 
 /* Whether the directory has a sector as empty now; what it has, as text. */
@@ -85,9 +73,9 @@ static bool is_empty_now(struct logodwen_node *node, unsigned sector, char *has)
 
 /* Erases one file or sector; false where that could not be done. */
 static bool is_erased(struct audit *audit, struct erasure erasure) {
-    unsigned sectors = sectors_to_erase(&audit->node, erasure), sector = sectors_lowest(sectors);
+    unsigned sectors = sectors_to_erase(&audit->node, erasure), sector = set_lowest(sectors);
     uint64_t answered = node_erase(&audit->node, erasure);
-    if (!sectors_are_one(sectors)) {
+    if (!set_is_one(sectors)) {
         complain_of_name(audit, erasure.which, sectors, answered);
         return false;
     }
@@ -99,7 +87,7 @@ static bool is_erased(struct audit *audit, struct erasure erasure) {
     }
     say(audit->why, "DISPUTED: sector %u should be erased and empty, but is not; words set: %u; the directory has it as %s; please report it "
         "with the flash", sector, set, has);
-    complain(audit, NOT_TRUSTED);
+    complain(audit->why, NOT_TRUSTED);
     return false;
 }
 
@@ -114,23 +102,22 @@ static void count(struct audit *audit, const char *path, const struct finding *f
     lines_progress_end();
     report_finding(path, finding);
     audit->totals[finding->verdict]++;
-    ends_with(audit, finding->verdict == AGREES ? ALL_RIGHT : finding->verdict == UNREADABLE ? NOT_READ : SOME_WRONG);
+    ends_with(finding->verdict == AGREES ? ALL_RIGHT : finding->verdict == UNREADABLE ? NOT_READ : SOME_WRONG);
     if (finding->verdict == DISPUTED) {
         struct text text;
         say(audit->why, "%s: DISPUTED: the node and this program disagree, so one has a fault; please report it with the image",
             shown(path, &text));
-        complain(audit, NOT_TRUSTED);
+        complain(audit->why, NOT_TRUSTED);
     }
 }
 
-static bool is_file(const void *unused, const uint8_t *words, size_t count) {
+static bool is_file(const uint8_t *words, size_t count) {
     char why[TEXT];
-    (void)unused;
     return rules_is_file(words, count, why);
 }
 
 static void audit_image(void *with, const char *path) {
-    static const struct meant file = {"a valid file", is_file, NULL};
+    static const struct meant file = {"a valid file", is_file};
     static struct contents image;
     struct audit *audit = with;
     struct finding finding = {.verdict = UNREADABLE};
@@ -147,14 +134,14 @@ static void audit_image(void *with, const char *path) {
 /* The flash is kept where the node did as it should and what it did is told. */
 static void keep(struct audit *audit) {
     struct text text;
-    if (audit->status == NOT_TRUSTED || audit->totals[DIFFERS] != 0) {
+    if (ended_with() == NOT_TRUSTED || audit->totals[DIFFERS] != 0) {
         say(audit->why, "%s is not written back, since the node did not do as it should", shown(audit->options.flash, &text));
-        complain(audit, SOME_WRONG);
+        complain(audit->why, SOME_WRONG);
     } else if (!lines_are_written()) {
         say(audit->why, "%s is not written back, since the report can't be written", shown(audit->options.flash, &text));
-        complain(audit, NOT_READ);
+        complain(audit->why, NOT_READ);
     } else if (!flash_file_write(&audit->file, &audit->node, audit->why)) {
-        complain(audit, NOT_READ);
+        complain(audit->why, NOT_READ);
     }
 }
 
@@ -162,7 +149,7 @@ static void audit_images(struct audit *audit) {
     const struct asked *asked = &audit->options.asked;
     for (size_t i = 0; i < asked->path_count; i++)
         if (!paths_add(&audit->paths, asked->paths[i], asked->recursive, audit->why))
-            complain(audit, NOT_READ);
+            complain(audit->why, NOT_READ);
     if (!asked->quiet)
         report_columns();
     paths_each(&audit->paths, audit_image, audit);
@@ -178,7 +165,7 @@ static void run(struct audit *audit) {
     if (options->asked.path_count > 0)
         audit_images(audit);
     if (options->together && !report_directory(&audit->node, options->summary, audit->why))
-        complain(audit, NOT_TRUSTED);
+        complain(audit->why, NOT_TRUSTED);
     if (options->keep)
         keep(audit);
 }
@@ -186,11 +173,11 @@ static void run(struct audit *audit) {
 int main(int count, char **arguments) {
     static struct audit audit = {.file = {.lock = -1}};
     if (!lines_can_be_written(audit.why)) {
-        complain(&audit, NOT_READ);
+        complain(audit.why, NOT_READ);
         return NOT_READ;
     }
     if (!options_read(count - 1, arguments + 1, &audit.options, audit.why)) {
-        complain(&audit, NOT_READ);
+        complain(audit.why, NOT_READ);
         fprintf(stderr, "usage: host/audit [OPTION..] IMAGE..    as in: host/audit examples/images\n"
                         "host/audit --help tells the options, the verdicts and the exit status\n");
         return NOT_READ;
@@ -203,7 +190,7 @@ int main(int count, char **arguments) {
     flash_file_close(&audit.file);
     if (!lines_are_written()) {
         say(audit.why, "the report can't be written");
-        complain(&audit, NOT_READ);
+        complain(audit.why, NOT_READ);
     }
-    return audit.status;
+    return ended_with();
 }

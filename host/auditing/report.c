@@ -82,30 +82,9 @@ void report_finding(const char *path, const struct finding *finding) {
     printf("\t%s%s%s\n", verdicts[finding->verdict], finding->detail[0] != 0 ? "\t" : "", finding->detail);
 }
 
-static void totals_in_json(const size_t *totals, size_t all, size_t left_out) {
-    object_begin();
-    object_number("images", true, all);
-    for (int i = 0; i < VERDICTS; i++)
-        object_number(verdicts[i], true, totals[i]);
-    object_number("left_out", true, left_out);
-    object_end();
-}
-
 void report_totals(const size_t *totals, size_t left_out) {
-    size_t all = 0, others = 0;
-    for (int i = 0; i < VERDICTS; i++)
-        all += totals[i];
-    if (lines_are_json()) {
-        totals_in_json(totals, all, left_out);
-        return;
-    }
-    printf("# %zu image%s: %zu agree%s", all, all == 1 ? "" : "s", totals[AGREES], totals[AGREES] == 1 ? "s" : "");
-    for (int i = 0; i < VERDICTS; i++)
-        if (i != AGREES && totals[i] != 0)
-            printf("%s%zu %s", others++ == 0 ? "; " : ", ", totals[i], verdicts[i]);
-    if (left_out != 0)
-        printf("; left out: %zu", left_out);
-    printf("\n");
+    const struct tally tally = {"image", {"agrees", "agree"}, verdicts, totals, VERDICTS};
+    lines_totals(&tally, left_out);
 }
 
 /* The directory, as the node has it: what each sector is, and the length of a good file (02, request 6). The detail is this program's: what is

@@ -17,9 +17,9 @@ static void say_used(const struct logodwen_node *node, unsigned holders, unsigne
     char rule[TEXT], sectors[TEXT], erasures[TEXT];
     sectors_text(holders, sectors);
     sectors_erasures(holders, erasures);
-    if (!sectors_are_one(holders))
+    if (!set_is_one(holders))
         say(why, "%s have this name; erase them first (%s), or audit this image alone", sectors, erasures);
-    else if (sector_is_bad(node, sectors_lowest(holders), rule))
+    else if (sector_is_bad(node, set_lowest(holders), rule))
         say(why, "%s has this name, and is bad (%s); erase it first (--erase %02X), or audit this image alone", sectors, rule, name);
     else
         say(why, "%s has this name; erase it first (--erase %02X), or audit this image alone", sectors, name);
@@ -105,7 +105,7 @@ static bool is_listed(struct logodwen_node *node, unsigned holders, unsigned pla
 static enum verdict read_back(struct logodwen_node *node, const struct contents *image, unsigned place, struct finding *finding) {
     struct entry directory[SECTORS];
     unsigned holders = node_directory(node, directory) ? directory_named(directory, name_of(finding->header)) : 0;
-    finding->sector = sectors_lowest(holders);
+    finding->sector = set_lowest(holders);
     if (!is_read_back(node, image, finding->detail))
         return DIFFERS;
     return is_listed(node, holders, place, directory, finding->detail) ? AGREES : DISPUTED;

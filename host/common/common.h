@@ -32,6 +32,14 @@ struct text {
 const char *shown(const char *name, struct text *text);
 const char *in_json(const char *name, struct text *text); /* always between quotes */
 
+/* Sets of numbers below 32, bit n for number n: of sectors, of slaves (set.c). */
+
+unsigned set_count(uint32_t set);
+bool set_is_one(uint32_t set);
+unsigned set_lowest(uint32_t set);                                           /* 0 of none */
+void set_list(uint32_t set, const char *word, const char *last, char *text); /* each behind a word, `last` before the last one */
+void set_text(uint32_t set, const char *what, char *text);                   /* as "slaves 3, 5 and 7" */
+
 /* What a file is (look.c); false where that can't be told, with errno. */
 
 struct look {
@@ -98,11 +106,11 @@ struct contents {
 /* What words are meant to be, and the test of that: text that would be so as raw words too is not guessed at. */
 struct meant {
     const char *name; /* as "a valid file" */
-    bool (*is)(const void *with, const uint8_t *words, size_t count);
-    const void *with;
+    bool (*is)(const uint8_t *words, size_t count);
 };
 
-/* The words of a file, raw or in hex; or why it can't be read. The path - is standard input. */
+/* The words of a file, raw or in hex; or why it can't be read. The path - is standard input. `meant` is NULL where raw words that are what is
+   meant never look like text. */
 bool contents_read(const char *path, enum reading reading, const struct meant *meant, struct contents *contents, char *why);
 
 /* Hex text to words, in place: the text may begin with a byte-order mark, and be in UTF-16 (hex.c). */
@@ -130,10 +138,26 @@ void lines_archive(void);                                          /* which arch
 void lines_version(void);
 void lines_left_out(const char *path, const char *why);
 void lines_progress(size_t done, size_t of);
-void lines_progress_end(void);        /* before any other line */
-void lines_complain(const char *why); /* on standard error, with the program's name */
+void lines_progress_end(void); /* before any other line */
+
+/* How many files had each verdict. The first verdict is the good one. */
+struct tally {
+    const char *what;    /* as "image" */
+    const char *good[2]; /* said of one that is good, and of several */
+    const char *const *verdicts;
+    const size_t *totals;
+    size_t count;
+};
+
+void lines_totals(const struct tally *tally, size_t left_out);
 
 bool lines_can_be_written(char *why); /* at the very beginning */
 bool lines_are_written(void);
+
+/* How the program ends (lines.c). */
+
+void ends_with(int status);                 /* or with a higher one that was said before */
+int ended_with(void);                       /* the highest so far */
+void complain(const char *why, int status); /* says on standard error what is wrong, with the program's name, and ends with a status */
 
 #endif

@@ -17,7 +17,7 @@ static bool take_raw(struct contents *contents, size_t count, char *why) {
 /* Text that is hex and, taken as raw words, what is meant too could be either. What looks like hex text but isn't ASCII, and is not what is
    meant as raw words, is not guessed at. */
 static bool take_by_content(struct contents *contents, size_t count, const struct meant *meant, char *why) {
-    bool is_raw = count % 2 == 0 && meant->is(meant->with, contents->bytes, count / 2), is_ascii = hex_is_ascii(contents->bytes, count);
+    bool is_raw = meant != NULL && count % 2 == 0 && meant->is(contents->bytes, count / 2), is_ascii = hex_is_ascii(contents->bytes, count);
     const char *kind = is_raw || is_ascii ? NULL : hex_kind(contents->bytes, count);
     if (kind != NULL)
         return say(why, "%s; to have it read as hex text give --hex, as raw words --raw", kind);

@@ -127,10 +127,50 @@ void lines_left_out(const char *path, const char *why) {
     object_end();
 }
 
-void lines_complain(const char *why) {
+static void totals_in_json(const struct tally *tally, size_t all, size_t left_out) {
+    char files[TEXT];
+    say(files, "%ss", tally->what);
+    object_begin();
+    object_number(files, true, all);
+    for (size_t i = 0; i < tally->count; i++)
+        object_number(tally->verdicts[i], true, tally->totals[i]);
+    object_number("left_out", true, left_out);
+    object_end();
+}
+
+void lines_totals(const struct tally *tally, size_t left_out) {
+    size_t all = 0, others = 0;
+    for (size_t i = 0; i < tally->count; i++)
+        all += tally->totals[i];
+    if (is_json) {
+        totals_in_json(tally, all, left_out);
+        return;
+    }
+    printf("# %zu %s%s: %zu %s", all, tally->what, all == 1 ? "" : "s", tally->totals[0], tally->good[tally->totals[0] != 1]);
+    for (size_t i = 1; i < tally->count; i++)
+        if (tally->totals[i] != 0)
+            printf("%s%zu %s", others++ == 0 ? "; " : ", ", tally->totals[i], tally->verdicts[i]);
+    if (left_out != 0)
+        printf("; left out: %zu", left_out);
+    printf("\n");
+}
+
+/* The end. */
+
+static int highest = ALL_RIGHT;
+
+void ends_with(int status) {
+    if (highest < status)
+        highest = status;
+}
+
+int ended_with(void) { return highest; }
+
+void complain(const char *why, int status) {
     lines_progress_end();
     fflush(stdout);
     fprintf(stderr, "%s: %s\n", program, why);
+    ends_with(status);
 }
 
 /* A descriptor of the first three that is closed would be given to the next file that is opened, and the report would be written there. */

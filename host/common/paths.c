@@ -9,7 +9,7 @@
 
 static void *or_stop(void *room) {
     if (room == NULL) {
-        lines_complain("out of memory");
+        complain("out of memory", NOT_READ);
         exit(NOT_READ);
     }
     return room;
