@@ -1,6 +1,6 @@
-/* The program behind host/capture: whether captured words are a group's reply for a mask of slaves, by the proved reader of the archive; and,
-   found out beside it from the rules, the fragments that they have, and which rule the first wrong word breaks. main.c has the order of
-   things; the other files have one subject each. */
+/* The program behind host/capture: whether captured words are a group's reply for a mask of slaves, by the proved reader of the archive;
+   and, found out beside it from the rules, the fragments that they have, and which rule the first wrong word breaks. main.c has the order
+   of things; the other files have one subject each. */
 #ifndef CAPTURE_H
 #define CAPTURE_H
 

@@ -11,8 +11,8 @@ struct capture {
     char why[TEXT];
 };
 
-/* A group's reply as raw words never looks like text: the high byte of its node's status word is 0 to 3, and in UTF-16 every word has a byte
-   of 0, which not every word of a fragment has. */
+/* A group's reply as raw words never looks like text: the high byte of its node's status word is 0 to 3, and in UTF-16 every word has a
+   byte of 0, which not every word of a fragment has. */
 static void read_capture(void *with, const char *path) {
     static const int statuses[VERDICTS] = {ALL_RIGHT, SOME_WRONG, NOT_READ, NOT_TRUSTED};
     static struct contents words;
@@ -27,8 +27,8 @@ static void read_capture(void *with, const char *path) {
     ends_with(statuses[finding.verdict]);
     if (finding.verdict == DISPUTED) {
         struct text text;
-        say(capture->why, "%s: DISPUTED: the proved reader and this program disagree, so one has a fault; please report it with the capture "
-            "and the mask %06lX", shown(path, &text), (unsigned long)options->mask);
+        say(capture->why, "%s: DISPUTED: the proved reader and this program disagree, so one has a fault; please report it with the "
+            "capture and the mask %06lX", shown(path, &text), (unsigned long)options->mask);
         complain(capture->why, NOT_TRUSTED);
     }
 }

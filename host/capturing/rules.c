@@ -44,8 +44,10 @@ static bool is_length_right(struct walk *walk) {
         return breaks(walk->found, "length", at, "slave %u's fragment begins with the length 0; it is 1 or more, with the status word",
                       walk->slave);
     if (length > longest)
-        return breaks(walk->found, "room", at, "slave %u's fragment begins with the length %zu; it is at most %zu, with %zu word%s before it, "
-                      "%u slave%s to come and 12,288 words in all", walk->slave, length, longest, at, plural(at), to_come, plural(to_come));
+        return breaks(walk->found, "room", at,
+                      "slave %u's fragment begins with the length %zu; it is at most %zu, with %zu word%s before it, %u slave%s to come "
+                      "and 12,288 words in all",
+                      walk->slave, length, longest, at, plural(at), to_come, plural(to_come));
     return true;
 }
 
@@ -94,8 +96,10 @@ static bool is_reply_length_right(struct walk *walk, const struct code *code, si
     if (least <= told && told <= code->most)
         return true;
     code_text(code->code, name);
-    return breaks(walk->found, "reply length", at, "the status word %04X has %s and word %zu a reply length of %u; with this code it is %s%u%s",
-                  status, name, at - 2, told, least == code->most ? "just " : "", least, least == code->most ? "" : " or more");
+    bool is_one = least == code->most;
+    return breaks(walk->found, "reply length", at,
+                  "the status word %04X has %s and word %zu a reply length of %u; with this code it is %s%u%s", status, name, at - 2, told,
+                  is_one ? "just " : "", least, is_one ? "" : " or more");
 }
 
 /* Whether this slave's 0-length reply makes all slaves' the same: the group's reply would be that reply, and no words. */
@@ -121,13 +125,14 @@ static bool is_status_right(struct walk *walk, size_t length) {
     if (known == NULL)
         return breaks(found, "code", at, "the status word %04X has %s, which no node gives", status, name);
     if (known->length != 0 && known->length != length)
-        return breaks(found, "fragment length", at, "the status word %04X has %s whose fragment has the length %zu; this one has %zu", status,
-                      name, known->length, length);
+        return breaks(found, "fragment length", at, "the status word %04X has %s whose fragment has the length %zu; this one has %zu",
+                      status, name, known->length, length);
     if ((status & 0x07E0u) != 0 && code != LOGODWEN_CODE_WHOLE && code != LOGODWEN_CODE_NO_ROOM)
         return breaks(found, "slave status", at, "the status word %04X has bits 10-5 set; with %s they are 0", status, name);
     if (is_all_the_same(walk, code))
-        return breaks(found, "all the same", at, "the status word %04X makes every slave's answer %s; that would be the group's reply itself, "
-                      "of no words", status, logodwen_code_text(code));
+        return breaks(found, "all the same", at,
+                      "the status word %04X makes every slave's answer %s; that would be the group's reply itself, of no words", status,
+                      logodwen_code_text(code));
     return is_reply_length_right(walk, known, at, status);
 }
 
@@ -176,14 +181,16 @@ static bool is_node_status_right(struct walk *walk) {
     unsigned status = word_at(walk, found->tail);
     bool has_bit = (status & LOGODWEN_STATUS_ASSEMBLY) != 0;
     if ((status & 0xFC3Fu) != 0)
-        return breaks(found, "node status", found->tail, "%04X stands where the node's status word should, behind the last slave's fragment; of "
-                      "that bits 15-10 and 5-0 are 0", status);
+        return breaks(found, "node status", found->tail,
+                      "%04X stands where the node's status word should, behind the last slave's fragment; bits 15-10 and 5-0 of that are 0",
+                      status);
     if (without != NULL && !has_bit)
-        return breaks(found, "node status", found->tail, "the node's status word %04X has bit 9 clear; it is set, since the data of slave %u "
-                      "are not there", status, without->fragment.slave);
+        return breaks(found, "node status", found->tail,
+                      "the node's status word %04X has bit 9 clear; it is set, since the data of slave %u are not there", status,
+                      without->fragment.slave);
     if (without == NULL && has_bit)
-        return breaks(found, "node status", found->tail, "the node's status word %04X has bit 9 set; it is clear, since every slave's data are "
-                      "there", status);
+        return breaks(found, "node status", found->tail,
+                      "the node's status word %04X has bit 9 set; it is clear, since every slave's data are there", status);
     found->tail_read = 1;
     return true;
 }

@@ -1,5 +1,5 @@
-/* The verdict on a capture. The proved reader decides; where this program finds otherwise by the rules the verdict is DISPUTED, since then one
-   of the two has a fault. */
+/* The verdict on a capture. The proved reader decides; where this program finds otherwise by the rules the verdict is DISPUTED, since then
+   one of the two has a fault. */
 #include "capture.h"
 
 /* What the reader should answer, all bits of it. */

@@ -27,8 +27,8 @@ struct text {
     char room[32768];
 };
 
-/* A name as it is, or between quotes where it could be taken for something else: for a comment, for a number at the beginning of a line, for
-   another field or line. Quoted, a byte that is no text is \xHH, a control character \uHHHH or as C has it. */
+/* A name as it is, or between quotes where it could be taken for something else: for a comment, for a number at the beginning of a line,
+   for another field or line. Quoted, a byte that is no text is \xHH, a control character \uHHHH or as C has it. */
 const char *shown(const char *name, struct text *text);
 const char *in_json(const char *name, struct text *text); /* always between quotes */
 
@@ -109,8 +109,8 @@ struct meant {
     bool (*is)(const uint8_t *words, size_t count);
 };
 
-/* The words of a file, raw or in hex; or why it can't be read. The path - is standard input. `meant` is NULL where raw words that are what is
-   meant never look like text. */
+/* The words of a file, raw or in hex; or why it can't be read. The path - is standard input. `meant` is NULL where raw words that are what
+   is meant never look like text. */
 bool contents_read(const char *path, enum reading reading, const struct meant *meant, struct contents *contents, char *why);
 
 /* Hex text to words, in place: the text may begin with a byte-order mark, and be in UTF-16 (hex.c). */
