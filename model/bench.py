@@ -71,11 +71,33 @@ def values(fields, shape, words, number):
     return said
 
 
-def parsed(line):
-    """The word that a line begins with, `request` where it has none, and the values of its fields; None where it says nothing."""
-    if line.startswith(b"#") or not line.strip(b" \t"):
-        return None
-    fields = line.split(b"\t")
+def fields_of(line):
+    """The fields of a line; None where it says nothing."""
+    if len(line) > LONGEST:
+        raise Unreadable("the line has 200,000 bytes or more")
+    line = line[:-1] if line.endswith(b"\r") else line
+    return None if line.startswith(b"#") or not line.strip(b" \t") else line.split(b"\t")
+
+
+def said_of(number, line, answer):
+    """The lines that are printed for a line: those that `answer` has for its number and its fields, or why it can't be read."""
+    try:
+        fields = fields_of(line)
+        return [] if fields is None else answer(number, fields)
+    except Unreadable as wrong:
+        return ["%d\tUNREADABLE\t%s" % (number, wrong)]
+
+
+def all_said(script, answer):
+    """What is printed for all lines of a script."""
+    lines = script.split(b"\n")
+    if lines[-1] == b"":
+        lines.pop()
+    return "".join(said + "\n" for number, line in enumerate(lines, 1) for said in said_of(number, line, answer))
+
+
+def parsed(fields):
+    """The word that a line's fields begin with, `request` where they have none, and the values of the fields."""
     if fields[0] in SHAPES:
         return fields[0].decode(), values(fields[1:], *SHAPES[fields[0]], 2)
     return "request", values(fields, (LINK, BC), True, 1)
@@ -126,17 +148,9 @@ class Bench:
             return [NAMES[bc]]
         return (["BC %d" % bc] if bc != 3 else []) + ["%04X" % word for word in self.lent.reply[:words]]
 
-    def line(self, number, line):
-        """The lines that are printed for a line."""
-        try:
-            if len(line) > LONGEST:
-                raise Unreadable("the line has 200,000 bytes or more")
-            said = parsed(line[:-1] if line.endswith(b"\r") else line)
-        except Unreadable as wrong:
-            return ["%d\tUNREADABLE\t%s" % (number, wrong)]
-        if said is None:
-            return []
-        kind, fields = said
+    def answer(self, number, fields):
+        """The lines that are printed for a line of some fields."""
+        kind, fields = parsed(fields)
         if kind == "help":
             return help_lines()
         if kind == "clock":
@@ -149,11 +163,7 @@ class Bench:
 
 
 def printed(script):
-    lines = script.split(b"\n")
-    if lines[-1] == b"":
-        lines.pop()
-    bench = Bench()
-    return "".join(said + "\n" for number, line in enumerate(lines, 1) for said in bench.line(number, line))
+    return all_said(script, Bench().answer)
 
 
 def stored(action):

@@ -7,7 +7,7 @@ import pathlib
 import random
 import sys
 
-from bench import LONGEST, Bench, printed
+from bench import LONGEST, Bench, printed, said_of
 from build import file_of, segment
 from files import DM, PM, sealed
 
@@ -90,7 +90,7 @@ def odd_lines(pick):
         weights = (2, 1, 1, 20, 2, 1, 1, 1, 1) if bench.node.pending else (15, 6, 4, 1, 1, 4, 1, 1, 1)
         line = pick.choices(kinds, weights)[0]()
         line = spoiled(pick, line) if pick.randrange(5) == 0 else line
-        bench.line(0, line)
+        said_of(0, line, bench.answer)
         yield line
 
 

@@ -1,17 +1,20 @@
 #!/usr/bin/env python3
 """The model against documents 01 and 02: each example of 01, the lines of the bench, what 01 says of every call, and what 02 says of
-files that come in several packets, of the masks at start, of the lengths in the summary, of remains behind a file and of names that
-several sectors have."""
+files that come in several packets, of the masks at start, of the lengths in the summary, of remains behind a file, of names that
+several sectors have and of captured group replies."""
 
 import random
 import unittest
 from dataclasses import replace
+from functools import lru_cache
+from itertools import product
 
 from build import file_of, segment
+from capture import answered, broken_at
 from fcs import fcs
-from files import DM, IO, PM
+from files import DM, IO, PM, sealed
 from flash import SECTORS, address_of, attributed, directory_of, extent, kept
-from group import ABORT, AREA, END, ERROR, NEXT, Answer, fragment, is_late
+from group import ABORT, AREA, END, ERROR, NEXT, Answer, ending, fragment, is_late, tally_with, zero_length
 from memory import index, read
 from node import CDDC, CDP, ZEROS, Lent, Pending, Write, erase, poll, reply, request, start
 from node_lines import FLASH, POKE
@@ -573,6 +576,229 @@ class Packets(unittest.TestCase):
             self.assertEqual(self.node.flash_errors, 0)
             if length == 12286:
                 self.assertEqual(self.lent.reply[:length], file)
+
+
+class Captures(unittest.TestCase):
+    """02, request 3, sentence by sentence."""
+
+    def breaks(self, mask, words, place):
+        """The words break at a place, None for not at all."""
+        self.assertEqual(broken_at(mask, words), place, [hex(mask)] + ["%04X" % word for word in words[:40]])
+
+    def one(self, fragment, place, slave=7, status=None):
+        """A captured fragment of a sole slave, with a right end, that of a whole reply or of any other."""
+        status = 0x0200 if status is None else status
+        self.breaks(1 << slave, sealed([*fragment, status]), place)
+
+    def test_fragments(self):
+        self.one([0x0001, 0x2817], None, 23)
+        self.one([0x0003, 0xAAAA, 0x0001, 0x81A7], None, status=0)
+        self.one([0x0001, 0x8007], None, status=0)
+        self.one([0x0001, 0x87E7], None, status=0)
+        self.one([0x0003, 0x1234, 0xFFFF, 0x3007], None)
+        self.one([0x0004, 0x0000, 0x0004, 0xAAAA, 0xA807], None)
+        self.breaks(0xA0, sealed([0x0001, 0x1005, 0x0003, 0xAAAA, 0x0001, 0x81A7, 0x0200]), None)
+
+    def test_a_length_word_is_judged_at_itself(self):
+        for length in (0, 12286, 12287, 0x8000, 0xFFFF):
+            self.one([length, 0x8007], 0)
+            self.breaks(0x80, [length], 0)
+        self.breaks(0x80, [12285], 1)
+        self.breaks(0x180, [12280], 1)  # 12,281 words, five of the next fragment, status and FCS
+        self.breaks(0x180, [12281], 0)
+        self.breaks(0x180, [0x0001, 0x8007, 12283], 3)
+        self.breaks(0x180, [0x0001, 0x8007, 12284], 2)
+        self.breaks(0xFFFFFF, [12170], 1)
+        self.breaks(0xFFFFFF, [12171], 0)
+
+    def test_a_status_word_is_judged_at_itself(self):
+        for status in (0x0007, 0x2806, 0x2827, 0x2C07, 0x3007, 0x3807, 0xA807, 0x8006, 0x8008, 0x8017, 0x8807):
+            self.one([0x0001, status], 1)
+        for status in (0x2807, 0x3006, 0x3407, 0x8807):
+            self.one([0x0003, 0, 0, status], 3)
+        for code in (4, 6, 7, 8, 10, 11, 12, 13, 14, 15):
+            self.one([0x0004, 0, 4, 0, 0x8007 | code << 11], 4)
+        self.one([0x0004, 0, 4, 0, 0xA827], 4)
+        self.one([0x0005, 0, 4, 0, 0, 0xA807], 5)
+
+    def test_code_against_reply_length(self):
+        room = 12286
+        limits = {1: (1, 0xFFFF), 9: (1, 0xFFFF), 3: (1, 1), 5: (2, 0xFFFF), 2: (room + 1, 0xFFFF)}
+        for code, (least, most) in limits.items():
+            for n in (0, 1, 2, 3, 5, 6, room - 1, room, room + 1, 0xFFFE, 0xFFFF):
+                self.one([4, 0x5555, n, 0xAAAA, 0x8007 | code << 11], None if least <= n <= most else 4)
+        self.one([4, 0, room + 1, 0, 0x97E7], None)  # status bits with no room
+        for n, place in ((12281, 4), (12282, None)):  # with a slave more to ask
+            self.breaks(0x180, sealed([4, 0, n, 0, 0x9007, 1, 0x2808, 0x0200]), place)
+
+    def test_nothing_is_judged_before_the_status_word(self):
+        for words in ([4], [4, 0], [4, 0, 0], [4, 0, 0, 0]):
+            self.breaks(1, words, len(words))
+        self.one([0x0004, 0, 0, 0, 0x8007], None, status=0)
+
+    def test_the_status_word_of_the_node(self):
+        for bits in range(8):
+            self.one([0x0001, 0x8007], None, status=bits << 6)
+            self.one([0x0001, 0x2807], None, status=bits << 6 | 0x0200)
+            self.one([0x0001, 0x8007], 2, status=bits << 6 | 0x0200)
+            self.one([0x0001, 0x2807], 2, status=bits << 6)
+        for bit in (0, 1, 2, 3, 4, 5, 10, 11, 12, 13, 14, 15):
+            self.one([0x0001, 0x8007], 2, status=1 << bit)
+        self.breaks(0x180, sealed([0x0001, 0x8007, 0x0001, 0x8008, 0x0000]), None)
+        self.breaks(0x180, sealed([0x0001, 0x8007, 0x0001, 0x2808, 0x0000]), 4)
+
+    def test_fcs_and_words_after_it(self):
+        words = sealed([0x0002, 0xBEEF, 0x8007, 0x0000])
+        for bit in range(16):
+            self.breaks(0x80, words[:-1] + [words[-1] ^ 1 << bit], 4)
+        self.breaks(0x80, words + [0], 5)
+        self.breaks(0x80, words + words, 5)
+
+    def test_a_reply_cut_short_names_its_own_length(self):
+        words = sealed([0x0001, 0x1005, 0x0003, 0xAAAA, 0x0001, 0x81A7, 0x0200])
+        for length in range(len(words)):
+            self.breaks(0xA0, words[:length], length)
+
+    def test_all_slaves_the_same_zero_length_reply_is_no_data(self):
+        for code in (1, 2, 3, 4):
+            self.one([1, code << 11 | 7], 1)
+            same = [word for slave in range(24) for word in (1, code << 11 | slave)]
+            self.breaks(0xFFFFFF, sealed(same + [0x0200]), 47)
+            self.breaks(0xFFFFFF, same[:-1], 47)
+            for other in (set(range(1, 6)) - {code}):
+                self.breaks(0xFFFFFF, sealed(same[:-1] + [other << 11 | 23, 0x0200]), None)
+        self.one([1, 0x2807], None)
+        self.breaks(0xFFFFFF, sealed([word for slave in range(24) for word in (1, 0x2800 | slave)] + [0x0200]), None)
+
+    def test_masks_and_no_words(self):
+        right = sealed([0x0001, 0x2800, 0x0200])
+        for mask in (0, 1 << 24, 0x1000001, 0xFFFFFFFF):
+            for words in ([], right, sealed([0x0200]), sealed([0x0000])):
+                self.breaks(mask, words, 0)
+        self.breaks(1, [], 0)
+        self.breaks(0xFFFFFF, [], 0)
+        self.breaks(2, right, 1)
+        self.breaks(3, right, 4)  # 0200 is a length word there
+
+    def test_total_size(self):
+        data = [0] * 12284
+        self.breaks(1, sealed([12285, *data, 0x8000, 0]), None)
+        self.breaks(1, sealed([12286, *data, 0, 0x8000, 0]), 0)
+        words = [word for slave in range(24) for word in (510, *[slave] * 509, 0x8000 | slave)]
+        words[23 * 511:] = [532, *[23] * 531, 0x8017]
+        self.assertEqual(len(words), AREA - 2)
+        self.breaks(0xFFFFFF, sealed(words + [0x01C0]), None)
+        words[23 * 511:] = [533, *[23] * 532, 0x8017]
+        self.breaks(0xFFFFFF, sealed(words + [0x01C0]), 23 * 511)
+
+    def test_answers_that_yield_it_exist(self):
+        """What is accepted, the node assembles from the answers that were found."""
+        pick = random.Random(8)
+        for _ in range(60):
+            mask = pick.getrandbits(24) & pick.getrandbits(24) or 1
+            slaves = [slave for slave in range(24) if mask >> slave & 1]
+            parts = [(1, 0x2800), (1, 0x0800), (1, 0x2000), (3, 5, 6, 0x3000), (1, 0x8060), (4, 7, 8, 9, 0x8000), (2, 7, 0x87E0)]
+            parts += [(4, 1, n, 3, 0x8000 | code << 11) for n in (1, 2, 0xFFFF) for code in (1, 9, 3, 5, 2)]
+            words = [word for slave in slaves for part in [pick.choice(parts)] for word in part[:-1] + (part[-1] | slave,)]
+            words = sealed(words + [0x0200 | pick.randrange(8) << 6])
+            found = answered(mask, words, True)
+            self.assertEqual(found is None, broken_at(mask, words) is not None)
+            if found is not None:
+                self.assertEqual(self.assembled(mask, found), words)
+
+    def assembled(self, mask, found):
+        """What a node assembles from answers, with the own status word behind them."""
+        *given, status = found
+        node, memories = started()
+        node = replace(node, mode=status >> 6 & 3, start_tests=status & 0x0100)
+        node, answer = request(node, memories, 0, 0, 3, 0, [mask << 8 & 0xFF00 | 0x23, mask >> 8, 0x0C2E])
+        for item in given:
+            self.assertEqual(answer[0], "ask")
+            now = 60 if item.late else 0
+            node = replace(node, pending=replace(node.pending, at=0))
+            rest = (item.bc, item.errors, item.rx_status, item.rx_address, item.words)
+            node, answer = reply(node, memories.reply, now, answer[1], *rest)
+        return memories.reply[:answer[2]]
+
+
+def every_answer(palette, front):
+    """Every answer of a slave that is made of a palette: its RX words, its first words up to `front` of them, its length, and what its
+    length word would be, each any word of the palette; with every BC, bits 10-5 of its status word set or clear, its FCS right or wrong."""
+    yield answer_of(late=True)
+    for bc in (NEXT, ABORT, ERROR, END):
+        yield answer_of(bc=bc)
+    for rx_status, rx_address in product(palette, repeat=2):
+        yield answer_of(errors=True, rx_status=rx_status, rx_address=rx_address)
+    for n in sorted({word for word in palette if word > 0} | {word + 1 for word in palette if 0 < word < AREA}):
+        for first in palette:
+            for bits in (0x0000, 0x07E0):
+                words = ([first] + [0] * n)[:max(n - 2, 1)] + [bits]
+                right = sealed(words) if n > 2 else sealed([first])[:n]
+                for rx_status, words in product(palette, (right, right[:-1] + [right[-1] ^ 1])):
+                    for bc in range(4) if n > 1 else (0, 1, 2):
+                        yield answer_of(words, bc, rx_status=rx_status)
+                    if n == 1:
+                        yield answer_of([first], rx_status=rx_status)
+        for data in product(palette, repeat=min(n - 2, front)) if n > 1 else ():
+            for bits in (0x0000, 0x07E0):
+                yield answer_of(sealed([*data, *[0] * (n - 2 - len(data)), bits]))
+
+
+def every_reply(slaves, palette, front, depth):
+    """The first words, up to a depth, of every data reply that the slaves' answers of a palette make, and those that are whole by then.
+    Past the depth slaves are late, for which there is always room, and which makes it data."""
+    beginnings, wholes = set(), set()
+    given = list(every_answer(palette, front))
+
+    def keep(words):
+        beginnings.update(words[:length] for length in range(min(len(words), depth) + 1))
+
+    @lru_cache(maxsize=None)
+    def fragments(place, built):
+        laid = [fragment(slaves[place], answer, built, len(slaves) - 1 - place) for answer in given]
+        return {(dat, code, tuple(words[:depth])) for dat, code, words in laid}
+
+    def go_on(place, words, tally):
+        if len(words) >= depth and (place < len(slaves) or zero_length(tally) is None):
+            keep(words)
+        elif place < len(slaves):
+            for dat, code, more in fragments(place, len(words)):
+                go_on(place + 1, words + more, tally_with(tally, dat, code))
+        elif zero_length(tally) is None:
+            for bits in range(8):
+                wholes.add(words + tuple(ending(list(words), tally, bits << 6 | 0x0020)))
+
+    go_on(0, (), 0)
+    for words in wholes:
+        keep(words)
+    return beginnings, wholes
+
+
+class CapturesTried(unittest.TestCase):
+    """02, request 3: the word named, against its definition over every reply of a palette."""
+
+    def compare(self, slaves, palette, front, depth):
+        pick = random.Random(9)
+        beginnings, wholes = every_reply(slaves, palette, front, depth)
+        mask = sum(1 << slave for slave in slaves)
+        known, short = sorted(beginnings), sorted(reply for reply in wholes if len(reply) < depth)
+        captures = [words for length in range(4) for words in product(palette, repeat=length)]
+        for _ in range(200):
+            words = pick.choice(known) + tuple(pick.choices(palette, k=pick.randrange(4)))
+            captures.append(words[:front + 1 if max(palette) < AREA else depth])
+        for words in pick.choices(short, k=50):
+            captures += [words, words + (pick.choice(palette),), words[:-1] + (pick.choice(palette),)]
+        for words in set(captures):
+            place = next((at for at in range(len(words)) if words[:at + 1] not in beginnings), len(words))
+            self.assertEqual(broken_at(mask, list(words)), None if words in wholes else place, [hex(word) for word in words])
+
+    def test_a_sole_slave(self):
+        for palette in ((0, 1, 4, 0xA805), (3, 4, 0x3005, 0x9005), (1, 4, 0x8805, 0x9805), (1, 2, 0x8005, 0xC805)):
+            self.compare([5], palette, 3, 8)
+
+    def test_two_slaves(self):
+        for palette in ((1, 0x1005, 0x1006), (1, 0x2006, 0x2805)):
+            self.compare([5, 6], palette, 4, 7)
 
 
 if __name__ == "__main__":

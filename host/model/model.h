@@ -120,4 +120,8 @@ uint64_t model_reply(uint32_t now, uint32_t slave, uint32_t bc, uint32_t receive
 uint64_t model_poll(uint32_t now, uint8_t *state, size_t state_len, uint8_t *reply, size_t reply_len);
 uint64_t model_erase(uint64_t budget, uint8_t *state, size_t state_len, uint8_t *flash, size_t flash_len);
 
+/* A captured group reply (capture.c), by the number that logodwen_capture answers. */
+
+uint64_t model_capture(uint32_t mask, const uint8_t *words, size_t words_len);
+
 #endif

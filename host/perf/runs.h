@@ -9,5 +9,6 @@ int perf_packet_runs(void);
 int perf_memory_runs(void);
 int perf_group_runs(void);
 int perf_border_runs(void);
+int perf_capture_runs(void);
 
 #endif

@@ -2,32 +2,12 @@
    leave. It says which call differs, and in what, or how many calls of each kind agreed. */
 #include "../../include/logodwen.h"
 #include "../model/model.h"
+#include "chance.h"
 
 #include <inttypes.h>
 #include <stdio.h>
 #include <stdlib.h>
 #include <string.h>
-
-/* Chance: numbers that follow from the seed alone. */
-
-static uint64_t chance;
-
-static uint32_t any(void) {
-    chance += 0x9E3779B97F4A7C15u;
-    uint64_t z = chance;
-    z = (z ^ z >> 30) * 0xBF58476D1CE4E5B9u;
-    z = (z ^ z >> 27) * 0x94D049BB133111EBu;
-    return (uint32_t)(z >> 32 ^ z >> 3);
-}
-
-static uint32_t below(uint32_t n) { return any() % n; }
-static bool one_in(uint32_t n) { return below(n) == 0; }
-
-/* A number of any size. (Two numbers by chance never stand in one expression that C may work out in either order.) */
-static uint32_t wild(void) {
-    uint32_t value = any();
-    return value >> below(32);
-}
 
 /* What is lent, twice: to the library and to the model. Guard bytes stand behind each run. */
 
@@ -899,24 +879,14 @@ static void print_tallies(void) {
         printf("  standing write, %s: %lu\n", write_names[kind], writes[kind]);
 }
 
-/* A number of digits alone, at most 18 of them. */
-static uint64_t number(const char *text) {
-    size_t digits = strspn(text, "0123456789");
-    if (digits == 0 || digits > 18 || text[digits] != 0) {
-        fprintf(stderr, "differ: '%s' is no number of 1 to 18 digits\n", text);
-        exit(2);
-    }
-    return strtoull(text, NULL, 10);
-}
-
 int main(int count, char **arguments) {
     if (count != 3) {
         fprintf(stderr, "differ SEED COUNT: two numbers\n");
         return 2;
     }
-    seed = number(arguments[1]);
-    unsigned long wanted = number(arguments[2]);
-    chance = seed * 0xD1342543DE82EF95u + 1;
+    seed = number("differ", arguments[1]);
+    unsigned long wanted = number("differ", arguments[2]);
+    begin_chance(seed);
     make_worlds();
     while (calls < wanted) {
         fresh();

@@ -200,7 +200,7 @@ uint64_t logodwen2_erase(uint64_t budget, uint8_t *state, size_t state_len, uint
 
 uint16_t logodwen2_fcs(const uint8_t *bytes, size_t len) { return model_fcs(bytes, len / 2); }
 
-/* A captured group reply in plain C. */
+/* A captured group reply: the model's reader, and with a fault one that has it. */
 
 /* Whether a code goes with a fragment's length and, where the fragment tells it, the reply's. */
 static bool is_code_right(unsigned code, size_t length, unsigned told, size_t room) {
@@ -257,6 +257,8 @@ static size_t broken_at(uint32_t mask, const uint8_t *words, size_t n, bool *is_
 
 uint64_t logodwen2_capture(uint32_t mask, const uint8_t *words, size_t words_len) {
     bool is_whole;
+    if (FAULT < ALL_READABLE)
+        return model_capture(mask, words, words_len);
     uint64_t place = broken_at(mask, words, words_len / 2, &is_whole);
     if (FAULT == KIND_UNKNOWN)
         return LOGODWEN_ASK << 8;

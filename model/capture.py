@@ -1,0 +1,115 @@
+"""Captured group replies, 02, request 3, by search. Acceptable is what some answers of the mask's slaves make the assembly of `group` end
+in: so answers are tried, slave after slave, and those kept whose fragments agree with the captured words. The word named is found by its
+definition: the first one such that no acceptable reply begins with the words up to it."""
+
+from bisect import bisect_left
+
+from files import sealed
+from group import ABORT, AREA, END, ERROR, NEXT, Answer, ending, fragment, slaves_of, tally_with, zero_length
+
+OWN = [bits << 6 | 0x0020 for bits in range(8)]  # the node's own status word: bits 8, 7 and 6 any
+SIZES = (1, 3, 4)  # length words to try where none was captured
+COUNTS = (1, 2, 0xFFFF)  # and reply lengths
+WHOLE = 0b11
+
+
+def taken(words, bc=WHOLE, rx=0):
+    return Answer(False, False, rx, 0, bc, words)
+
+
+def whole(seen, length):
+    """The data reply whose fragment has a length word and, as far as they were seen, its words and the slave's status bits."""
+    shown = (seen[1 : length + 1] + [0] * length)[:length]
+    return taken(sealed(shown))
+
+
+def faulty(seen):
+    """Data replies of each fault, with the RX status, reply length, first word and status bits that were seen. What a fragment of a fault
+    doesn't show is 0, but for the last word: that one makes the FCS right or wrong. FFFF is the length of longer ones too."""
+    rx, _, first, status = (seen[1:5] + [0] * 4)[:4]
+    counts = COUNTS if len(seen) < 3 else (0xFFFF, 0x10000) if seen[2] == 0xFFFF else (seen[2],)
+    for n in counts:
+        if n == 0:
+            continue
+        words = [first] + [0] * (n - 1)
+        if n > 2:
+            words[n - 2] = status
+        for bc in (0b00, 0b01, 0b10):
+            yield taken(words, bc, rx)
+        if n == 1:
+            yield taken(words, rx=rx)
+        else:
+            right = sealed(words[:-1])
+            yield taken(right, rx=rx)
+            yield taken(right[:-1] + [right[-1] ^ 1], rx=rx)
+
+
+def answers(seen):
+    """Answers to try for a slave, of whose fragment and of what follows it some words were seen: all that can agree with the length word,
+    each with what the words show of it."""
+    for length in seen[:1] or SIZES:
+        if length == 1:
+            yield Answer(True, False, 0, 0, 0, [])
+            for bc in (NEXT, ABORT, ERROR, END):
+                yield taken([], bc)
+        if length == 3:
+            rx_status, rx_address = (seen[1:3] + [0, 0])[:2]
+            yield Answer(False, True, rx_status, rx_address, 0, [])
+        if length == 4:
+            yield from faulty(seen)
+        if 1 <= length < AREA:
+            yield whole(seen, length)
+
+
+def answered(mask, words, exact):
+    """Answers of the mask's slaves, and the node's own status word behind them, that end in a data reply that begins with the words, or
+    that is the words exactly; None where there are none."""
+    slaves, tried = slaves_of(mask), set()
+
+    def agree(laid, at):
+        seen = words[at : at + len(laid)]
+        return seen == (laid if exact else laid[: len(seen)])
+
+    def from_slave(place, built, tally):
+        if (place, built, tally) in tried:
+            return None
+        tried.add((place, built, tally))
+        if place == len(slaves):
+            return end(built, tally)
+        for answer in answers(words[built:]):
+            dat, code, laid = fragment(slaves[place], answer, built, len(slaves) - 1 - place)
+            if agree(laid, built):
+                rest = from_slave(place + 1, built + len(laid), tally_with(tally, dat, code))
+                if rest is not None:
+                    return [answer] + rest
+        return None
+
+    def end(built, tally):
+        total = built + 2
+        if zero_length(tally) is not None or total < len(words) or exact and total != len(words):
+            return None
+        return next(([own] for own in OWN if agree(ending(words[:built], tally, own), built)), None)
+
+    return from_slave(0, 0, 0)
+
+
+def has_slaves(mask):
+    """An empty mask, or one above 24 bits, has no acceptable reply."""
+    return 0 < mask < 1 << 24
+
+
+def is_acceptable(mask, words):
+    return has_slaves(mask) and answered(mask, words, True) is not None
+
+
+def is_beginning(mask, words):
+    """Whether an acceptable reply begins with the words."""
+    return has_slaves(mask) and answered(mask, words, False) is not None
+
+
+def broken_at(mask, words):
+    """None where the words are acceptable, else the first word after which no acceptable reply could have begun so, or their number where
+    one could. A beginning of a beginning is one, so the first word can be found by halving."""
+    if is_acceptable(mask, words):
+        return None
+    return bisect_left(range(len(words)), True, key=lambda last: not is_beginning(mask, words[: last + 1]))
