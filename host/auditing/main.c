@@ -1,11 +1,7 @@
 /* The audit: the options, the flash, what is to be erased, the images one after the other, the directory, the flash kept. */
-#define _POSIX_C_SOURCE 200809L
 #include "audit.h"
 
-#include <fcntl.h>
-#include <unistd.h>
-
-enum { ALL_AGREE = 0, SOME_DIFFER = 1, NOT_READ = 2, NOT_TRUSTED = 3 }; /* the exit status: the highest that holds */
+const char program[] = "audit";
 
 /* An audit as it goes on. */
 struct audit {
@@ -14,29 +10,15 @@ struct audit {
     struct flash_file file;
     struct logodwen_node node;
     size_t totals[VERDICTS];
-    int status;
     char why[TEXT];
 };
-
-static void ends_with(struct audit *audit, int status) {
-    if (audit->status < status)
-        audit->status = status;
-}
-
-/* Says on standard error what is wrong, and ends with a status. */
-static void complain(struct audit *audit, int status) {
-    report_progress_end();
-    fflush(stdout);
-    fprintf(stderr, "audit: %s\n", audit->why);
-    ends_with(audit, status);
-}
 
 static bool is_started(struct audit *audit) {
     uint32_t refusal = node_start(&audit->node);
     if (refusal == LOGODWEN_DONE)
         return true;
     say(audit->why, "the node did not start, refusal %s", logodwen_refusal_text(refusal));
-    complain(audit, NOT_TRUSTED);
+    complain(audit->why, NOT_TRUSTED);
     return false;
 }
 
@@ -45,10 +27,10 @@ static bool is_flash_there(struct audit *audit) {
     if (options->flash == NULL) {
         node_blank(&audit->node);
     } else if (!flash_file_open(&audit->file, options->flash, options->keep, &audit->node, audit->why)) {
-        complain(audit, NOT_READ);
+        complain(audit->why, NOT_READ);
         return false;
     }
-    if (audit->file.is_new && !options->quiet)
+    if (audit->file.is_new && !options->asked.quiet)
         report_new_flash(options->flash);
     return is_started(audit);
 }
@@ -76,7 +58,7 @@ static void complain_of_name(struct audit *audit, unsigned name, unsigned sector
     else
         say(audit->why, "--erase %02X: %s share this name, so nothing is erased, audited or kept; erase all but one of them (%s)", name,
             sharing, erasures);
-    complain(audit, is_abort ? SOME_DIFFER : NOT_TRUSTED);
+    complain(audit->why, is_abort ? SOME_WRONG : NOT_TRUSTED);
 }
 
 /* Whether the directory has a sector as empty now; what it has, as text. */
@@ -91,9 +73,9 @@ static bool is_empty_now(struct logodwen_node *node, unsigned sector, char *has)
 
 /* Erases one file or sector; false where that could not be done. */
 static bool is_erased(struct audit *audit, struct erasure erasure) {
-    unsigned sectors = sectors_to_erase(&audit->node, erasure), sector = sectors_lowest(sectors);
+    unsigned sectors = sectors_to_erase(&audit->node, erasure), sector = set_lowest(sectors);
     uint64_t answered = node_erase(&audit->node, erasure);
-    if (!sectors_are_one(sectors)) {
+    if (!set_is_one(sectors)) {
         complain_of_name(audit, erasure.which, sectors, answered);
         return false;
     }
@@ -105,7 +87,7 @@ static bool is_erased(struct audit *audit, struct erasure erasure) {
     }
     say(audit->why, "DISPUTED: sector %u should be erased and empty, but is not; words set: %u; the directory has it as %s; please report it "
         "with the flash", sector, set, has);
-    complain(audit, NOT_TRUSTED);
+    complain(audit->why, NOT_TRUSTED);
     return false;
 }
 
@@ -117,115 +99,98 @@ static bool are_erased(struct audit *audit) {
 }
 
 static void count(struct audit *audit, const char *path, const struct finding *finding) {
-    report_progress_end();
+    lines_progress_end();
     report_finding(path, finding);
     audit->totals[finding->verdict]++;
-    ends_with(audit, finding->verdict == AGREES ? ALL_AGREE : finding->verdict == UNREADABLE ? NOT_READ : SOME_DIFFER);
+    ends_with(finding->verdict == AGREES ? ALL_RIGHT : finding->verdict == UNREADABLE ? NOT_READ : SOME_WRONG);
     if (finding->verdict == DISPUTED) {
         struct text text;
         say(audit->why, "%s: DISPUTED: the node and this program disagree, so one has a fault; please report it with the image",
             shown(path, &text));
-        complain(audit, NOT_TRUSTED);
+        complain(audit->why, NOT_TRUSTED);
     }
 }
 
-static void audit_image(struct audit *audit, const char *path) {
-    static struct image image;
+static bool is_file(const uint8_t *words, size_t count) {
+    char why[TEXT];
+    return rules_is_file(words, count, why);
+}
+
+static void audit_image(void *with, const char *path) {
+    static const struct meant file = {"a valid file", is_file};
+    static struct contents image;
+    struct audit *audit = with;
     struct finding finding = {.verdict = UNREADABLE};
     if (!audit->options.together) {
         node_blank(&audit->node);
         if (!is_started(audit))
             return;
     }
-    if (image_read(path, audit->options.reading, &image, finding.detail))
+    if (contents_read(path, audit->options.asked.reading, &file, &image, finding.detail))
         verdict_on_image(&audit->node, &image, &finding);
     count(audit, path, &finding);
 }
 
-static bool is_report_written(void) { return fflush(stdout) == 0 && !ferror(stdout); }
-
 /* The flash is kept where the node did as it should and what it did is told. */
 static void keep(struct audit *audit) {
     struct text text;
-    if (audit->status == NOT_TRUSTED || audit->totals[DIFFERS] != 0) {
+    if (ended_with() == NOT_TRUSTED || audit->totals[DIFFERS] != 0) {
         say(audit->why, "%s is not written back, since the node did not do as it should", shown(audit->options.flash, &text));
-        complain(audit, SOME_DIFFER);
-    } else if (!is_report_written()) {
+        complain(audit->why, SOME_WRONG);
+    } else if (!lines_are_written()) {
         say(audit->why, "%s is not written back, since the report can't be written", shown(audit->options.flash, &text));
-        complain(audit, NOT_READ);
+        complain(audit->why, NOT_READ);
     } else if (!flash_file_write(&audit->file, &audit->node, audit->why)) {
-        complain(audit, NOT_READ);
-    }
-}
-
-static void audit_paths(struct audit *audit) {
-    size_t done = 0;
-    for (size_t i = 0; i < audit->paths.count; i++) {
-        const struct path *path = &audit->paths.at[i];
-        if (path->left_out != NULL) {
-            report_progress_end();
-            report_left_out(path->name, path->left_out);
-        } else {
-            report_progress(done++, audit->paths.images);
-            audit_image(audit, path->name);
-        }
+        complain(audit->why, NOT_READ);
     }
 }
 
 static void audit_images(struct audit *audit) {
-    for (size_t i = 0; i < audit->options.path_count; i++)
-        if (!paths_add(&audit->paths, audit->options.paths[i], audit->options.recursive, audit->why))
-            complain(audit, NOT_READ);
-    if (!audit->options.quiet)
+    const struct asked *asked = &audit->options.asked;
+    for (size_t i = 0; i < asked->path_count; i++)
+        if (!paths_add(&audit->paths, asked->paths[i], asked->recursive, audit->why))
+            complain(audit->why, NOT_READ);
+    if (!asked->quiet)
         report_columns();
-    audit_paths(audit);
-    report_totals(audit->totals, audit->paths.count - audit->paths.images);
+    paths_each(&audit->paths, audit_image, audit);
+    report_totals(audit->totals, audit->paths.count - audit->paths.files);
 }
 
 static void run(struct audit *audit) {
     const struct options *options = &audit->options;
-    if (!options->quiet)
+    if (!options->asked.quiet)
         report_head(options);
     if (!is_flash_there(audit) || !are_erased(audit))
         return;
-    if (options->path_count > 0)
+    if (options->asked.path_count > 0)
         audit_images(audit);
     if (options->together && !report_directory(&audit->node, options->summary, audit->why))
-        complain(audit, NOT_TRUSTED);
+        complain(audit->why, NOT_TRUSTED);
     if (options->keep)
         keep(audit);
 }
 
-/* A descriptor of the first three that is closed would be given to the next file that is opened, and the report would be written there. */
-static bool is_output_there(char *why) {
-    bool is_there = fcntl(STDOUT_FILENO, F_GETFD) != -1;
-    for (int file = 0; file <= STDERR_FILENO; file++)
-        if (fcntl(file, F_GETFD) == -1 && open("/dev/null", O_RDWR) != file)
-            return say(why, "/dev/null can't be opened");
-    return is_there || say(why, "the report can't be written: standard output is closed");
-}
-
 int main(int count, char **arguments) {
     static struct audit audit = {.file = {.lock = -1}};
-    if (!is_output_there(audit.why)) {
-        complain(&audit, NOT_READ);
+    if (!lines_can_be_written(audit.why)) {
+        complain(audit.why, NOT_READ);
         return NOT_READ;
     }
     if (!options_read(count - 1, arguments + 1, &audit.options, audit.why)) {
-        complain(&audit, NOT_READ);
+        complain(audit.why, NOT_READ);
         fprintf(stderr, "usage: host/audit [OPTION..] IMAGE..    as in: host/audit examples/images\n"
                         "host/audit --help tells the options, the verdicts and the exit status\n");
         return NOT_READ;
     }
-    report_as(audit.options.json);
-    if (audit.options.version)
-        report_version();
+    lines_as(audit.options.asked.json);
+    if (audit.options.asked.version)
+        lines_version();
     else
         run(&audit);
     flash_file_close(&audit.file);
-    if (!is_report_written()) {
+    if (!lines_are_written()) {
         say(audit.why, "the report can't be written");
-        complain(&audit, NOT_READ);
+        complain(audit.why, NOT_READ);
     }
-    return audit.status;
+    return ended_with();
 }

@@ -56,7 +56,7 @@ bool sector_is_right(const struct logodwen_node *node, unsigned sector, struct e
 static bool is_name_shared(const struct entry *directory, unsigned sector, char *text) {
     unsigned first = directory[sector - SECTOR_FIRST].first, sharing = directory_named(directory, name_of(first));
     char others[TEXT], erasures[TEXT];
-    if (!rules_may_begin(first) || sectors_are_one(sharing))
+    if (!rules_may_begin(first) || set_is_one(sharing))
         return false;
     sectors_text(sharing & ~(1u << sector), others);
     sectors_erasures(sharing, erasures);

@@ -17,9 +17,9 @@ static void say_used(const struct logodwen_node *node, unsigned holders, unsigne
     char rule[TEXT], sectors[TEXT], erasures[TEXT];
     sectors_text(holders, sectors);
     sectors_erasures(holders, erasures);
-    if (!sectors_are_one(holders))
+    if (!set_is_one(holders))
         say(why, "%s have this name; erase them first (%s), or audit this image alone", sectors, erasures);
-    else if (sector_is_bad(node, sectors_lowest(holders), rule))
+    else if (sector_is_bad(node, set_lowest(holders), rule))
         say(why, "%s has this name, and is bad (%s); erase it first (--erase %02X), or audit this image alone", sectors, rule, name);
     else
         say(why, "%s has this name; erase it first (--erase %02X), or audit this image alone", sectors, name);
@@ -27,7 +27,7 @@ static void say_used(const struct logodwen_node *node, unsigned holders, unsigne
 
 /* The answer to a valid file: its name must be unused, and an empty sector have room. A file that no sector has room for is told apart
    from one that other files leave no room for. */
-static struct forecast foretell_valid(const struct logodwen_node *node, const struct entry *directory, const struct image *image) {
+static struct forecast foretell_valid(const struct logodwen_node *node, const struct entry *directory, const struct contents *image) {
     unsigned name = name_of(logodwen_get(image->bytes, 0)), holders = directory_named(directory, name);
     unsigned place = directory_place(directory, image->words);
     struct forecast forecast = {.verdict = AGREES, .bc = LOGODWEN_BC_END, .sector = place};
@@ -46,7 +46,7 @@ static struct forecast foretell_valid(const struct logodwen_node *node, const st
 }
 
 /* The answer to any image: one that is too long for the packets to join is never looked at, and a file must be valid and exact. */
-static struct forecast foretell(const struct logodwen_node *node, const struct entry *directory, const struct image *image) {
+static struct forecast foretell(const struct logodwen_node *node, const struct entry *directory, const struct contents *image) {
     struct forecast forecast = refused(TOO_LARGE);
     if (image->words > LOGODWEN_AREA_WORDS) {
         say(forecast.why, "%zu words; File Write takes at most 32,768, in several packets; " FLASH_HOLDS, image->words);
@@ -57,13 +57,13 @@ static struct forecast foretell(const struct logodwen_node *node, const struct e
 }
 
 /* How many words of an image are sent: all, or up to the packet that makes them more than 32,768, the fifth. */
-static size_t words_to_send(const struct image *image) {
+static size_t words_to_send(const struct contents *image) {
     size_t most = 5 * LOGODWEN_REQUEST_WORDS - 1; /* the first packet begins with a word that is not the image's */
     return image->words < most ? image->words : most;
 }
 
 /* Whether as many words were read as were signed; if not, the first place that only one of the two has. */
-static bool are_as_long(const struct image *image, const uint8_t *read, size_t count, char *detail) {
+static bool are_as_long(const struct contents *image, const uint8_t *read, size_t count, char *detail) {
     size_t all = image->words;
     if (count < all)
         return say(detail, "word %zu: signed %04X, read nothing; words read: %zu", count, logodwen_get(image->bytes, count), count);
@@ -71,7 +71,7 @@ static bool are_as_long(const struct image *image, const uint8_t *read, size_t c
 }
 
 /* The reply to File Read against the image: the file's words, then reply status and the reply's FCS. */
-static bool is_same(const struct image *image, const uint8_t *reply, size_t count, char *detail) {
+static bool is_same(const struct contents *image, const uint8_t *reply, size_t count, char *detail) {
     for (size_t i = 0; i < image->words && i < count; i++)
         if (logodwen_get(image->bytes, i) != logodwen_get(reply, i))
             return say(detail, "word %zu: signed %04X, read %04X", i, logodwen_get(image->bytes, i), logodwen_get(reply, i));
@@ -81,7 +81,7 @@ static bool is_same(const struct image *image, const uint8_t *reply, size_t coun
     return said == is || say(detail, "the words agree, but the reply has the FCS %04X and should have %04X", said, is);
 }
 
-static bool is_read_back(struct logodwen_node *node, const struct image *image, char *detail) {
+static bool is_read_back(struct logodwen_node *node, const struct contents *image, char *detail) {
     unsigned header = logodwen_get(image->bytes, 0);
     uint64_t answered = node_read(node, name_of(header));
     if (logodwen_answer(answered) == LOGODWEN_REPLY && logodwen_words(answered) >= 2)
@@ -102,16 +102,16 @@ static bool is_listed(struct logodwen_node *node, unsigned holders, unsigned pla
 }
 
 /* After a File Write that was answered END: where the directory has the file, and whether it is read back as it was signed. */
-static enum verdict read_back(struct logodwen_node *node, const struct image *image, unsigned place, struct finding *finding) {
+static enum verdict read_back(struct logodwen_node *node, const struct contents *image, unsigned place, struct finding *finding) {
     struct entry directory[SECTORS];
     unsigned holders = node_directory(node, directory) ? directory_named(directory, name_of(finding->header)) : 0;
-    finding->sector = sectors_lowest(holders);
+    finding->sector = set_lowest(holders);
     if (!is_read_back(node, image, finding->detail))
         return DIFFERS;
     return is_listed(node, holders, place, directory, finding->detail) ? AGREES : DISPUTED;
 }
 
-static enum verdict write_and_read_back(struct logodwen_node *node, const struct image *image, struct finding *finding) {
+static enum verdict write_and_read_back(struct logodwen_node *node, const struct contents *image, struct finding *finding) {
     static const char *const bare[4] = {"NEXT", "ERROR", "ABORT", "END"}; /* replies of no words, by BC */
     struct entry directory[SECTORS];
     if (!node_directory(node, directory)) {
@@ -139,7 +139,7 @@ static enum verdict write_and_read_back(struct logodwen_node *node, const struct
     return forecast.verdict;
 }
 
-void verdict_on_image(struct logodwen_node *node, const struct image *image, struct finding *finding) {
+void verdict_on_image(struct logodwen_node *node, const struct contents *image, struct finding *finding) {
     *finding = (struct finding){.verdict = TOO_LARGE};
     if (image->is_too_long) {
         say(finding->detail, "more than 1,048,576 bytes, not read on; " FLASH_HOLDS);

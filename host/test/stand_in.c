@@ -15,7 +15,7 @@ enum { MASK_0_EMPTY = 16, ALL_MASKS_FULL, CDP_WITH_SLAVES };                    
 enum { FIRST_OFF = 19, LENGTH_OFF, LENGTH_LEFT };                                               /* of the summary's words */
 enum { REMAINS_OVERLOOKED = 22 };                                                               /* of words behind a file */
 enum { LOWEST_TAKEN = 23 };                                                                     /* of a name in several sectors */
-enum { ALL_READABLE = 24, PLACE_OFF, SEAL_OVERLOOKED, ROOM_OVERLOOKED, KIND_UNKNOWN };          /* of a captured group reply */
+enum { ALL_READABLE = 24, PLACE_OFF, SEAL_OVERLOOKED, LEFT_OVER_OVERLOOKED, KIND_UNKNOWN, MASK_CUT }; /* of a captured group reply */
 enum { DIRECTORY_BYTES = 64, ENTRY_WORDS = 4, FIRST = 0, STATUS = 2, LENGTH = 3 };
 
 static bool is_own(const uint8_t *packet, size_t packet_len, unsigned id) {
@@ -200,69 +200,26 @@ uint64_t logodwen2_erase(uint64_t budget, uint8_t *state, size_t state_len, uint
 
 uint16_t logodwen2_fcs(const uint8_t *bytes, size_t len) { return model_fcs(bytes, len / 2); }
 
-/* A captured group reply: the model's reader, and with a fault one that has it. */
-
-/* Whether a code goes with a fragment's length and, where the fragment tells it, the reply's. */
-static bool is_code_right(unsigned code, size_t length, unsigned told, size_t room) {
-    switch (code) {
-    case 0x01: case 0x02: case 0x03: case 0x04: case 0x05: return length == 1;
-    case 0x06: return length == 3;
-    case 0x10: return true;
-    case 0x11: case 0x19: return length == 4 && told >= 1;
-    case 0x12: return length == 4 && told > room;
-    case 0x13: return length == 4 && told == 1;
-    case 0x15: return length == 4 && told >= 2;
-    default: return false;
-    }
-}
-
-/* The place of the first word that breaks a reply; its length and no error where none does. */
-static size_t broken_at(uint32_t mask, const uint8_t *words, size_t n, bool *is_whole) {
-    size_t at = 0;
-    unsigned first = 0, assembly = 0;
-    bool is_one_kind = true;
-    *is_whole = false;
-    if (mask == 0 || mask >> LOGODWEN_SLAVES != 0)
-        return 0;
-    for (unsigned slave = 0; slave < LOGODWEN_SLAVES; slave++) {
-        uint32_t above = mask >> slave >> 1;
-        size_t room = LOGODWEN_REPLY_WORDS - 2 - at;
-        if ((mask >> slave & 1u) == 0)
-            continue;
-        for (uint32_t left = above; left != 0; left &= left - 1)
-            room -= 5;
-        size_t length = at < n ? logodwen_get(words, at) : 1;
-        if (at < n && (length == 0 || (length >= room && FAULT != ROOM_OVERLOOKED)))
-            return at;
-        if (n <= at + length)
-            return n;
-        unsigned status = logodwen_get(words, at + length), code = status >> 11;
-        first = at == 0 ? code : first;
-        is_one_kind = is_one_kind && code == first && 1 <= code && code <= 4;
-        assembly |= code == 0x10 ? 0 : 0x0200u;
-        at += length;
-        if ((status & 31u) != slave || !is_code_right(code, length, length == 4 ? logodwen_get(words, at - 2) : 0, room))
-            return at;
-        if (((status & 0x07E0u) != 0 && code != 0x10 && code != 0x12) || (is_one_kind && above == 0))
-            return at;
-        at++;
-    }
-    if (at < n && (logodwen_get(words, at) & 0xFE3Fu) != assembly)
-        return at;
-    if (at + 1 < n && logodwen_get(words, at + 1) != logodwen_fcs(words, at + 1) && FAULT != SEAL_OVERLOOKED)
-        return at + 1;
-    *is_whole = n == at + 2;
-    return n < at + 2 ? n : at + 2;
+/* A captured group reply, with a fault: an FCS is taken for right, whatever it is, or words left over are not looked at. */
+static uint64_t capture_with_fault(uint64_t answered, uint32_t mask, const uint8_t *words) {
+    static uint8_t resealed[LOGODWEN_REPLY_BYTES];
+    size_t place = logodwen_place(answered);
+    if (FAULT == LEFT_OVER_OVERLOOKED && model_capture(mask, words, 2 * place) == LOGODWEN_ACCEPTED << 8)
+        return LOGODWEN_ACCEPTED << 8;
+    if (FAULT != SEAL_OVERLOOKED || place >= LOGODWEN_REPLY_WORDS)
+        return answered;
+    memcpy(resealed, words, 2 * place);
+    logodwen_put(resealed, place, logodwen_fcs(words, place));
+    return model_capture(mask, resealed, 2 * place + 2) == LOGODWEN_ACCEPTED << 8 ? LOGODWEN_ACCEPTED << 8 : answered;
 }
 
 uint64_t logodwen2_capture(uint32_t mask, const uint8_t *words, size_t words_len) {
-    bool is_whole;
-    if (FAULT < ALL_READABLE)
-        return model_capture(mask, words, words_len);
-    uint64_t place = broken_at(mask, words, words_len / 2, &is_whole);
+    uint64_t answered = model_capture(FAULT == MASK_CUT ? mask & 0xFFFFFFu : mask, words, words_len);
+    if (FAULT == ALL_READABLE)
+        return LOGODWEN_ACCEPTED << 8;
     if (FAULT == KIND_UNKNOWN)
         return LOGODWEN_ASK << 8;
-    if (is_whole || FAULT == ALL_READABLE)
-        return LOGODWEN_ACCEPTED << 8;
-    return LOGODWEN_BROKEN << 8 | (place + (FAULT == PLACE_OFF)) << 32;
+    if (logodwen_answer(answered) != LOGODWEN_BROKEN)
+        return answered;
+    return FAULT == PLACE_OFF ? answered + ((uint64_t)1 << 32) : capture_with_fault(answered, mask, words);
 }

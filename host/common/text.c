@@ -1,5 +1,5 @@
 /* Texts: what is said into a room, and names that can be taken for nothing else. Every other file rests on this one, and this on none. */
-#include "audit.h"
+#include "common.h"
 
 #include <stdarg.h>
 #include <string.h>
@@ -39,8 +39,8 @@ static bool is_control(const unsigned char *text) {
     return text[0] < 0x20 || text[0] == 0x7F || (text[0] == 0xC2 && text[1] >= 0x80 && text[1] <= 0x9F);
 }
 
-/* Whether a name stands in a report as it is: it is text, it is no number, as a sector has, and it begins and ends with nothing that
-   begins a comment or a quoted name, or is overlooked. */
+/* Whether a name stands in a report as it is: it is text, it is no number, as a line of a table begins with, and it begins and ends with
+   nothing that begins a comment or a quoted name, or is overlooked. */
 static bool is_plain(const char *name) {
     size_t length = strlen(name);
     if (length == 0 || strchr("# \"", name[0]) != NULL || name[length - 1] == ' ' || strspn(name, "0123456789") == length)

@@ -1,6 +1,6 @@
 /* Hex text: words of four hex digits, parted by white space, with comments from # to the end of the line. A line ends with \n, \r\n or \r.
    The text is ASCII; where it is said to be hex text it may also begin with a byte-order mark, be in UTF-16, and have comments in UTF-8. */
-#include "audit.h"
+#include "common.h"
 
 #include <ctype.h>
 #include <string.h>

@@ -1,7 +1,7 @@
 /* What a file is. By statx, whose answer has one layout on every machine: on Arm this program is compiled for x86-64 with Arm's headers, in
    which `struct stat`, and some flags of `open`, are others. */
 #define _GNU_SOURCE
-#include "audit.h"
+#include "common.h"
 
 #include <fcntl.h>
 #include <sys/stat.h>
