@@ -14,3 +14,4 @@ pub mod Groups
 pub mod ClosedRun
 pub mod Demands
 pub mod ShutOut
+pub mod Captures
