@@ -34,12 +34,12 @@ use Rattle.group.specs.Ending.{replied}
 use Rattle.group.specs.declared.Reply.{Reply}
 use Rattle.node.specs.State.{refusalNumber, joining, withWriting}
 use Rattle.node.specs.Valid.{masksOk, stateOk}
-use Rattle.node.specs.Refusals.{startVerdict, requestVerdict, eraseVerdict}
+use Rattle.node.specs.Refusals.{startVerdict, requestVerdict, eraseVerdict, replyVerdict}
 use Rattle.node.specs.Route.{writes, addressed, routeOf}
 use Rattle.node.specs.Files.{namedBy, readOf, fileWriteOf, loadOf, toErase, eraseStartOf}
 use Rattle.node.specs.Settings.{modeReadOf}
 use Rattle.node.specs.Own.{settingsOf, filesOf, ownOf}
-use Rattle.node.specs.Calls.{startOf, requestOf, eraseOf}
+use Rattle.node.specs.Calls.{startOf, requestOf, eraseOf, replyOf}
 use Rattle.node.specs.Effect.{Outcome, further}
 use Rattle.node.specs.declared.Answer.{Answer}
 use Rattle.node.specs.declared.Node.{Node}
@@ -56,7 +56,7 @@ use Rattle.demands.specs.Files.{fileName, Unused, Takes, IsFile, Writes,
 use Rattle.demands.specs.Packets.{Sent, AnyDivision, LeftAlone}
 use Rattle.demands.specs.Groups.{StartsFull}
 use Rattle.demands.specs.ClosedRun.{with, started, written, ClosedRun}
-use Rattle.demands.specs.ShutOut.{refusing, unstarted, aborting, constant, idle, lying, denying, judging, hoarding, mixing, empty, loader, hasty, boasting, dropping, rogue, scanning, remembering, measuring, overlooking, choosing, doubling, ShutOut}
+use Rattle.demands.specs.ShutOut.{refusing, unstarted, disorderly, aborting, constant, idle, lying, denying, judging, hoarding, mixing, empty, loader, hasty, boasting, dropping, rogue, scanning, remembering, measuring, overlooking, choosing, doubling, ShutOut}
 use Rattle.demands.specs.Flash.{countOf, Course, HasSet, ErasureFollows, Erases}
 use Rattle.demands.proofs.Refusals.{refused-exactly}
 use Rattle.demands.proofs.Held.{named-blank}
@@ -423,6 +423,17 @@ stores-silently w =
 refuses-start : (r : Refusal) → RefusedExactly (unstarted r) → ⊥
 refuses-start r w = not-done r (w .start 2 4 0 0 0 0 0 blank .0 0 .1 (refused-exactly .start 2 4 0 0 0 0 0 blank .0 0 .0 (ap numberOf (closed-run .begins))))
 
+-- a reply from slave 24 with no reply buffer: ours is refused by 2, which comes first
+refused-by-2 : (n : Node) → numberOf (replyOf n 0 24 0 false 0 0 [] [] .turn .answer) ≡ 2
+unfolding replyOf replyVerdict
+refused-by-2 n = refl
+
+refuses-out-of-order : RefusedExactly disorderly → ⊥
+refuses-out-of-order w =
+    let n : Node = started logodwen .node in
+    let e : _≡_ {A = ℕ} 4 2 = w .reply n 0 24 0 false 0 0 [] [] .0 2 .1 (refused-exactly .reply n 0 24 0 false 0 0 [] [] .0 2 .0 (refused-by-2 n)) in
+    omega (arith, e)
+
 -- the file that was written stands in the flash, and not in the directory
 reached-written : Reached scanning (written scanning .turn .node) (written scanning .after .flash)
 reached-written =
@@ -463,6 +474,7 @@ shut-out =
       refuses = refuses;
       serves-nothing = serves-nothing;
       refuses-start = refuses-start;
+      refuses-out-of-order = refuses-out-of-order;
       aborts = aborts;
       replies-alike = replies-alike;
       true-directory = true-directory;

@@ -4,7 +4,7 @@ use Prim.Native.Nat.{ℕ, _+_, _-_}
 use mathlib.Core.Bool.{_&&_, not}
 use mathlib.Core.List.{List, [], _∷_}
 use lib.ListN.{length, getD, replicate}
-use lib.Dec.{eqb}
+use lib.Dec.{ltb, eqb}
 use Rattle.base.specs.Pick.{pick}
 use Rattle.base.specs.Words.{laid, blanks}
 use Rattle.image.specs.Header.{headerOk}
@@ -126,6 +126,18 @@ scanning =
       reply = replyOf;
       poll = pollOf;
       erase = λ n budget flash. stale n (eraseOf n budget flash);
+    }
+
+-- Looks at the slave of a reply before the reply buffer: refusal 4 comes before 2.
+abbrev pub disorderly : Machine
+disorderly =
+    record {
+      start = startOf;
+      request = requestOf;
+      reply = λ n clock slave bc errors status address words reply.
+          pick (ltb 23 slave) (refused Refusal.Number n (lentReply reply)) (replyOf n clock slave bc errors status address words reply);
+      poll = pollOf;
+      erase = eraseOf;
     }
 
 -- Refuses start too.
@@ -380,6 +392,8 @@ pub record ShutOut : Type 0 where
   pub serves-nothing : (r : Refusal) → ClosedRun (refusing r) → ⊥
   -- refuses start too
   pub refuses-start : (r : Refusal) → RefusedExactly (unstarted r) → ⊥
+  -- refuses in another order
+  pub refuses-out-of-order : RefusedExactly disorderly → ⊥
   -- always says ABORT
   pub aborts : Writes aborting → ⊥
   -- a constant reply
