@@ -83,7 +83,7 @@ extern "C" {
 #define LOGODWEN_STACK_POLL 4096u
 #define LOGODWEN_STACK_ERASE 4096u
 #define LOGODWEN_STACK_FCS 4096u
-#define LOGODWEN_STACK_CAPTURE 4096u
+#define LOGODWEN_STACK_CAPTURE 28672u
 
 /* The kinds of node. */
 #define LOGODWEN_CDP 1u  /* has no slaves */
