@@ -6,12 +6,13 @@ use mathlib.Core.List.{List, [], _∷_, _++_}
 use native.Mathlib.Nat.{not-suc-le-zero, le-of-suc-le-suc}
 use native.Mathlib.Numerals.{add-one}
 use native.Mathlib.Omega.{arith}
-use lib.ListN.{length, getD, drop, length-drop}
-use lib.Seq.{drop-cons, take-all}
+use lib.ListN.{length, getD, take, drop, length-drop, take-append-drop}
+use lib.Seq.{drop-cons, drop-drop, take-all}
 use lib.Dec.{ltb, leb, eqb}
 use borrow.Author.Tests.{ltb-true, eqb-true, eq-eqb, ne-eqb}
 use Rattle.base.specs.Pick.{pick}
-use Rattle.base.specs.Words.{laid, blanks}
+use Rattle.base.specs.Words.{part, laid, blanks}
+use Rattle.base.proofs.Part.{drop-two}
 use Rattle.base.proofs.Laid.{length-laid, part-laid-after}
 use Rattle.base.proofs.Pick.{yes, no, via, pick-case, and-left, and-right, and-yes}
 use Rattle.image.proofs.File.{file-tells}
@@ -27,6 +28,36 @@ use Rattle.flash.specs.declared.Status.{Status}
 pub empty-turn : (words : List ℕ) (i : ℕ) → i < length words → isEmpty (drop i words) ≡ (eqb (getD words i 0) 0xFFFF && isEmpty (drop (i + 1) words))
 unfolding isEmpty
 empty-turn words i h = rw (add-one, drop-cons words i 0)
+
+-- four words at once
+pub empty-four : (words : List ℕ) (i : ℕ) → i + 4 ≤ length words
+    → (eqb (getD words i 0) 0xFFFF && (eqb (getD words (i + 1) 0) 0xFFFF && (eqb (getD words (i + 2) 0) 0xFFFF && eqb (getD words (i + 3) 0) 0xFFFF)))
+    ≡ isEmpty (part words i 4)
+unfolding isEmpty
+empty-four words i h =
+    let e : i + 2 + 1 ≡ i + 3 = omega arith in
+    let four : drop i words ≡ getD words i 0 ∷ getD words (i + 1) 0 ∷ getD words (i + 2) 0 ∷ getD words (i + 3) 0 ∷ drop (i + 2 + 2) words =
+    drop-two words i (omega arith)
+    ∙ ap (λ (x : List ℕ). getD words i 0 ∷ getD words (i + 1) 0 ∷ x) (drop-two words (i + 2) (omega arith))
+    ∙ ap (λ (j : ℕ). getD words i 0 ∷ getD words (i + 1) 0 ∷ getD words (i + 2) 0 ∷ getD words j 0 ∷ drop (i + 2 + 2) words) e in
+    ap (λ (t : Bool). eqb (getD words i 0) 0xFFFF && (eqb (getD words (i + 1) 0) 0xFFFF && (eqb (getD words (i + 2) 0) 0xFFFF && t)))
+    (sym (and-true (eqb (getD words (i + 3) 0) 0xFFFF)))
+    ∙ sym (ap (λ (x : List ℕ). isEmpty (take 4 x)) four)
+  where
+    and-true : (t : Bool) → (t && true) ≡ t
+    and-true true = refl
+    and-true false = refl
+
+pub empty-past : (words : List ℕ) (i : ℕ) → isEmpty (part words i 4) ≡ true → isEmpty (drop i words) ≡ isEmpty (drop (i + 4) words)
+unfolding isEmpty
+empty-past words i h =
+    ap isEmpty (sym (take-append-drop 4 (drop i words)) ∙ ap (λ (x : List ℕ). part words i 4 ++ x) (drop-drop 4 i words))
+    ∙ behind (part words i 4) (drop (i + 4) words) h
+  where
+    behind : (a b : List ℕ) → isEmpty a ≡ true → isEmpty (a ++ b) ≡ isEmpty b
+    behind [] b p = refl
+    behind (w ∷ a) b p =
+        sym (and-yes (and-left (eqb w 0xFFFF) (isEmpty a) p) (sym (behind a b (and-right (eqb w 0xFFFF) (isEmpty a) p))))
 
 -- blank words are empty, and so is one empty run behind another
 pub empty-blanks : (n : ℕ) → isEmpty (blanks n) ≡ true

@@ -3,8 +3,9 @@ use crate::Erasing;
 use crate::Status;
 use image::End;
 ghost use mathlib.Core.Path.{_≡_};
-ghost use lib.ListN.{drop};
-ghost use Prim.Native.Nat.{_/_};
+ghost use lib.ListN.{length, drop};
+ghost use Prim.Native.Nat.{_+_, _/_, _≤_};
+ghost use Rattle.base.specs.Words.{part};
 ghost use Rattle.flash.specs.Geometry.{isSector, sizeOf, startOf, sectorAddress, sectorOf};
 ghost use Rattle.flash.specs.Status.{isEmpty, firstOf, statusOf, isErasing, statusIn};
 
@@ -63,11 +64,39 @@ pub fn sector_of(flash: &[u16], sector: usize) -> &[u16]
     &flash[start..end]
 }
 
+// Whether the four words from a place on are FFFF.
+fn is_blank_four(words: &[u16], place: usize) -> bool
+    requires { ⌜ place + 4 ≤ length (now words) ⌝ }
+    ensures { λ r. ⌜ r ≡ isEmpty (part (now (words .entry)) place 4) ⌝ }
+{
+    (words[place] == 0xFFFF)
+        & ((words[place + 1] == 0xFFFF)
+            & ((words[place + 2] == 0xFFFF) & (words[place + 3] == 0xFFFF)))
+}
+
+// The place up to which the words are FFFF four by four, from another on: one test for four words, since most of a flash is blank.
+fn past_fours(words: &[u16], place: usize) -> usize
+    ensures { λ r. ⌜ isEmpty (drop r (now (words .entry))) ≡ isEmpty (drop place (now (words .entry))) ⌝ }
+{
+    if words.len() < 4 {
+        return place;
+    }
+    let last = words.len() - 4;
+    let mut i = place;
+    while i <= last {
+        if !is_blank_four(words, i) {
+            return i;
+        }
+        i += 4;
+    }
+    i
+}
+
 // Whether all words from a place on are FFFF.
 fn is_blank_from(words: &[u16], place: usize) -> bool
     ensures { λ r. ⌜ r ≡ isEmpty (drop place (now (words .entry))) ⌝ }
 {
-    let mut i = place;
+    let mut i = past_fours(words, place);
     while i < words.len() {
         if words[i] != 0xFFFF {
             return false;

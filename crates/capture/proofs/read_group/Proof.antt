@@ -1,4 +1,4 @@
--- `capture::read_group` meets its contract: the loop's invariant: the slaves of the mask are read as those from here on, behind what has been read. The measure is what is left of 24. Assumes nothing.
+-- `capture::read_group` meets its contract. The loop's invariant: the slaves of the mask are read as those from here on, behind what has been read. The measure is what is left of 24. Assumes nothing.
 use Prim.Native.Nat.{_-_, _+_}
 use mathlib.Core.Path.{_≡_, refl, sym, ap, _∙_}
 use borrow.Author.Needs.{needs}

@@ -18,8 +18,11 @@ Inv-loop words place i₀ i = isEmpty (drop place words) ≡ isEmpty (drop i wor
 abbrev μ-loop : tie.MeasureT-loop
 μ-loop words place i₀ i = length words - i
 
+past-fours-requires : tie.Need-past-fours-requires Inv-loop μ-loop
+past-fours-requires c κs = search needs
+
 loop-holds : tie.Need-loop-holds Inv-loop μ-loop
-loop-holds c = refl
+loop-holds c = sym (c .past-fours .ensures)
 
 mul-if1 : tie.Need-mul-if1 Inv-loop μ-loop
 mul-if1 c = search needs
@@ -30,7 +33,7 @@ shared-slice-read-if1 c = search needs
 returns : tie.Need-returns Inv-loop μ-loop
 returns c =
     let i = c .before .before .before .loop .i in
-    let ws = c .before .before .before .before .args .words .now in
+    let ws = c .before .before .before .before .before .before .args .words .now in
     sym (c .before .before .before .loop .inv ∙ empty-turn ws i (omega arith) ∙ sym (and-no _ (ne-eqb (getD ws i 0) 0xFFFF (omega arith))))
 
 add-i : tie.Need-add-i Inv-loop μ-loop
@@ -42,14 +45,14 @@ loop-less c = search needs
 loop-again : tie.Need-loop-again Inv-loop μ-loop
 loop-again c =
     let i = c .before .before .before .loop .i in
-    let ws = c .before .before .before .before .args .words .now in
+    let ws = c .before .before .before .before .before .before .args .words .now in
     c .before .before .before .loop .inv ∙ empty-turn ws i (omega arith) ∙ sym (and-yes (eq-eqb (getD ws i 0) 0xFFFF (omega arith)) refl)
 
 returns-2 : tie.Need-returns-2 Inv-loop μ-loop
 unfolding isEmpty
 returns-2 c =
     let i = c .before .loop .i in
-    let ws = c .before .before .args .words .now in
+    let ws = c .before .before .before .before .args .words .now in
     sym (c .before .loop .inv ∙ simp (drop-of-length-le ws {i = i} (omega arith)))
 
 pub is-blank-from-spec : {M : Type 1} → statement M
@@ -58,6 +61,7 @@ is-blank-from-spec =
     (tie.spec
     Inv-loop
     μ-loop
+    past-fours-requires
     loop-holds
     mul-if1
     shared-slice-read-if1
