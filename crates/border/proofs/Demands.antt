@@ -10,6 +10,7 @@ use Rattle.border.proofs.NeverCorrupted.{never-corrupted}
 use Rattle.border.proofs.Erasing.{erasure-follows, erases, flash-follows}
 use Rattle.border.proofs.GroupAsked.{group-is-asked}
 use Rattle.border.proofs.Groups.{group-is-its-fragments}
+use Rattle.border.proofs.Captures.{data-is-accepted}
 use Rattle.border.proofs.ClosedRun.{closed-run}
 use Rattle.border.proofs.OneSector.{one-sector, no-bit-rises}
 
@@ -25,6 +26,7 @@ demands =
       erases = erases;
       group-is-asked = group-is-asked;
       group-is-its-fragments = group-is-its-fragments;
+      data-is-accepted = data-is-accepted;
       closed-run = closed-run;
       no-stale-record = no-stale-record;
       lengths-shown = lengths-shown;

@@ -78,14 +78,14 @@ undropped-both link [] ds u = (tt, u)
 undropped-both link (c ∷ cs) ds u = let r = undropped-both link cs ds (u .1) in ((u .0, r .0), r .1)
 
 -- where entries lead, calls lead: those that are done, and replies and polls that the node too refuses
-record Carried (link : ℕ) (first : List ℕ) (es : List Event) (h : Host) (a : Answer) : Type 0 where
-  calls : List Call
-  kept : Undropped link calls
-  hears : (at : ℕ) (ss : List ℕ) → heards at ss calls ≡ heards at ss (callsOf es)
-  last : Answer
-  is : nodeHosted logodwen calls (inWords a h) ≡ inWords last (hosted entries es h)
-  holds : Holds first (hosted entries es h)
-  told : Told (hosted entries es h) last
+pub record Carried (link : ℕ) (first : List ℕ) (es : List Event) (h : Host) (a : Answer) : Type 0 where
+  pub calls : List Call
+  pub kept : Undropped link calls
+  pub hears : (at : ℕ) (ss : List ℕ) → heards at ss calls ≡ heards at ss (callsOf es)
+  pub last : Answer
+  pub is : nodeHosted logodwen calls (inWords a h) ≡ inWords last (hosted entries es h)
+  pub holds : Holds first (hosted entries es h)
+  pub told : Told (hosted entries es h) last
 
 -- while something is pending, both hosts go on; with nothing pending, both stand
 
@@ -217,9 +217,9 @@ carried link first (e ∷ es) h a k t c u = by (isPending (h .state)) refl
 
 -- a number that says to ask a slave is that of an answer that asks one
 
-record Asks (a : Answer) : Type 0 where
-  asking : Asking
-  is : a ≡ Answer.Ask asking
+pub record Asks (a : Answer) : Type 0 where
+  pub asking : Asking
+  pub is : a ≡ Answer.Ask asking
 
 says-ask : (number : ℕ) (a : Answer) → Says number a → number / 256 % 256 ≡ 2 → Asks a
 says-ask number (Answer.Refused r) s k = absurd s
@@ -236,19 +236,19 @@ ends-so f e = record { common = λ z q. f _ _ (e .common z q); whole = λ q. f _
 
 module _ (r : GroupRun entries) where
   -- the request, and where the host stood before it
-  abbrev request : Event
+  abbrev pub request : Event
   request = Event.Requested (r .clock) (r .link) (r .bc) (r .errors) (r .packet) (r .memories) (r .further)
 
-  abbrev before : Host
+  abbrev pub before : Host
   before = record { number = 0; state = r .state; flash = r .flash; buffer = r .buffer; asked = [] }
 
-  done : isDone (begun r .number) ≡ true
+  pub done : isDone (begun r .number) ≡ true
   done = eq-eqb (begun r .number % 256) 0 (r .asks .done)
 
-  made : Made (entryOf request (r .buffer)) (r .state) (r .flash)
+  pub made : Made (entryOf request (r .buffer)) (r .state) (r .flash)
   made = done-made (entryOf request (r .buffer)) (r .state) (r .flash) done
 
-  long : 24576 ≤ length (r .buffer)
+  pub long : 24576 ≤ length (r .buffer)
   long =
       let m = r .memories in
       let f =
@@ -256,7 +256,7 @@ module _ (r : GroupRun entries) where
       (length (m .io) / 2) (length (r .further .area) / 2) (length (r .buffer) / 2) (made .fine) in
       omega (arith, f .buffer)
 
-  holds : Holds (r .buffer) before
+  pub holds : Holds (r .buffer) before
   holds =
       record {
         stands = hosted-stands (r .has);
@@ -266,12 +266,12 @@ module _ (r : GroupRun entries) where
       }
 
   -- it asks, and so leaves the reply buffer
-  asks : Asks (does request before .turn .answer)
+  pub asks : Asks (does request before .turn .answer)
   asks =
       says-ask (begun r .number) (does request before .turn .answer)
       (nothing-cut (entryOf request (r .buffer)) (r .state) (r .flash) done .0) (r .asks .kind)
 
-  called : Called (r .buffer) (wordOf request) request before
+  pub called : Called (r .buffer) (wordOf request) request before
   called =
       let c = r .typed in
       done-called (r .buffer) request before holds (c .0, c .1, c .2, c .3, c .4, c .5, c .6, c .7, c .8, λ i. omega arith) done
@@ -280,11 +280,11 @@ module _ (r : GroupRun entries) where
       (lent (wordsOf 2 (r .flash)) (memoryWords (r .memories)) (furtherWords (r .further)) (replyWords (r .buffer))) (asks .asking) (asks .is)))
 
   -- the entries after it
-  run : Carried (r .link) (r .buffer) (r .events) (begun r) (called .answer)
+  pub run : Carried (r .link) (r .buffer) (r .events) (begun r) (called .answer)
   run = carried (r .link) (r .buffer) (r .events) (begun r) (called .answer) (called .holds) (called .told) (r .all-typed) (r .kept)
 
   -- the node's run that they are
-  abbrev nodes : NodeRun logodwen
+  abbrev pub nodes : NodeRun logodwen
   nodes =
       record {
         node = nodeIn (r .state);
@@ -302,10 +302,10 @@ module _ (r : GroupRun entries) where
         kept = run .kept;
       }
 
-  last-is : nodeLast nodes ≡ inWords (run .last) (atLast r)
+  pub last-is : nodeLast nodes ≡ inWords (run .last) (atLast r)
   last-is = ap (nodeHosted logodwen (run .calls)) (called .is (called .answer)) ∙ run .is
 
-  said-is : nodeSaid nodes ≡ said r
+  pub said-is : nodeSaid nodes ≡ said r
   said-is = run .hears (r .clock) (slaves r)
 
   asked-is : nodeLast nodes .asked ≡ atLast r .asked
@@ -346,7 +346,7 @@ module _ (r : GroupRun entries) where
       }
 
   module _ (all : length (said r) ≡ length (slaves r)) where
-    all-heard : length (nodeSaid nodes) ≡ length (slaves r)
+    pub all-heard : length (nodeSaid nodes) ≡ length (slaves r)
     all-heard = ap length said-is ∙ all
 
     pub fragments : EndsBy (Sends r) (slaves r) (said r) (statusIn (nodeIn (r .state)))

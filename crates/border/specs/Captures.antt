@@ -1,14 +1,17 @@
--- What a host in C is told of a captured group reply: 02, request 3. Assumes nothing.
-use Prim.Native.Nat.{ℕ}
+-- What a host in C is told of a captured group reply, and of one that it got itself: 02, request 3. Assumes nothing.
+use Prim.Native.Nat.{ℕ, _*_, _<_}
 use mathlib.Core.Path.{_≡_}
 use mathlib.Core.List.{List}
+use lib.ListN.{length, take}
 use Rattle.base.specs.Words.{Below}
 use Rattle.capture.specs.Acceptable.{Reads}
 use Rattle.capture.specs.Reader.{readOf}
 use Rattle.capture.specs.declared.Capture.{Capture}
 use Rattle.codec.specs.Bytes.{wordsOf}
 use Rattle.logodwen.specs.Number.{captureNumber}
+use Rattle.border.specs.Exactly.{Entries}
 use Rattle.border.specs.Answers.{InBits}
+use Rattle.border.specs.Groups.{GroupRun, atLast, set, slaves, said}
 
 -- The number that the entry answers, by its contract.
 abbrev pub captureEntry : ℕ → List ℕ → ℕ
@@ -29,3 +32,9 @@ pub record Tells (mask : ℕ) (bytes : List ℕ) (number : ℕ) : Type 0 where
 -- Of any mask and any bytes.
 abbrev pub CapturesRead : (ℕ → List ℕ → ℕ) → Type 0
 CapturesRead entry = (mask : ℕ) (bytes : List ℕ) → Below 256 bytes → Tells mask bytes (entry mask bytes)
+
+-- A group's reply that has words is accepted, with the set of slaves asked as its mask.
+abbrev pub DataIsAccepted : Entries → Type 0
+DataIsAccepted E =
+    (r : GroupRun E) → length (said r) ≡ length (slaves r)
+    → (bc n : ℕ) → InBits (atLast r .number) 1 bc 0 n → 0 < n → SaysCapture (captureEntry (set r) (take (n * 2) (atLast r .buffer))) Capture.Accepted

@@ -10,6 +10,7 @@ use Rattle.border.specs.ReadsBack.{ReadsBack}
 use Rattle.border.specs.NeverCorrupted.{NeverCorrupted}
 use Rattle.border.specs.Erasing.{ErasureFollows, Erases, FlashFollows}
 use Rattle.border.specs.Groups.{GroupIsAsked, GroupIsItsFragments}
+use Rattle.border.specs.Captures.{DataIsAccepted}
 use Rattle.border.specs.Flash.{OneSector, NoBitRises}
 use Rattle.border.specs.ClosedRun.{ClosedRun}
 
@@ -31,6 +32,8 @@ pub record Demands (E : Entries) : Type 0 where
   -- A group reply is its slaves' fragments in order, each slave of the set asked once; meanwhile no byte is stored past those built.
   pub group-is-asked : GroupIsAsked E
   pub group-is-its-fragments : GroupIsItsFragments E
+  -- Its data are accepted by the reader of captured replies.
+  pub data-is-accepted : DataIsAccepted E
   -- One run, worked out: start, File Write, File Read.
   pub closed-run : ClosedRun E
   -- 3 No stale record. After any sequence of entries, refused ones and half-done erasures included, the directory kept in the state bytes is

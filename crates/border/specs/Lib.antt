@@ -11,7 +11,7 @@ pub mod NeverCorrupted
 pub mod Writes
 pub mod Events
 pub mod Groups
+pub mod Captures
 pub mod ClosedRun
 pub mod Demands
 pub mod ShutOut
-pub mod Captures

@@ -2,16 +2,14 @@
 use Prim.Native.Nat.{ℕ, _+_, _*_, _≤_, _<_}
 use mathlib.Core.Path.{_≡_, sym, ap, subst, _∙_}
 use mathlib.Core.Bool.{Bool, true, _&&_, _||_}
-use mathlib.Core.List.{List, [], _∷_}
+use mathlib.Core.List.{List}
 use native.Mathlib.Omega.{arith}
 use borrow.Author.Tests.{ltb-true}
 use lib.Dec.{ltb, leb, eqb}
 use lib.ListN.{length, take, length-append}
 use Rattle.base.specs.Words.{laid}
-use Rattle.base.proofs.Pick.{and-left, and-right, pick-case}
-use Rattle.base.proofs.Part.{below-none}
+use Rattle.base.proofs.Pick.{and-left, and-right}
 use Rattle.base.proofs.Laid.{part-laid}
-use Rattle.group.specs.Time.{isLate}
 use Rattle.group.specs.Kind.{Answer as SlaveAnswer}
 use Rattle.group.specs.Tally.{tallyFrom}
 use Rattle.group.specs.Slaves.{hasSlave, above}
@@ -32,25 +30,8 @@ use Rattle.node.specs.declared.Answer.{Answer}
 use Rattle.node.specs.declared.Pending.{Pending}
 use Rattle.node.proofs.Ranges.{ranges-tell}
 use Rattle.demands.specs.Machine.{logodwen}
-use Rattle.demands.specs.Events.{Event, heards}
-use Rattle.demands.specs.Groups.{setAsked, begun, atLast, slaves, said, AreWire, DataIsAcceptable}
+use Rattle.demands.specs.Groups.{setAsked, GroupRun, AllHeard, begun, atLast, slaves, said, DataIsAcceptable}
 use Rattle.demands.proofs.Groups.{Over, begins, stands}
-
--- what is heard in such calls came over the wire
-heard-wire : (at : ℕ) (ss : List ℕ) (es : List Event) → AreWire es → AllOnWire (heards at ss es)
-unfolding heards AreWire AllOnWire
-heard-wire at [] es w = tt
-heard-wire at (s ∷ ss) [] w = tt
-heard-wire at (s ∷ ss) (Event.Requested clock link bc errors packet m x ∷ es) w = heard-wire at (s ∷ ss) es (w .1)
-heard-wire at (s ∷ ss) (Event.Replied clock slave bc errors status address words ∷ es) w =
-    let next : AllOnWire (heards clock ss es) = heard-wire clock ss es (w .1) in
-    let same : AllOnWire (heards at (s ∷ ss) es) = heard-wire at (s ∷ ss) es (w .1) in
-    pick-case AllOnWire (eqb s slave) (λ _. (record { status = w .0 .0; address = w .0 .1; words = w .0 .2 }, next)) (λ _. same)
-heard-wire at (s ∷ ss) (Event.Polled clock ∷ es) w =
-    let next : AllOnWire (heards clock ss es) = heard-wire clock ss es (w .1) in
-    let same : AllOnWire (heards at (s ∷ ss) es) = heard-wire at (s ∷ ss) es (w .1) in
-    pick-case AllOnWire (isLate clock at) (λ _. (record { status = omega arith; address = omega arith; words = below-none (omega arith) }, next)) (λ _. same)
-heard-wire at (s ∷ ss) (Event.Erased budget ∷ es) w = heard-wire at (s ∷ ss) es (w .1)
 
 -- the set of a pending group has 24 bits
 set-below : (ports link s at set from : ℕ) (b : Built) → pendingOk ports (Pending.Group (ask link s at) (gathering set from b)) ≡ true → set < 16777216
@@ -89,8 +70,13 @@ module _ (buffer : List ℕ) where
   sends-front ss hs own h l =
       subst (SendsFront buffer) (sym (group-sent buffer ss hs own h l)) (by-tally (assembled ss hs 0) (tallyFrom Tally.Nothing (kindsOf ss hs 0)) own)
 
-pub data-is-acceptable : DataIsAcceptable logodwen
-data-is-acceptable r all wire reply e n =
+-- the words that a group sent, and that there are as many as it says
+pub record SentData (r : GroupRun logodwen) (reply : Reply) : Type 0 where
+  pub acceptable : Acceptable (setAsked (r .node) (r .packet)) (take (reply .words) (atLast r .buffer))
+  pub size : length (take (reply .words) (atLast r .buffer)) ≡ reply .words
+
+pub sent-data : (r : GroupRun logodwen) → AllHeard r → AllOnWire (said r) → (reply : Reply) → atLast r .turn .answer ≡ Answer.Reply reply → 0 < reply .words → SentData r reply
+sent-data r all wire reply e n =
     let set : ℕ = setAsked (r .node) (r .packet) in
     let s = stands r in
     let b = begins r in
@@ -107,7 +93,7 @@ data-is-acceptable r all wire reply e n =
       slaves = is-mask set (s .some) below;
       said = said r;
       each = all;
-      wire = heard-wire (r .clock) (slaves r) (r .events) wire;
+      wire = wire;
       tests = r .node .given .«start_tests»;
       mode = r .node .mode;
       buffer = r .lent .reply;
@@ -115,7 +101,15 @@ data-is-acceptable r all wire reply e n =
       some = subst (λ (y : Sent). 0 < y .reply .words) sends some;
       sends = sends;
     } in
-    subst (Acceptable set) (ap (λ (y : Reply). take (y .words) (x .buffer)) same ∙ ap (take (reply .words)) (sym (o .buffer))) acceptable
+    let here : front x ≡ take (reply .words) (atLast r .buffer) =
+    ap (λ (y : Reply). take (y .words) (x .buffer)) same ∙ ap (take (reply .words)) (sym (o .buffer)) in
+    record {
+      acceptable = subst (Acceptable set) here acceptable;
+      size = ap length (sym here) ∙ sym (ap (λ (y : Sent). y .reply .words) sends) ∙ ap (λ (y : Reply). y .words) same;
+    }
   where
     same-reply : {p q : Reply} → Answer.Reply p ≡ Answer.Reply q → p ≡ q
     same-reply h = cc
+
+pub data-is-acceptable : DataIsAcceptable logodwen
+data-is-acceptable r all wire reply e n = sent-data r all wire reply e n .acceptable

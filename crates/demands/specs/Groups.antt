@@ -17,7 +17,7 @@ use Rattle.group.specs.declared.Kind.{Kind}
 use Rattle.group.specs.declared.Reply.{Reply}
 use Rattle.group.specs.declared.Tally.{Tally}
 use Rattle.group.specs.declared.ZeroLength.{ZeroLength}
-use Rattle.capture.specs.Acceptable.{Acceptable}
+use Rattle.capture.specs.Acceptable.{AllOnWire, Acceptable}
 use Rattle.node.specs.Refusals.{isAsked}
 use Rattle.node.specs.Route.{asking, firstByte, secondByte, maskIn}
 use Rattle.node.specs.Settings.{statusIn}
@@ -181,20 +181,10 @@ NothingPastTheWords M =
     (r : GroupRun M) → MoreToCome r
     → (i : ℕ) → length (fragments r) ≤ i → getD (atLast r .buffer) i 0 ≡ getD (r .lent .reply) i 0
 
--- What these calls brought over the wire are words of 16 bits, as those of a `&[u16]` are.
-abbrev pub IsWire : Event → Type 0
-IsWire (Event.Requested clock link bc errors packet m x) = Unit {0}
-IsWire (Event.Replied clock slave bc errors status address words) = (status < 65536) × (address < 65536) × Below 65536 words
-IsWire (Event.Polled clock) = Unit {0}
-IsWire (Event.Erased budget) = Unit {0}
-
-unfoldable pub AreWire : List Event → Type 0
-AreWire [] = Unit {0}
-AreWire (e ∷ es) = IsWire e × AreWire es
-
--- A group's reply that has data is acceptable to a reader of captured replies, with the set of slaves asked as its mask: 02, request 3.
+-- A group's reply that has data, its slaves' answers having come over the wire, is acceptable to a reader of captured replies, with the set
+-- of slaves asked as its mask: 02, request 3.
 abbrev pub DataIsAcceptable : Machine → Type 0
 DataIsAcceptable M =
-    (r : GroupRun M) → AllHeard r → AreWire (r .events)
+    (r : GroupRun M) → AllHeard r → AllOnWire (said r)
     → (reply : Reply) → atLast r .turn .answer ≡ Answer.Reply reply → 0 < reply .words
     → Acceptable (setAsked (r .node) (r .packet)) (take (reply .words) (atLast r .buffer))
