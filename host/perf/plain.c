@@ -1,5 +1,7 @@
 #include "plain.h"
 
+#include <string.h>
+
 static uint16_t table[256];
 
 static void fill_table(void) {
@@ -69,8 +71,15 @@ size_t plain_sector_size(size_t flash, size_t sector) { return sector == 3 ? fla
 
 uint16_t plain_sector_address(size_t sector) { return (uint16_t)(sector == 3 ? 0x200 : (sector - 3) * 0x400); }
 
+/* Four words at a time, as the best plain C does: most of a flash is blank. */
 bool plain_is_empty(const uint16_t *sector, size_t n) {
-    for (size_t i = 0; i < n; i++)
+    size_t i = 0;
+    for (uint64_t four; i + 4 <= n; i += 4) {
+        memcpy(&four, sector + i, sizeof four);
+        if (four != UINT64_MAX)
+            return false;
+    }
+    for (; i < n; i++)
         if (sector[i] != 0xFFFF)
             return false;
     return true;
