@@ -1,4 +1,5 @@
-/* Forwards a request to a group of slaves and prints the group's reply. The slaves are nodes too, in this same program. */
+/* Forwards a request to a group of slaves and prints the group's reply. The slaves are nodes too, in this same program; slave 7 sends its
+   reply in packets. */
 #include "logodwen.h"
 #include <stdio.h>
 
@@ -10,19 +11,40 @@ static void start(struct logodwen_node *node, uint32_t kind) {
     logodwen_node_start(node, &given);
 }
 
+/* What a slave says to what it is sent: its whole reply; but slave 7 says two words of it, and two more to each NEXT. */
+static struct logodwen_packet say(unsigned slave, const struct logodwen_packet *sent) {
+    static const uint8_t *rest; /* of the reply: what is not said yet, and how many words that is */
+    static size_t left;
+    struct logodwen_packet said = {NULL, 0, 0};
+    if (sent->words != 0) { /* the request: NEXT has no words */
+        rest = slaves[slave].reply;
+        left = logodwen_words(logodwen_node_send(&slaves[slave], 0, 0, sent->bytes, sent->words));
+        said.bc |= LOGODWEN_BC_FIRST;
+    }
+    said.bytes = rest;
+    said.words = slave == 7 && left > 2 ? 2 : left;
+    rest += 2 * said.words;
+    left -= said.words;
+    if (left == 0) said.bc |= LOGODWEN_BC_LAST;
+    return said;
+}
+
 int main(void) {
-    uint8_t packet[10]; /* to slaves 5 and 7: Mode Read; kept until the reply */
-    size_t words = logodwen_make_to_slaves(packet, 1u << 5 | 1u << 7);
-    words += logodwen_make_mode_read(packet + 2 * words);
+    const uint8_t data[8] = {1, 0, 2, 0, 3, 0, 4, 0};
+    uint8_t request[14]; /* to slaves 5 and 7: Ping with four words; kept until the reply */
+    size_t words = logodwen_make_to_slaves(request, 1u << 5 | 1u << 7);
+    words += logodwen_make_ping(request + 2 * words, 5, data, 4);
     start(&master, LOGODWEN_CDDC);
     for (unsigned i = 0; i < LOGODWEN_SLAVES; i++) start(&slaves[i], LOGODWEN_CDP);
 
-    uint64_t answered = logodwen_node_send(&master, 0, 0, packet, words);
-    while (logodwen_answer(answered) == LOGODWEN_ASK) {
-        unsigned slave = logodwen_slave(answered), from = logodwen_from(answered);
-        uint64_t said = logodwen_node_send(&slaves[slave], 0, 0, packet + 2 * from, words - from); /* what it was sent, from there on */
-        printf("asked slave %u: %s\n", slave, logodwen_reply_text(said));
-        answered = logodwen_node_reply(&master, 0, slave, logodwen_bc(said), 0, 0, 0, slaves[slave].reply, logodwen_words(said));
+    uint64_t answered = logodwen_node_send(&master, 0, 0, request, words);
+    struct logodwen_packet sent, said;
+    while (logodwen_to_send(answered, request, words, &sent)) {
+        unsigned slave = logodwen_slave(answered);
+        said = say(slave, &sent);
+        printf("%s slave %u: %zu words with BC %u%u\n", sent.words != 0 ? "request to" : "NEXT to", slave, said.words,
+               (unsigned)said.bc >> 1, (unsigned)said.bc & 1);
+        answered = logodwen_node_reply(&master, 0, slave, said.bc, 0, 0, 0, said.bytes, said.words);
     }
 
     words = logodwen_words(answered);

@@ -1,6 +1,6 @@
 /* logodwen.h: the reference node for a host in C (liblogodwen.a).
 
-   A node is a state machine without memory of its own: the host keeps the node's state as 180 bytes, its flash and its memories as
+   A node is a state machine without memory of its own: the host keeps the node's state as 188 bytes, its flash and its memories as
    runs of bytes, and lends them to each call. There are five calls, and two entries that need no node:
 
        logodwen_start      a node starts on a flash
@@ -22,12 +22,14 @@
    - Before the first start the state bytes are zero: zero is no node's state, and every other call refuses it.
    - The runs lent to one call do not overlap. No entry can test that. Apart from that they may stand anywhere; none must be aligned.
    - A run of no bytes may be lent as NULL with length 0.
-   - While a group is pending (an answer was LOGODWEN_ASK), the words from 0 on of the reply buffer hold what was gathered so far, and
-     the host leaves them as they are until the answer LOGODWEN_REPLY comes. The reply buffer is zeroed at power-up.
+   - While a group is pending (an answer was LOGODWEN_ASK or LOGODWEN_SEND_NEXT), the words from 0 on of the reply buffer hold what was
+     gathered so far: the fragments of the slaves that are done and, where the slave now asked answers in packets, those of its packets
+     that have come, from one word behind the fragments on. The host leaves the buffer as it is until the answer LOGODWEN_REPLY comes.
+     The reply buffer is zeroed at power-up.
    - While a file comes in several packets (an answer was NEXT), the words from 0 on of the area hold what was joined so far, and the host
      leaves the area as it is until the last packet is answered or the file is dropped. Every request is lent the area.
    - The host keeps the request that made the node ask a slave: it sends it on to each slave that the node asks, from the word that
-     the answer tells. The node does not keep it.
+     the answer tells. The node does not keep it. A slave that is to be sent NEXT gets no word of it (logodwen_to_send).
 
    Threads: the library has no global variables, keeps nothing between calls and allocates nothing. Calls on different runs may go on
    at the same time in different threads; calls that share a run (the state above all) may not.
@@ -36,7 +38,8 @@
    clears the others. The five calls and logodwen_capture take lengths in bytes (`_len`); bytes that are not a whole word at the end of a
    run are ignored, and stay as they are. The helpers count in words (`words`, `count`, `room`).
 
-   Times are in ticks of 10 ms and count modulo 2^32. A slave that has not answered 60 ticks after it was asked is late. */
+   Times are in ticks of 10 ms and count modulo 2^32. A slave that has not answered 60 ticks after it was asked, or sent
+   NEXT, is late. */
 #ifndef LOGODWEN_H
 #define LOGODWEN_H
 
@@ -50,10 +53,10 @@ extern "C" {
 #endif
 
 /* The version of this interface. It is part of every symbol, so a host that was compiled against another version does not link. */
-#define LOGODWEN_VERSION 2
+#define LOGODWEN_VERSION 3
 
 /* Sizes. */
-#define LOGODWEN_STATE_BYTES 180u         /* of a node's state, exactly; the layout is at the end of this file */
+#define LOGODWEN_STATE_BYTES 188u         /* of a node's state, exactly; the layout is at the end of this file */
 #define LOGODWEN_FLASH_WORDS 32768u       /* of the flash, exactly */
 #define LOGODWEN_FLASH_BYTES 65536u
 #define LOGODWEN_REPLY_WORDS 12288u       /* of the reply buffer, at least */
@@ -68,7 +71,7 @@ extern "C" {
 #define LOGODWEN_IO_BYTES 8192u
 #define LOGODWEN_REQUEST_WORDS 8192u      /* of a packet of a request that is not answered ERROR, at most */
 #define LOGODWEN_REQUEST_BYTES 16384u
-#define LOGODWEN_SLAVE_REPLY_WORDS 32768u /* of a slave's reply, at most */
+#define LOGODWEN_SLAVE_REPLY_WORDS 32768u /* of a packet of a slave's reply, at most */
 #define LOGODWEN_SLAVE_REPLY_BYTES 65536u
 #define LOGODWEN_FILE_WORDS 4096u         /* of a file that finds a sector, at most */
 #define LOGODWEN_SLAVES 24u
@@ -83,14 +86,15 @@ extern "C" {
 #define LOGODWEN_STACK_POLL 4096u
 #define LOGODWEN_STACK_ERASE 4096u
 #define LOGODWEN_STACK_FCS 4096u
-#define LOGODWEN_STACK_CAPTURE 28672u
+#define LOGODWEN_STACK_CAPTURE 4096u
 
 /* The kinds of node. */
 #define LOGODWEN_CDP 1u  /* has no slaves */
 #define LOGODWEN_CDDC 2u /* forwards to slaves 0 to 23 */
 
 /* BC, the two bits that come with a packet. Bit 1 (BC1) marks the first packet of a block, bit 0 (BC2) the last. A packet with words
-   that is a whole block has 3; a File Write may come as a block of several. A packet of no words says one of four things by its BC. */
+   that is a whole block has 3; a File Write may come as a block of several, and so may a slave's reply to a group. A packet of no words
+   says one of four things by its BC. */
 #define LOGODWEN_BC_WHOLE 3u
 #define LOGODWEN_BC_FIRST 2u
 #define LOGODWEN_BC_MIDDLE 0u
@@ -108,18 +112,20 @@ extern "C" {
 #define LOGODWEN_REFUSED_MEMORY_SIZE 3u /* PM or DM above 8,192 words, IO above 4,096, or a slave's reply above 32,768 */
 #define LOGODWEN_REFUSED_AREA_SIZE 8u   /* the area is below 32,768 words: tested here, between 3 and 4 */
 #define LOGODWEN_REFUSED_NUMBER 4u      /* a link that is no port; a slave above 23; at start a kind, ports or sub-detector that is none */
-#define LOGODWEN_REFUSED_STATE 5u       /* the state bytes are not 180, or not those of a node's state */
+#define LOGODWEN_REFUSED_STATE 5u       /* the state bytes are not 188, or not those of a node's state */
 #define LOGODWEN_REFUSED_BUSY 6u        /* a request with words, while a request is pending */
 #define LOGODWEN_REFUSED_UNASKED 7u     /* a reply or a poll with nothing pending, or a reply from a slave that is not being asked */
 
-/* What a call that is not refused answers: see logodwen_answer and those below it. */
-#define LOGODWEN_REPLY 1u    /* a reply to the master stands in the reply buffer, or has no words */
-#define LOGODWEN_ASK 2u      /* a slave is to be sent the request, from some word on */
-#define LOGODWEN_WAITING 3u  /* poll only: the slave is not late yet */
-#define LOGODWEN_ACCEPTED 4u /* capture only: the words are a group's reply */
-#define LOGODWEN_BROKEN 5u   /* capture only: they are none, from some word on */
+/* What a call that is not refused answers: see logodwen_answer and those below it. 6 and 7 are no answers. */
+#define LOGODWEN_REPLY 1u     /* a reply to the master stands in the reply buffer, or has no words */
+#define LOGODWEN_ASK 2u       /* a slave is to be sent the request, from some word on */
+#define LOGODWEN_WAITING 3u   /* poll only: the slave is not late yet */
+#define LOGODWEN_ACCEPTED 4u  /* capture only: the words are a group's reply */
+#define LOGODWEN_BROKEN 5u    /* capture only: they are none, from some word on */
+#define LOGODWEN_SEND_NEXT 8u /* reply only: the slave that is being asked is to be sent NEXT, a packet of no words with BC 0, since its
+                                 reply comes in packets; what it answers to that is given to the next logodwen_reply */
 
-/* The entries. Names that begin with logodwen2_ are the symbols of the archive; a host writes the short names below. */
+/* The entries. Names that begin with logodwen3_ are the symbols of the archive; a host writes the short names below. */
 
 /* Starts a node on a flash: reads all of it once, and writes the state. Mask 0 of a CDDC then names all 24 slaves, and a host that wants
    it empty writes zero (logodwen_make_mask_write); its masks 1 to 15, and all masks of a CDP, are 0. Answers 0, or why it is refused: 1,
@@ -131,7 +137,7 @@ extern "C" {
                            two words that the node's status tells
      start_tests           results of the tests at start, bits 11 to 8; other bits are ignored
      clock                 the time now */
-uint32_t logodwen2_start(uint32_t kind, uint32_t ports, uint32_t subdetector,
+uint32_t logodwen3_start(uint32_t kind, uint32_t ports, uint32_t subdetector,
                          uint16_t program_version, uint16_t subdetector_version, uint16_t start_tests,
                          uint32_t clock,
                          const uint8_t *flash, size_t flash_len,
@@ -152,7 +158,7 @@ uint32_t logodwen2_start(uint32_t kind, uint32_t ports, uint32_t subdetector,
    words that it brings; the last is answered as a File Write of them all. At most one file comes so at a time, and requests of other
    links go on meanwhile. It is dropped, and nothing of it stored, where it gets longer than 32,768 words (ABORT), by a packet with words
    and BC 2 or 3 from its link (ERROR), or by one of no words and BC 2 (END). */
-uint64_t logodwen2_request(uint32_t now, uint32_t link, uint32_t bc, uint32_t receive_error,
+uint64_t logodwen3_request(uint32_t now, uint32_t link, uint32_t bc, uint32_t receive_error,
                            const uint8_t *packet, size_t packet_len,
                            uint8_t *state, size_t state_len,
                            uint8_t *flash, size_t flash_len,
@@ -162,31 +168,36 @@ uint64_t logodwen2_request(uint32_t now, uint32_t link, uint32_t bc, uint32_t re
                            uint8_t *area, size_t area_len,
                            uint8_t *reply, size_t reply_len);
 
-/* A packet from the slave that is being asked. Refused: 2, 3, 4, 5 or 7. Answers a reply or asks the next slave.
+/* A packet from the slave that is being asked. Refused: 2, 3, 4, 5 or 7. Answers a reply, asks the next slave, or has this one sent NEXT.
      slave                 the slave it came from, 0 to 23
      bc, receive_error     as above
-     rx_status, rx_address two words of the receiver, told in the group's reply where something was wrong */
-uint64_t logodwen2_reply(uint32_t now, uint32_t slave, uint32_t bc, uint32_t receive_error,
+     rx_status, rx_address two words of the receiver, told in the group's reply where something was wrong
+   In a group a slave's reply may come in several packets: the first with BC 2, others with BC 0, the last with BC 1. Each but the last is
+   answered LOGODWEN_SEND_NEXT, and its words stand in the reply buffer behind the fragments; the slave is sent NEXT, and has 60 ticks anew.
+   The last is answered as if all the words had come in one, with the FCS at their very end. Where something is wrong with a packet, the
+   reply is over: the fragment says what it was (LOGODWEN_CODE_..), and the next slave is asked. What had come of it stays in the buffer and
+   counts as nothing. A single slave's packet goes to the master as it is, whatever its BC, and the request is over. */
+uint64_t logodwen3_reply(uint32_t now, uint32_t slave, uint32_t bc, uint32_t receive_error,
                          uint16_t rx_status, uint16_t rx_address,
                          const uint8_t *packet, size_t packet_len,
                          uint8_t *state, size_t state_len,
                          uint8_t *reply, size_t reply_len);
 
-/* Time went by while a slave is being asked. Refused: 2, 5 or 7. Answers that the node waits; or the slave is late, and it answers a
-   reply or asks the next slave. */
-uint64_t logodwen2_poll(uint32_t now,
+/* Time went by while a slave is being asked. Refused: 2, 5 or 7. Answers that the node waits; or the slave is late, after NEXT too, and it
+   answers a reply or asks the next slave. */
+uint64_t logodwen3_poll(uint32_t now,
                         uint8_t *state, size_t state_len,
                         uint8_t *reply, size_t reply_len);
 
 /* Goes on with an erasure that a request began: sets up to `budget` words of the sector to FFFF, from its low end. Refused: 1 or 5.
    Answers how many words it set (logodwen_words); 0 where the budget is 0 or nothing is being erased. */
-uint64_t logodwen2_erase(uint64_t budget,
+uint64_t logodwen3_erase(uint64_t budget,
                          uint8_t *state, size_t state_len,
                          uint8_t *flash, size_t flash_len);
 
 /* The check sequence (FCS) of the words of bytes: polynomial 0x1021, start 0xFFFF, high byte of each word first. A last byte alone is
    ignored. */
-uint16_t logodwen2_fcs(const uint8_t *bytes, size_t len);
+uint16_t logodwen3_fcs(const uint8_t *bytes, size_t len);
 
 /* Whether words that some node sent are a group's reply, by the rules by which this node assembles one. It is never refused, changes
    nothing, and needs no node. Answers LOGODWEN_ACCEPTED: answers of the slaves exist from which this node assembles just these words, and
@@ -196,17 +207,17 @@ uint16_t logodwen2_fcs(const uint8_t *bytes, size_t len);
      mask                  the slaves that were asked, bit s for slave s. An empty one, or one with a bit above 23, has no reply: broken at 0
      words                 the reply, status word and FCS included. No words are broken at 0: where every slave answers the same without
                            words, that answer is the group's reply, and it has no fragments */
-uint64_t logodwen2_capture(uint32_t mask, const uint8_t *words, size_t words_len);
+uint64_t logodwen3_capture(uint32_t mask, const uint8_t *words, size_t words_len);
 
-#define logodwen_start logodwen2_start
-#define logodwen_request logodwen2_request
-#define logodwen_reply logodwen2_reply
-#define logodwen_poll logodwen2_poll
-#define logodwen_erase logodwen2_erase
-#define logodwen_capture logodwen2_capture
+#define logodwen_start logodwen3_start
+#define logodwen_request logodwen3_request
+#define logodwen_reply logodwen3_reply
+#define logodwen_poll logodwen3_poll
+#define logodwen_erase logodwen3_erase
+#define logodwen_capture logodwen3_capture
 
 /* The same of so many words. It ends a segment's body and every reply that has words. */
-static inline uint16_t logodwen_fcs(const uint8_t *bytes, size_t words) { return logodwen2_fcs(bytes, 2 * words); }
+static inline uint16_t logodwen_fcs(const uint8_t *bytes, size_t words) { return logodwen3_fcs(bytes, 2 * words); }
 
 /* ---- What was answered, taken apart. A call that is refused has no other part. ---- */
 
@@ -216,8 +227,8 @@ static inline uint16_t logodwen_fcs(const uint8_t *bytes, size_t words) { return
 /* Why the call was refused, or LOGODWEN_DONE. */
 static inline unsigned logodwen_refusal(uint64_t answered) { return (unsigned)(answered & 0xFFu); }
 
-/* LOGODWEN_REPLY, LOGODWEN_ASK or LOGODWEN_WAITING, of logodwen_capture LOGODWEN_ACCEPTED or LOGODWEN_BROKEN; 0 of a call that was
-   refused, and of logodwen_erase. */
+/* LOGODWEN_REPLY, LOGODWEN_ASK, LOGODWEN_SEND_NEXT or LOGODWEN_WAITING, of logodwen_capture LOGODWEN_ACCEPTED or LOGODWEN_BROKEN; 0 of a
+   call that was refused, and of logodwen_erase. */
 static inline unsigned logodwen_answer(uint64_t answered) { return (unsigned)(answered >> 8 & 0xFFu); }
 
 /* Of LOGODWEN_REPLY: its BC. Else LOGODWEN_NONE. */
@@ -235,14 +246,44 @@ static inline uint32_t logodwen_place(uint64_t answered) {
     return logodwen_answer(answered) == LOGODWEN_BROKEN ? (uint32_t)(answered >> 32) : LOGODWEN_NONE;
 }
 
-/* Of LOGODWEN_ASK: the slave. Else LOGODWEN_NONE. */
+/* Of LOGODWEN_ASK and LOGODWEN_SEND_NEXT: the slave. Else LOGODWEN_NONE. */
 static inline unsigned logodwen_slave(uint64_t answered) {
-    return logodwen_answer(answered) == LOGODWEN_ASK ? (unsigned)(answered >> 16 & 0xFFu) : LOGODWEN_NONE;
+    unsigned answer = logodwen_answer(answered);
+    return answer == LOGODWEN_ASK || answer == LOGODWEN_SEND_NEXT ? (unsigned)(answered >> 16 & 0xFFu) : LOGODWEN_NONE;
 }
 
 /* Of LOGODWEN_ASK: the word of the request from which it is sent on, 1 or 2. Else LOGODWEN_NONE. */
 static inline unsigned logodwen_from(uint64_t answered) {
     return logodwen_answer(answered) == LOGODWEN_ASK ? (unsigned)(answered >> 24 & 0xFFu) : LOGODWEN_NONE;
+}
+
+/* A packet to be sent: its words and its BC. */
+struct logodwen_packet {
+    const uint8_t *bytes; /* NULL where it has no words */
+    size_t words;
+    uint32_t bc;
+};
+
+/* What the slave is to be sent: of LOGODWEN_ASK the request that the host keeps, from the word on that the answer tells; of
+   LOGODWEN_SEND_NEXT no words, with BC 0. False of any other answer, and of a request with no word from there on, which is not the one
+   that made the node ask; `packet` is left then. So the loop over a group is one, however its slaves answer (examples/group.c):
+
+       while (logodwen_to_send(answered, request, words, &packet)) {
+           .. send `packet` to slave logodwen_slave(answered)
+           .. answered = what logodwen_reply answers to its packet, or logodwen_poll where it no longer says LOGODWEN_WAITING
+       } */
+static inline bool logodwen_to_send(uint64_t answered, const uint8_t *request, size_t words, struct logodwen_packet *packet) {
+    const struct logodwen_packet next = {NULL, 0, LOGODWEN_BC_NEXT};
+    size_t from = logodwen_from(answered);
+    if (logodwen_answer(answered) == LOGODWEN_SEND_NEXT) {
+        *packet = next;
+        return true;
+    }
+    if (logodwen_answer(answered) != LOGODWEN_ASK || from >= words) return false;
+    packet->bytes = request + 2 * from;
+    packet->words = words - from;
+    packet->bc = LOGODWEN_BC_WHOLE;
+    return true;
 }
 
 /* A refusal as text. */
@@ -261,7 +302,7 @@ static inline const char *logodwen_refusal_text(unsigned refusal) {
     }
 }
 
-/* Whether the answer is NEXT: the node waits for the next packet of a file. */
+/* Whether the answer is a reply to the master that says NEXT: the node waits for the next packet of a file. */
 static inline bool logodwen_is_next(uint64_t answered) {
     return logodwen_bc(answered) == LOGODWEN_BC_NEXT && logodwen_words(answered) == 0;
 }
@@ -308,7 +349,7 @@ struct logodwen_node {
     size_t pm_len, dm_len, io_len; /* in bytes */
 };
 
-/* What is given at start: see logodwen2_start. */
+/* What is given at start: see logodwen3_start. */
 struct logodwen_given {
     uint32_t kind, ports, subdetector;
     uint16_t program_version, subdetector_version, start_tests;
@@ -878,18 +919,22 @@ static inline uint32_t logodwen_read_named(const uint8_t *reply, size_t words, u
 }
 
 /* What became of a slave in a group: bits 15-11 of its fragment's status word, DAT worth 10 hex and then the code. */
-#define LOGODWEN_CODE_NEXT 0x01u      /* it answered NEXT */
-#define LOGODWEN_CODE_ABORT 0x02u     /* .. ABORT */
-#define LOGODWEN_CODE_ERROR 0x03u     /* .. ERROR */
-#define LOGODWEN_CODE_END 0x04u       /* .. END */
-#define LOGODWEN_CODE_LATE 0x05u      /* it had not answered within 60 ticks */
-#define LOGODWEN_CODE_ERRORS 0x06u    /* its answer came with receive errors */
-#define LOGODWEN_CODE_WHOLE 0x10u     /* its data are there */
-#define LOGODWEN_CODE_NOT_FIRST 0x11u /* its packet was not the first of a block (BC1 clear) */
-#define LOGODWEN_CODE_NO_ROOM 0x12u   /* its data had no room */
-#define LOGODWEN_CODE_ONE_WORD 0x13u  /* its reply had one word, so no tail */
+#define LOGODWEN_CODE_NEXT 0x01u           /* it answered NEXT */
+#define LOGODWEN_CODE_ABORT 0x02u          /* .. ABORT */
+#define LOGODWEN_CODE_ERROR 0x03u          /* .. ERROR */
+#define LOGODWEN_CODE_END 0x04u            /* .. END */
+#define LOGODWEN_CODE_LATE 0x05u           /* it had not answered within 60 ticks */
+#define LOGODWEN_CODE_ERRORS 0x06u         /* its answer, or a later packet of it, came with receive errors */
+#define LOGODWEN_CODE_WHOLE 0x10u          /* its data are there, from one packet or several */
+#define LOGODWEN_CODE_NOT_FIRST 0x11u      /* its packet was not the first of a block (BC1 clear) */
+#define LOGODWEN_CODE_NO_ROOM 0x12u        /* its data had no room */
+#define LOGODWEN_CODE_ONE_WORD 0x13u       /* its reply had one word, so no tail */
 #define LOGODWEN_CODE_WRONG_FCS 0x15u
-#define LOGODWEN_CODE_NOT_LAST 0x19u  /* its packet was not the last of a block (BC 10) */
+#define LOGODWEN_CODE_NEXT_LATE 0x16u      /* its reply came in packets: the next was not there within 60 ticks of NEXT */
+#define LOGODWEN_CODE_NEXT_EMPTY 0x17u     /* .. it answered NEXT without words */
+#define LOGODWEN_CODE_NEXT_FIRST 0x18u     /* .. a later packet was the first of a block again (BC1 set) */
+#define LOGODWEN_CODE_PACKET_NO_ROOM 0x1Au /* .. the words so far had no room */
+#define LOGODWEN_CODE_JOINED_FCS 0x1Cu     /* .. all came, and the FCS at the end is wrong */
 
 /* A slave's fragment of a group's reply. What its code does not have is 0. */
 struct logodwen_fragment {
@@ -897,9 +942,9 @@ struct logodwen_fragment {
     unsigned slave_status;     /* of WHOLE and NO_ROOM: bits 10-5 of the slave's own status word, in their place */
     const uint8_t *data;       /* of WHOLE, in the reply; else NULL */
     size_t data_words;
-    unsigned rx_status;        /* of ERRORS and of codes above WHOLE: what the receiver said */
+    unsigned rx_status;        /* of ERRORS and of codes above WHOLE: what the receiver said of the last packet that came in time */
     unsigned rx_address;       /* of ERRORS */
-    unsigned reply_words;      /* of codes above WHOLE: the length of the slave's reply, FFFF if more, and its first word */
+    unsigned reply_words;      /* of codes above WHOLE: the words of the slave's reply that had come, FFFF if more, and the first of them */
     unsigned first_word;
 };
 
@@ -917,7 +962,11 @@ static inline bool logodwen_code_has(unsigned code, size_t words) {
     case LOGODWEN_CODE_NO_ROOM:
     case LOGODWEN_CODE_ONE_WORD:
     case LOGODWEN_CODE_WRONG_FCS:
-    case LOGODWEN_CODE_NOT_LAST: return words == 3;
+    case LOGODWEN_CODE_NEXT_LATE:
+    case LOGODWEN_CODE_NEXT_EMPTY:
+    case LOGODWEN_CODE_NEXT_FIRST:
+    case LOGODWEN_CODE_PACKET_NO_ROOM:
+    case LOGODWEN_CODE_JOINED_FCS: return words == 3;
     default: return false;
     }
 }
@@ -935,7 +984,11 @@ static inline const char *logodwen_code_text(unsigned code) {
     case LOGODWEN_CODE_NO_ROOM: return "no room";
     case LOGODWEN_CODE_ONE_WORD: return "one word";
     case LOGODWEN_CODE_WRONG_FCS: return "wrong FCS";
-    case LOGODWEN_CODE_NOT_LAST: return "not the last packet";
+    case LOGODWEN_CODE_NEXT_LATE: return "late after NEXT";
+    case LOGODWEN_CODE_NEXT_EMPTY: return "empty after NEXT";
+    case LOGODWEN_CODE_NEXT_FIRST: return "first packet again";
+    case LOGODWEN_CODE_PACKET_NO_ROOM: return "no room for a packet";
+    case LOGODWEN_CODE_JOINED_FCS: return "wrong FCS of the joined reply";
     default: return "no code";
     }
 }
@@ -973,7 +1026,8 @@ static inline size_t logodwen_read_fragment(const uint8_t *reply, size_t words, 
 }
 
 /* ---- The state bytes, low byte first, for a host that wants to look into them, keep them or send them. What a case does not use is 0, and
-   bytes that are not as told here are refused by 5. Their form belongs to LOGODWEN_VERSION. ---- */
+   bytes that are not as told here are refused by 5. Their form belongs to LOGODWEN_VERSION: a state that was kept from version 2, which has
+   180 bytes, is one of version 3 with eight bytes 0 behind it. ---- */
 #define LOGODWEN_AT_KIND 0u                 /* 1 byte: 1 or 2 */
 #define LOGODWEN_AT_PORTS 1u                /* 1: 1 to 4 */
 #define LOGODWEN_AT_SUBDETECTOR 2u          /* 1: 0 to 7 */
@@ -993,7 +1047,7 @@ static inline size_t logodwen_read_fragment(const uint8_t *reply, size_t words, 
 #define LOGODWEN_AT_FROM 30u                /* 1: group: the word from which the request is sent on, 1 or 2 */
 #define LOGODWEN_AT_TALLY 31u               /* 1: group: 0 no reply yet; all 1 NEXT, 2 ABORT, 3 ERROR, 4 END, 5 data; 6 mixed */
 #define LOGODWEN_AT_ASKED 32u               /* 4: group: the slaves, bit s for slave s */
-#define LOGODWEN_AT_ASKED_AT 36u            /* 4: pending: the time when the slave was asked */
+#define LOGODWEN_AT_ASKED_AT 36u            /* 4: pending: the time when the slave was asked, or sent NEXT */
 #define LOGODWEN_AT_BUILT 40u               /* 4: group: words gathered so far */
 #define LOGODWEN_AT_MASKS 44u               /* 64: masks 0 to 15, four bytes each, bit s for slave s */
 #define LOGODWEN_AT_DIRECTORY 108u          /* 64: four words for each of the sectors 3 to 10, as Summary answers them: first word, address,
@@ -1001,6 +1055,9 @@ static inline size_t logodwen_read_fragment(const uint8_t *reply, size_t words, 
 #define LOGODWEN_AT_WRITE 172u              /* 1: 1 if a file comes in several packets, else 0 */
 #define LOGODWEN_AT_WRITE_LINK 173u         /* 1: .. its link; the bytes 174 and 175 are 0 */
 #define LOGODWEN_AT_JOINED 176u             /* 4: .. words joined so far, at most 32,768 */
+#define LOGODWEN_AT_RECEIVED 180u           /* 4: group: words of the asked slave's reply that have come in packets so far; with those gathered,
+                                               five for each slave to come and two more they are at most 12,288 */
+#define LOGODWEN_AT_RX_STATUS 184u          /* 2: .. RX status of the last of its packets, 0 where none has come; the bytes 186 and 187 are 0 */
 
 #ifdef __cplusplus
 }

@@ -141,6 +141,8 @@ class Bench:
         kind, rest = answer[0], answer[1:]
         if kind == "ask":
             return ["ASK", str(rest[0])] + ["%04X" % word for word in self.held[rest[1]:]]
+        if kind == "next":
+            return ["SEND NEXT", str(rest[0])]
         if kind != "reply":
             return [kind.upper()] + [str(number) for number in rest]
         bc, words = rest

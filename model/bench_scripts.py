@@ -72,6 +72,31 @@ def long_writes():
     yield fields(0, 3, b"0C2E")
 
 
+def in_packets(slave, run, *ends):
+    """A slave's reply in packets that end at some places and at its own end."""
+    for at, end in zip((0, *ends), (*ends, len(run))):
+        bc = (2 if at == 0 else 0) | (1 if end == len(run) else 0)
+        yield fields(b"reply", slave, bc, 0, b"00%02X" % bc, b"2222", *words(run[at:end]))
+
+
+def long_replies():
+    """Replies in packets that just have room, whole or not, and such as have none, by their first packet, a middle one or the last."""
+    data = [word * 30011 % 65536 for word in range(40000)]
+    for length in (12280, 12281, 12282, 39000):  # 12,281 words fit, with a slave more to ask
+        run = sealed(data[:length - 1])
+        for ends in ((1,), (6000,), (length - 1,), (5000, 12281), (12281,), (12282,)):
+            if ends[-1] >= length:
+                continue
+            yield fields(0, 3, b"A023", b"0000", b"0D2E")
+            yield from in_packets(5, run, *ends)
+            yield fields(0, 3, b"0C2E")
+            yield from in_packets(7, sealed(data[:3]), 1, 2)
+            yield fields(0, 2)
+    yield fields(0, 3, b"002A", b"0D2E")
+    for slave in range(24):
+        yield from in_packets(slave, sealed(data[slave:slave + 500]), *range(50 + slave, 490, 50 + slave))
+
+
 def odd_lines(pick):
     """Lines of the right shape, most of them what the node waits for, and lines with a byte changed, put in or left out."""
     bench = Bench()
@@ -80,6 +105,7 @@ def odd_lines(pick):
         lambda: fields(writing(bench, pick), pick.choice((0, 0, 0, 1, 1)), *words(pick.choice((file_part(pick), packet(pick)[1:])))),
         lambda: fields(pick.randrange(4), 2, b"452E", *words(file_part(pick))),
         lambda: fields(b"reply", asked(bench, pick), pick.randrange(4), pick.choice((0, 0, 0, 1)), b"00FF", b"abcd", *words(answer(pick))),
+        lambda: fields(b"reply", asked(bench, pick), packet_bc(bench, pick), 0, b"%04X" % pick.randrange(9), b"abcd", *words(piece(bench, pick))),
         lambda: b"poll",
         lambda: fields(b"erase", pick.choice((0, 1, 100, 1000, 4096, 2**64 - 1, 2**64))),
         lambda: fields(b"clock", b"%x" % pick.choice((0, 59, 60, 2**32 - 1, pick.randrange(2**32)))),
@@ -87,7 +113,7 @@ def odd_lines(pick):
         lambda: fields(b"#", 1),
     )
     for _ in range(4000):
-        weights = (2, 1, 1, 20, 2, 1, 1, 1, 1) if bench.node.pending else (15, 6, 4, 1, 1, 4, 1, 1, 1)
+        weights = (2, 1, 1, 12, 12, 2, 1, 1, 1, 1) if bench.node.pending else (15, 6, 4, 1, 1, 1, 4, 1, 1, 1)
         line = pick.choices(kinds, weights)[0]()
         line = spoiled(pick, line) if pick.randrange(5) == 0 else line
         said_of(0, line, bench.answer)
@@ -97,6 +123,23 @@ def odd_lines(pick):
 def asked(bench, pick):
     """Mostly the slave now being asked."""
     return bench.node.pending.slave if bench.node.pending and pick.randrange(8) else pick.randrange(25)
+
+
+def received(bench):
+    """The words of a reply of which packets came."""
+    group = bench.node.pending and bench.node.pending.group
+    return bench.lent.reply[group.words + 1:group.words + 1 + group.received] if group else []
+
+
+def packet_bc(bench, pick):
+    """The BC of a packet of a reply that comes in several."""
+    return pick.choice((0, 1)) if received(bench) else 2
+
+
+def piece(bench, pick):
+    """The words of such a packet, mostly with the FCS of all."""
+    run = [pick.randrange(65536) for _ in range(pick.randrange(4))]
+    return sealed(received(bench) + run)[len(received(bench)):] if pick.randrange(4) else run
 
 
 def writing(bench, pick):
@@ -149,6 +192,7 @@ def main(arguments):
     scripts = {
         "long": b"\n".join(long_lines()),
         "writes": b"\n".join(long_writes()),
+        "replies": b"\n".join(long_replies()),
         "odd": b"\n".join(odd_lines(random.Random(1))) + b"\n",
     }
     for name, script in scripts.items():

@@ -2,28 +2,27 @@
 what is printed for a line is its number and YES, or the place of the word that breaks the reply. Some lines can't be read, or say
 nothing, as docs/BENCH.md has it of the bench."""
 
-import random
-
 from bench import LONGEST, TICKS, all_said, values
-from capture import broken_at
+from capture import broken_at, fragment_of
 from files import sealed
-from group import AREA, ending, fragment, slaves_of, tally_with
+from group import AREA, ending, slaves_of, tally_with
 from group_vectors import KINDS, ZEROS, Maker, answer_of
 
 MASK = TICKS  # one to eight hex digits
 OWN = 0x0020
 CODES = range(32)  # DAT and code
-FAULTS = (0x11, 0x12, 0x13, 0x15, 0x19)
+FAULTS = (0x11, 0x12, 0x13, 0x15, 0x16, 0x17, 0x18, 0x1A, 0x1C, 0x19)  # and 9, which is no code any more (02, request 8)
 
 
 class Capture:
-    """What a node assembles for a mask, and where its parts begin: the fragments, then status and FCS."""
+    """What a node assembles for a mask of answers, each some packets, and where its parts begin: the fragments, then status and FCS."""
 
     def __init__(self, mask, answers, own=OWN):
         self.mask, self.words, self.places, tally = mask, [], [], 0
         slaves = slaves_of(mask)
-        for place, (slave, answer) in enumerate(zip(slaves, answers)):
-            dat, code, laid = fragment(slave, answer, len(self.words), len(slaves) - 1 - place)
+        for place, (slave, packets) in enumerate(zip(slaves, answers)):
+            packets = [answer_of(packet) for packet in packets]
+            dat, code, laid = fragment_of(slave, packets, len(self.words), len(slaves) - 1 - place)
             self.places.append(len(self.words))
             self.words += laid
             tally = tally_with(tally, dat, code)
@@ -44,11 +43,11 @@ class Captures(Maker):
 
     def of_kinds(self, *kinds, mask=None):
         mask = self.mask_of(len(kinds)) if mask is None else mask
-        return Capture(mask, [answer_of(self.of(kind)) for kind in kinds], self.own())
+        return Capture(mask, [self.of(kind) for kind in kinds], self.own())
 
     def of_lengths(self, mask, *lengths):
         """Whole replies of so many words."""
-        return Capture(mask, [answer_of(self.answer(n=n, seed=7, status=0x01A0)) for n in lengths], self.own())
+        return Capture(mask, [[self.packet(n=n, seed=7, status=0x01A0)] for n in lengths], self.own())
 
 
 # What the node assembles.
@@ -68,7 +67,7 @@ def assembled(make):
             yield make.of_kinds(*[common if common and pick.randrange(8) else pick.choice(KINDS) for _ in range(count)])
     for own in range(8):
         for kind in ("whole", "late"):
-            yield Capture(1 << 9, [answer_of(make.of(kind))], own << 6 | OWN)
+            yield Capture(1 << 9, [make.of(kind)], own << 6 | OWN)
 
 
 def all_alike(make):
@@ -159,12 +158,14 @@ def bases(make):
     """Short captures to be damaged, of every kind of fragment."""
     yield make.of_kinds("whole two")
     yield make.of_kinds("late", "whole two")
-    yield Capture(0xA0, [answer_of(make.of("ABORT")), answer_of(make.answer(n=4))])
-    yield make.of_kinds("errors", "BC 10")
+    yield Capture(0xA0, [make.of("ABORT"), [make.packet(n=4)]])
+    yield make.of_kinds("errors", "late after NEXT")
     yield make.of_kinds("wrong FCS", "END", "END")
     yield make.of_kinds("one word", "NEXT", "ERROR", "BC1 clear")
-    yield Capture(make.mask_of(2), [answer_of(make.answer(n=3)), answer_of(make.answer(n=5))])
-    yield Capture(make.mask_of(2), [answer_of(make.answer(n=12300, seed=7, status=0xFFFF)), answer_of(make.answer(n=3))])
+    yield Capture(make.mask_of(2), [[make.packet(n=3)], [make.packet(n=5)]])
+    yield Capture(make.mask_of(2), [[make.packet(n=12300, seed=7, status=0xFFFF)], [make.packet(n=3)]])
+    yield make.of_kinds("empty after NEXT", "first again")
+    yield make.of_kinds("no room for a packet", "joined FCS")
 
 
 def damaged(make):

@@ -1,5 +1,5 @@
-"""Group assembly by document 01, 'Group assembly', with tables 4 and 6 of the note: a slave's answer to its fragment, the tally,
-the end of a group, and a single slave's reply."""
+"""Group assembly by document 01, 'Group assembly', and request 8 of 02, with tables 4 and 6 of the note: a slave's answer, in one packet
+or in several, to its fragment, the tally, the end of a group, and a single slave's reply."""
 
 from runs import check_sequence
 
@@ -19,6 +19,8 @@ def slaves_of(mask):
 
 
 class Answer:
+    """What came of the slave now being asked: a packet, or nothing in time."""
+
     def __init__(self, late, errors, rx_status, rx_address, bc, words):
         self.late = late
         self.errors = errors
@@ -28,44 +30,74 @@ class Answer:
         self.words = words
 
 
+def has_room(words, built, left):
+    return built + len(words) + 5 * left + 2 <= AREA
+
+
+def is_sealed(words):
+    return check_sequence(words[:-1]) == words[-1]
+
+
+MORE = None  # in place of DAT and code: the packet's words are stored, and the slave is sent NEXT
+
+
+def first_judged(answer, built, left):
+    """DAT and code of a first packet, or MORE."""
+    words = answer.words
+    if answer.late:
+        return 0, 5
+    if answer.errors:
+        return 0, 6
+    if not words:
+        return 0, ZERO_CODES[answer.bc]
+    if not answer.bc & 2:
+        return 1, 1
+    if answer.bc == 0b10:
+        return MORE if has_room(words, built, left) else (1, 0xA)
+    if len(words) == 1:
+        return 1, 3
+    if not is_sealed(words):
+        return 1, 5
+    return (1, 0) if has_room(words, built, left) else (1, 2)
+
+
+def later_judged(answer, joined, built, left):
+    """The same of a later packet, the answer to NEXT, with the words received before it in front of its own."""
+    if answer.late:
+        return 1, 6
+    if answer.errors:
+        return 0, 6
+    if not answer.words:
+        return 1, 7
+    if answer.bc & 2:
+        return 1, 8
+    if not has_room(joined, built, left):
+        return 1, 0xA
+    if answer.bc == 0b00:
+        return MORE
+    return (1, 0) if is_sealed(joined) else (1, 0xC)
+
+
 def status_word(dat, code, slave_bits, slave):
     return dat << 15 | code << 11 | slave_bits | slave
 
 
-def fragment(slave, answer, built, left):
-    """DAT, code and the fragment's words, with `built` words before it and `left` slaves yet to ask."""
-    words = answer.words
-    n = len(words)
-
-    def judged():
-        if answer.late:
-            return 0, 5
-        if answer.errors:
-            return 0, 6
-        if n == 0:
-            return 0, ZERO_CODES[answer.bc]
-        if not answer.bc & 2:
-            return 1, 1
-        if answer.bc == 2:
-            return 1, 9
-        if n == 1:
-            return 1, 3
-        if check_sequence(words[:-1]) != words[-1]:
-            return 1, 5
-        if built + n + 5 * left + 2 > AREA:
-            return 1, 2
-        return 1, 0
-
-    dat, code = judged()
-    bits = words[n - 2] & 0x07E0 if dat and code in (0, 2) else 0
-    status = status_word(dat, code, bits, slave)
+def fragment(slave, answer, built, left, stored=(), rx_status=0):
+    """DAT, code and the fragment's words, with `built` words before it and `left` slaves yet to ask; or MORE. Of a reply in packets the
+    words received before are `stored`, and `rx_status` came with the last of them."""
+    joined = [*stored, *([] if answer.late else answer.words)]
+    judged = later_judged(answer, joined, built, left) if stored else first_judged(answer, built, left)
+    if judged is MORE:
+        return MORE
+    dat, code = judged
+    bits = joined[-2] & 0x07E0 if dat and code in (0, 2) else 0
     if not dat:
         body = [answer.rx_status, answer.rx_address] if code == 6 else []
     elif code:
-        body = [answer.rx_status, min(n, 0xFFFF), words[0]]
+        body = [rx_status if answer.late else answer.rx_status, min(len(joined), 0xFFFF), joined[0]]
     else:
-        body = words[:-2]
-    return dat, code, [len(body) + 1] + body + [status]
+        body = joined[:-2]
+    return dat, code, [len(body) + 1] + body + [status_word(dat, code, bits, slave)]
 
 
 def kind_of(dat, code):

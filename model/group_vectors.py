@@ -1,16 +1,19 @@
-"""Vectors of group assembly. A line is words: what it is (0 group, 1 single slave), the mask (2 words, high first), the node's own
-status word, how many words of the reply buffer are lent, then an answer of 12 words for each slave of the mask, ascending: asked at
-(2 words), now (2 words), receive errors, RX status, RX address, BC, reply length, seed, status word, last word. The words of a reply
-follow from the seed, but for the last two."""
+"""Vectors of group assembly. A line is words, at most 600: what it is (0 group, 1 single slave), the mask (2 words, high first), the
+node's own status word, how many words of the reply buffer are lent, then packets of 12 words each: asked at (2 words), now (2 words),
+receive errors, RX status, RX address, BC, length, seed, status word, last word. The words of a packet follow from the seed, but for the
+last two. The packets are answers of the mask's slaves, ascending: one that ends a slave's reply is followed by one of the next slave,
+and one that is stored (02, request 8) by one more of the same. They go on while there is a slave to ask and a packet left; then the
+group ends. Packets are stored only where 12,288 words are lent, or more."""
 
 import random
 
-from group import ABORT, AREA, Answer, ending, fragment, is_late, single, slaves_of, tally_with, zero_length
+from group import ABORT, AREA, MORE, Answer, ending, fragment, is_late, single, slaves_of, tally_with, zero_length
 from runs import check_sequence
 from words import line_of, run_of, words_of
 
 BUFFER = 12300
 MARK = 0xA5A5
+HEAD, PACKET, LONGEST = 5, 12, 600  # words of a line
 
 
 def made(n, seed, status, last):
@@ -35,15 +38,24 @@ class Group:
     def __init__(self, buffer, lent):
         self.buffer = buffer
         self.lent = lent
-        self.built = 0
-        self.tally = 0
+        self.built = self.tally = 0
+        self.received = self.rx_status = 0  # of the slave now being asked
 
     def take(self, slave, answer, left):
-        dat, code, words = fragment(slave, answer, self.built, left)
+        """Takes a packet, and answers whether it ends the slave's reply."""
+        at = self.built + 1
+        judged = fragment(slave, answer, self.built, left, self.buffer[at : at + self.received], self.rx_status)
+        if judged is MORE:
+            self.buffer[at + self.received : at + self.received + len(answer.words)] = answer.words
+            self.received, self.rx_status = self.received + len(answer.words), answer.rx_status
+            return False
+        dat, code, words = judged
+        self.received = self.rx_status = 0
         if self.built + len(words) <= self.lent:
             self.buffer[self.built : self.built + len(words)] = words
             self.built += len(words)
             self.tally = tally_with(self.tally, dat, code)
+        return True
 
     def finish(self, own):
         """The BC and the length of the group's reply."""
@@ -70,142 +82,289 @@ def passed(answer, buffer, lent):
 class Maker:
     def __init__(self, seed):
         self.pick = random.Random(seed)
+        self.most = 5  # packets of a reply
 
-    def answer(self, asked=None, elapsed=None, errors=0, bc=3, n=0, seed=None, status=None, wrong=0):
+    def packet(self, asked=None, elapsed=None, errors=0, bc=3, n=0, seed=None, status=None, wrong=0, before=()):
+        """A packet whose last word is the FCS of the words before it, or isn't."""
         pick = self.pick
         asked = pick.randrange(2**32) if asked is None else asked
         elapsed = pick.choice((0, 1, 30, 58, 59)) if elapsed is None else elapsed
         now = (asked + elapsed) % 2**32
         seed = pick.randrange(65536) if seed is None else seed
         status = pick.randrange(65536) if status is None else status
-        last = check_sequence(made(n, seed, status, 0)[:-1]) ^ wrong if n else 0
-        return [asked >> 16, asked & 0xFFFF, now >> 16, now & 0xFFFF, errors, pick.randrange(65536), pick.randrange(65536), bc, n, seed, status, last]
+        last = check_sequence([*before, *made(n, seed, status, 0)[:-1]]) ^ wrong if n else 0
+        rx = pick.randrange(65536), pick.randrange(65536)
+        return [asked >> 16, asked & 0xFFFF, now >> 16, now & 0xFFFF, errors, *rx, bc, n, seed, status, last]
 
     def short(self):
         return self.pick.choice((2, 3, 4, 5, 7, 12, 14, 40))
 
-    def of(self, kind):
-        """An answer of one kind, by its name."""
+    def high(self):
+        """Higher bits of BC, which don't count."""
+        return self.pick.choice((0, 0, 4, 0xFFFC))
+
+    # 02, request 8: replies in packets.
+
+    def sizes(self):
+        return [self.pick.choice((1, 1, 2, 3, 5, 14)) for _ in range(self.pick.randrange(1, self.most))]
+
+    def front(self, *sizes, **given):
+        """A first packet and middle ones of so many words, each with a right FCS of its own."""
+        return [self.packet(bc=self.high() | (0 if place else 2), n=n, **given) for place, n in enumerate(sizes)]
+
+    def joined(self, *sizes, wrong=0, **given):
+        """A reply in packets of so many words, two or more, its FCS at the very end."""
+        front = self.front(*sizes[:-1], **given)
+        before = [word for packet in front for word in words_in(packet)]
+        return front + [self.packet(bc=self.high() | 1, n=sizes[-1], wrong=wrong, before=before, **given)]
+
+    def of_packets(self, kind):
+        """Packets that end a reply in one of the ways that a later packet can, or a first one without room."""
         pick = self.pick
-        high = pick.choice((0, 0, 4, 0xFFFC))  # higher bits of BC don't count
-        return {
-            "late": lambda: self.answer(elapsed=pick.choice((60, 61, 200, 2**31, 2**32 - 1)), bc=pick.randrange(4), n=pick.choice((0, 1, 5))),
-            "late errors": lambda: self.answer(elapsed=60, errors=1, n=3),
-            "errors": lambda: self.answer(errors=pick.choice((1, 2, 0x100, 0xFFFF)), bc=pick.randrange(4), n=pick.choice((0, 1, 2, 9))),
-            "NEXT": lambda: self.answer(bc=high | 0),
-            "ERROR": lambda: self.answer(bc=high | 1),
-            "ABORT": lambda: self.answer(bc=high | 2),
-            "END": lambda: self.answer(bc=high | 3),
-            "BC1 clear": lambda: self.answer(bc=high | pick.randrange(2), n=pick.choice((1, 2, 6))),
-            "BC 10": lambda: self.answer(bc=high | 2, n=pick.choice((1, 2, 6))),
-            "one word": lambda: self.answer(bc=high | 3, n=1, wrong=pick.choice((0, 1))),
-            "wrong FCS": lambda: self.answer(bc=high | 3, n=self.short(), wrong=1 << pick.randrange(16)),
-            "no room": lambda: self.answer(bc=high | 3, n=pick.choice((12288, 12290, 40000)), seed=7, status=pick.choice((0x01A0, 0xFFFF))),
-            "whole": lambda: self.answer(bc=high | 3, n=self.short()),
-            "whole two": lambda: self.answer(bc=high | 3, n=2),
-        }[kind]()
+        sizes = self.sizes()
+        if kind == "in packets":
+            return self.joined(*sizes, pick.choice((1, 1, 2, 3, 14)))
+        if kind == "joined FCS":
+            return self.joined(*sizes, pick.choice((1, 1, 2, 3, 14)), wrong=1 << pick.randrange(16))
+        if kind == "no room for a packet":
+            front = self.front(*sizes) if pick.randrange(3) else []
+            bc = self.high() | (pick.randrange(2) if front else 2)
+            return front + [self.packet(bc=bc, n=pick.choice((12288, 12290, 40000)), seed=7, status=pick.choice((0x01A0, 0xFFFF)))]
+        elapsed = {"late after NEXT": pick.choice((60, 61, 200, 2**31, 2**32 - 1))}.get(kind)
+        errors = {"late after NEXT": pick.randrange(2), "errors after NEXT": pick.choice((1, 2, 0x100, 0xFFFF))}.get(kind, 0)
+        n = 0 if kind == "empty after NEXT" else pick.choice((1, 2, 9)) if kind == "first again" else pick.choice((0, 1, 2, 9))
+        bc = self.high() | (2 if kind == "first again" else 0) | pick.choice((0, 1) if kind == "first again" else (0, 1, 2, 3))
+        return self.front(*sizes) + [self.packet(elapsed=elapsed, errors=errors, bc=bc, n=n)]
+
+    def of(self, kind):
+        """An answer of one kind, by its name, as packets."""
+        if kind in IN_PACKETS:
+            return self.of_packets(kind)
+        pick = self.pick
+        high = self.high()
+        return [{
+            "late": lambda: self.packet(elapsed=pick.choice((60, 61, 200, 2**31, 2**32 - 1)), bc=pick.randrange(4), n=pick.choice((0, 1, 5))),
+            "late errors": lambda: self.packet(elapsed=60, errors=1, n=3),
+            "errors": lambda: self.packet(errors=pick.choice((1, 2, 0x100, 0xFFFF)), bc=pick.randrange(4), n=pick.choice((0, 1, 2, 9))),
+            "NEXT": lambda: self.packet(bc=high | 0),
+            "ERROR": lambda: self.packet(bc=high | 1),
+            "ABORT": lambda: self.packet(bc=high | 2),
+            "END": lambda: self.packet(bc=high | 3),
+            "BC1 clear": lambda: self.packet(bc=high | pick.randrange(2), n=pick.choice((1, 2, 6))),
+            "one word": lambda: self.packet(bc=high | 3, n=1, wrong=pick.choice((0, 1))),
+            "wrong FCS": lambda: self.packet(bc=high | 3, n=self.short(), wrong=1 << pick.randrange(16)),
+            "no room": lambda: self.packet(bc=high | 3, n=pick.choice((12288, 12290, 40000)), seed=7, status=pick.choice((0x01A0, 0xFFFF))),
+            "whole": lambda: self.packet(bc=high | 3, n=self.short()),
+            "whole two": lambda: self.packet(bc=high | 3, n=2),
+        }[kind]()]
+
+    def all_of(self, kinds):
+        """The packets of answers of some kinds, few of each where the kinds are many, so that they have room in a line."""
+        self.most = 2 if len(kinds) > 12 else 3 if len(kinds) > 6 else 5
+        packets = [packet for kind in kinds for packet in self.of(kind)]
+        self.most = 5
+        return packets
 
     def own(self):
         return self.pick.randrange(8) << 6 | 0x20
-
-    def group(self, mask, answers, lent=AREA):
-        return [0, mask >> 16, mask & 0xFFFF, self.own(), lent] + [word for answer in answers for word in answer]
 
     def mask_of(self, count):
         return sum(1 << slave for slave in self.pick.sample(range(24), count))
 
 
-KINDS = ("late", "errors", "NEXT", "ABORT", "ERROR", "END", "BC1 clear", "BC 10", "one word", "wrong FCS", "no room", "whole", "whole two")
+IN_PACKETS = ("in packets", "late after NEXT", "empty after NEXT", "first again", "no room for a packet", "joined FCS", "errors after NEXT")
+KINDS = ("late", "errors", "NEXT", "ABORT", "ERROR", "END", "BC1 clear", "one word", "wrong FCS", "no room", "whole", "whole two") + IN_PACKETS
 ZEROS = ("NEXT", "ABORT", "ERROR", "END")
 LENGTHS = (0, 1, 2, 12286, 12287, 12288, 40000)
+CLOCKS = (0, 1, 0x7FFFFFFF, 0x80000000, 0xFFFFFFC4, 0xFFFFFFC5, 0xFFFFFFF0, 0xFFFFFFFF)
+ELAPSED = (0, 59, 60, 61, 2**31 - 1, 2**31, 2**32 - 1)
+BCS = (0, 1, 2, 3, 4, 7, 0xFFFE, 0xFFFF)
 
 
-def inputs():
-    make = Maker(6)
-    pick = make.pick
-    lines = []
+class Lines:
+    """The lines, one for each group or single slave."""
 
-    def group(*answers, mask=None, lent=AREA):
-        lines.append(make.group(make.mask_of(len(answers)) if mask is None else mask, answers, lent))
+    def __init__(self):
+        self.make = Maker(6)
+        self.lines = []
 
+    def group(self, *packets, slaves=1, mask=None, lent=AREA):
+        mask = self.make.mask_of(slaves) if mask is None else mask
+        line = [0, mask >> 16, mask & 0xFFFF, self.make.own(), lent] + [word for packet in packets for word in packet]
+        assert len(line) <= LONGEST
+        self.lines.append(line)
+
+    def kinds(self, *kinds, **given):
+        self.group(*self.make.all_of(kinds), slaves=len(kinds), **given)
+
+    def single(self, lent, packet):
+        self.lines.append([1, 0, 0, 0, lent] + packet)
+
+
+def kinds_of_answers(lines):
+    pick = lines.make.pick
     # each kind alone, from each slave
     for kind in KINDS + ("late errors",):
         for slave in range(24):
-            group(make.of(kind), mask=1 << slave)
+            lines.kinds(kind, mask=1 << slave)
     # each kind behind each other
     for first in KINDS:
         for second in KINDS:
-            group(make.of(first), make.of(second))
+            lines.kinds(first, second)
     # mixtures of 1 to 24 slaves, even and with one kind prevailing
     for turn in range(24):
         for count in range(1, 25):
-            common = pick.choice(("whole",) + ZEROS) if turn % 3 else None
-            kinds = [common if common and pick.randrange(8) else pick.choice(KINDS) for _ in range(count)]
-            group(*[make.of(kind) for kind in kinds])
+            common = pick.choice(("whole", "in packets") + ZEROS) if turn % 3 else None
+            lines.kinds(*[common if common and pick.randrange(8) else pick.choice(KINDS) for _ in range(count)])
     # all of one kind, and END with one ABORT
     for count in range(1, 25):
-        for kind in ("late", "errors", "whole") + ZEROS:
-            group(*[make.of(kind) for _ in range(count)])
+        for kind in ("late", "errors", "whole", "in packets") + ZEROS:
+            lines.kinds(*[kind] * count)
         for odd in {0, count // 2, count - 1}:
-            group(*[make.of("ABORT" if i == odd else "END") for i in range(count)])
-    # times, across the clock's wrap too; a clock that goes back by one
-    for asked in (0, 1, 0x7FFFFFFF, 0x80000000, 0xFFFFFFC4, 0xFFFFFFC5, 0xFFFFFFF0, 0xFFFFFFFF):
-        for elapsed in (0, 59, 60, 61, 2**31 - 1, 2**31, 2**32 - 1):
-            group(make.answer(asked, elapsed, n=4), make.of("whole"))
-            group(make.answer(asked, elapsed, bc=2))
-    # lengths with every BC, alone and with two more slaves to ask
+            lines.kinds(*["ABORT" if i == odd else "END" for i in range(count)])
+
+
+def times(lines):
+    """Across the clock's wrap too; a clock that goes back by one."""
+    make = lines.make
+    for asked in CLOCKS:
+        for elapsed in ELAPSED:
+            lines.group(make.packet(asked, elapsed, n=4), *make.of("whole"), slaves=2)
+            lines.group(make.packet(asked, elapsed, bc=2))
+            # a reply in three packets, each of which may be late
+            for place in range(3):
+                packets = make.joined(2, 1, 3)
+                packets[place][:4] = make.packet(asked, elapsed)[:4]
+                lines.group(*packets, *make.of("whole"), slaves=2)
+
+
+def lengths(lines):
+    make, pick = lines.make, lines.make.pick
+    # lengths with every BC, alone and with two more slaves to ask; and behind a first packet, and a middle one
     for n in LENGTHS:
-        for bc in (0, 1, 2, 3, 4, 7, 0xFFFE, 0xFFFF):
-            group(make.answer(bc=bc, n=n, seed=7, status=0x01A0))
-            group(make.answer(bc=bc, n=n, seed=7, status=0x01A0), make.of("whole"), make.of("END"))
+        for bc in BCS:
+            given = dict(bc=bc, n=n, seed=7, status=0x01A0)
+            lines.group(make.packet(**given))
+            lines.group(make.packet(**given), *make.of("whole"), *make.of("END"), slaves=3)
+            lines.group(*make.front(1), make.packet(**given), *make.of("late"), slaves=2)
+            lines.group(*make.front(3, 2), make.packet(**given), *make.of("END"), slaves=2)
     # room to the word: n words behind w with k slaves left, one that fits and one that doesn't; none only for a middle slave
     for k in (0, 1, 2, 11, 22):
         for w in (2, 5, 40, 6000):
             for over in (0, 1):
-                before = make.answer(n=w, seed=9, status=0x0040) if w > 5 else make.of("END" if w == 2 else "BC 10")
-                group(before, make.answer(n=AREA - 2 - 5 * k - w + over, seed=11, status=0x07E0), *[make.of(pick.choice(KINDS)) for _ in range(k)])
+                before = [make.packet(n=w, seed=9, status=0x0040)] if w > 5 else make.of("END" if w == 2 else "one word")
+                room = AREA - 2 - 5 * k - w
+                given = dict(seed=11, status=0x07E0)
+                rest = [pick.choice(KINDS) for _ in range(k)]
+                lines.group(*before, make.packet(n=room + over, **given), *make.all_of(rest), slaves=k + 2)
+                # 02, request 8: in packets; and a first packet, or a middle one, that takes all the room there is, or a word more
+                for front in ((1,), (100, 1), (5, room - 6), (room - 2, 1)):
+                    lines.group(*before, *make.joined(*front, room + over - sum(front), **given), *make.all_of(rest), slaves=k + 2)
+                for later in ("late after NEXT", "empty after NEXT", "first again", "errors after NEXT"):
+                    packets = make.front(room + over, **given) + (make.of(later)[-1:] if not over else [])
+                    lines.group(*before, *packets, *make.all_of(rest), slaves=k + 2)
+                for front in ((room,), (3, room - 3), (3, room - 2)):
+                    lines.group(*before, *make.front(*front, **given), make.packet(bc=over, n=1), *make.all_of(rest), slaves=k + 2)
     for large in (6000, 6100, 6139, 6140, 12000):
-        group(make.answer(n=large, seed=9, status=0), make.answer(n=large, seed=9, status=0xFFFF), make.answer(n=100, seed=9, status=0))
+        whole = [make.packet(n=n, seed=9, status=0) for n in (large, large, 100)]
+        lines.group(*whole, slaves=3)
+        halves = [make.joined(n // 2, n - n // 2, seed=9, status=0) for n in (large, large, 100)]
+        lines.group(*halves[0], *halves[1], *halves[2], slaves=3)
+        lines.group(whole[0], *halves[1], *halves[2], slaves=3)
+    # counts of words received that have no room in 16 bits
+    for n in (65528, 65529, 65530, 65535):
+        for bc in range(4):
+            lines.group(*make.front(2, 4), make.packet(bc=bc, n=n, seed=7))
+        lines.group(*make.front(n, seed=7))
+
+
+def places(lines):
+    """02, request 8: replies of many packets, each way to end one at each place, what stands past a failed one, and lines that end early."""
+    make, pick = lines.make, lines.make.pick
+    for count in (2, 3, 10, 48):
+        lines.group(*make.joined(*[1] * count))
+        lines.group(*make.joined(*[1] * count, wrong=0x8000))
+        lines.group(*make.joined(*[pick.choice((1, 2, 7, 250)) for _ in range(count)]), lent=BUFFER)
+    for kind in IN_PACKETS:
+        for before in range(1, 7):
+            lines.group(*make.front(*make.sizes(), *[2] * before), *make.of(kind)[-1:], *make.of("END"), slaves=2)
+    for kind in IN_PACKETS[1:]:  # long leftovers, then a fragment that is shorter, or longer, or in packets too
+        for following in ("END", "errors", "one word", "whole", "in packets", "late after NEXT", "joined FCS"):
+            packets = make.front(30, 12) + make.of(kind)[-1:] + make.of(following) + make.of("whole two")
+            lines.group(*packets, slaves=3, lent=pick.choice((AREA, 12290, BUFFER)))
+    for kind in KINDS:
+        packets = make.of(kind)
+        for count in range(len(packets)):
+            lines.group(*packets[:count], slaves=2)
+            lines.group(*make.of("END"), *packets[:count], slaves=2)
+    for kind in IN_PACKETS:  # a packet more than there are slaves to ask
+        lines.group(*make.of(kind), *make.of("whole"))
+    lines.group(*make.of("in packets"))
+    lines.lines[-1] = lines.lines[-1][:-1]  # the last packet isn't whole
+
+
+def others(lines):
+    make = lines.make
     # masks with nobody, and with bits above slave 23
     for high in (0, 0xFF):
-        group(mask=high << 24)
-        group(make.of("whole"), mask=high << 24 | 1 << 23)
+        lines.group(mask=high << 24)
+        lines.group(*make.of("whole"), mask=high << 24 | 1 << 23)
+        lines.group(*make.of("in packets"), mask=high << 24 | 1 << 23)
     # buffers that are too short for a fragment, or for the end
     for lent in range(32):
-        group(make.of("whole"), make.of("errors"), make.of("END"), lent=lent)
-        group(make.of("END"), make.of("END"), lent=lent)
-    # single slaves
+        lines.group(*make.of("whole"), *make.of("errors"), *make.of("END"), slaves=3, lent=lent)
+        lines.group(*make.of("END"), *make.of("END"), slaves=2, lent=lent)
+    # single slaves: any BC passes
     for lent in (AREA, 12290, 12286, 12287, 2, 1, 0):
         for n in LENGTHS:
             for bc in (0, 1, 2, 3, 0xFFFD):
-                lines.append([1, 0, 0, 0, lent] + make.answer(bc=bc, n=n, seed=7, status=0x01A0))
+                lines.single(lent, make.packet(bc=bc, n=n, seed=7, status=0x01A0))
         for kind in KINDS + ("late errors",):
-            lines.append([1, 0, 0, 0, lent] + make.of(kind))
-    return "".join(line_of(line) for line in lines)
+            lines.single(lent, make.of(kind)[0])
 
 
-def answer_of(words):
-    asked, now = words[0] << 16 | words[1], words[2] << 16 | words[3]
-    return Answer(is_late(now, asked), words[4] != 0, words[5], words[6], words[7], made(*words[8:12]))
+def inputs():
+    lines = Lines()
+    for part in (kinds_of_answers, times, lengths, places, others):
+        part(lines)
+    return "".join(line_of(line) for line in lines.lines)
+
+
+def words_in(packet):
+    return made(*packet[8:12])
+
+
+def answer_of(packet):
+    asked, now = packet[0] << 16 | packet[1], packet[2] << 16 | packet[3]
+    return Answer(is_late(now, asked), packet[4] != 0, packet[5], packet[6], packet[7], words_in(packet))
+
+
+def packets_of(line):
+    return [line[at : at + PACKET] for at in range(HEAD, len(line) - PACKET + 1, PACKET)]
+
+
+def assembled(line, buffer):
+    """What is printed of a group, packet by packet, and its BC and length."""
+    slaves, group = slaves_of(line[1] << 16 | line[2]), Group(buffer, line[4])
+    for packet in packets_of(line):
+        if not slaves:
+            break
+        if group.take(slaves[0], answer_of(packet), len(slaves) - 1):
+            slaves.pop(0)
+            yield "%d:%d:%s" % (group.built, group.tally, "%04x" % buffer[group.built - 1] if group.built else "")
+        else:
+            yield "+%d:%04x" % (group.received, group.rx_status)
+    bc, n = group.finish(line[3])
+    yield "%d %d" % (bc, n)
 
 
 def outputs(stdin):
     printed = []
-    for line in stdin.splitlines():
-        words = words_of(line)
-        buffer = [MARK] * BUFFER
-        lent = words[4]
-        items = []
-        if words[0] == 0:
-            slaves = slaves_of(words[1] << 16 | words[2])
-            group = Group(buffer, lent)
-            for place, slave in enumerate(slaves):
-                at = 5 + 12 * place
-                group.take(slave, answer_of(words[at : at + 12]), len(slaves) - 1 - place)
-                laid = "%04x" % buffer[group.built - 1] if group.built else ""
-                items.append("%d:%d:%s" % (group.built, group.tally, laid))
-            bc, n = group.finish(words[3])
+    for text in stdin.splitlines():
+        line, buffer = words_of(text), [MARK] * BUFFER
+        if line[0] == 0:
+            items = list(assembled(line, buffer))
         else:
-            bc, n = passed(answer_of(words[5:17]), buffer, lent)
-        printed.append(" ".join(items + [str(bc), str(n), "%08x" % digest(buffer)]) + "\n")
+            items = ["%d %d" % passed(answer_of(packets_of(line)[0]), buffer, line[4])]
+        printed.append(" ".join(items + ["%08x" % digest(buffer)]) + "\n")
     return "".join(printed)

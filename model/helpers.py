@@ -6,6 +6,7 @@ import random
 import sys
 
 import build
+import capture
 import files
 import flash
 import group
@@ -239,7 +240,7 @@ def reading_lines():
 
 
 def is_sealed(reply):
-    return len(reply) >= 2 and check_sequence(reply[:-1]) == reply[-1]
+    return len(reply) >= 2 and group.is_sealed(reply)
 
 
 def with_status(data, status):
@@ -294,27 +295,48 @@ def named_lines():
             yield ("read_named", name, *damaged(reply)), [0]
 
 
-def some_answer():
+def some_packet(bc=None, before=()):
+    """A packet, mostly with a right FCS over the words before it and its own."""
     way = chance.randrange(9)
-    bc = chance.randrange(4)
     held = words(chance.randrange(0, 12))
-    if way < 5:
-        held, bc = with_status(held, word()), 3
-    if way == 5:
+    if way < 6:
+        held = [*held, check_sequence([*before, *held])]
+    if way == 7:
         held = []
-    if way == 6:
-        held = words(1)
-    return group.Answer(chance.randrange(12) == 0, chance.randrange(12) == 0, word(), word(), bc, held)
+    late, errors = chance.randrange(12) == 0, chance.randrange(12) == 0
+    return group.Answer(late, errors, word(), word(), chance.choice((3, 3, 3, 2, 2, 1, 0)) if bc is None else bc, held)
 
 
-def group_fields(slave, answer, dat, code, body):
+def some_fragment(slave, built, left):
+    """What some packets of a slave make: as many as its reply takes."""
+    packets, made = [some_packet()], group.MORE
+    while made is group.MORE:
+        made = capture.fragment_of(slave, packets, built, left)
+        packets.append(some_packet(chance.choice((0, 0, 1, 1, 1, 2, 3)), [held for packet in packets for held in packet.words]))
+    return made
+
+
+def group_fields(slave, dat, code, body):
     """Slave, code with DAT, the slave's status, RX status, RX address, reply length, first word, then the data."""
-    whole, faulty = dat == 1 and code == 0, dat == 1 and code != 0
-    bits = answer.words[-2] & 0x07E0 if dat and code in (0, 2) else 0
-    received = [answer.rx_status if faulty or (dat, code) == (0, 6) else 0, answer.rx_address if (dat, code) == (0, 6) else 0]
-    lost = [len(answer.words), answer.words[0]] if faulty else [0, 0]
-    data = body[1:-1] if whole else []
-    return [slave, dat << 4 | code, bits, *received, *lost, len(data), *data]
+    fields = [slave, dat << 4 | code, body[-1] & 0x07E0]
+    if (dat, code) == (0, 6):
+        return [*fields, *body[1:3], 0, 0, 0]
+    if dat and code:
+        return [*fields, body[1], 0, *body[2:4], 0]
+    return [*fields, 0, 0, 0, 0, len(body) - 2, *body[1:-1]]
+
+
+CODES = {
+    0x01: "NEXT", 0x02: "ABORT", 0x03: "ERROR", 0x04: "END", 0x05: "late", 0x06: "receive errors", 0x10: "DATA", 0x11: "not the first packet",
+    0x12: "no room", 0x13: "one word", 0x15: "wrong FCS", 0x16: "late after NEXT", 0x17: "empty after NEXT", 0x18: "first packet again",
+    0x1A: "no room for a packet", 0x1C: "wrong FCS of the joined reply",
+}
+
+
+def code_lines():
+    """The text of each code, with DAT worth 10 hex, as its letters' numbers; what is none is 'no code'."""
+    for code in (*range(33), 0x20, 0x30, 0x116, 0xFFFFFFFF):
+        yield ("code_text", code), [ord(letter) for letter in CODES.get(code, "no code")]
 
 
 def group_lines():
@@ -322,10 +344,9 @@ def group_lines():
         slaves = sorted(chance.sample(range(24), chance.choice((1, 2, 3, 5, 24))))
         built, fields, tally = [], [], 0
         for place, slave in enumerate(slaves):
-            answer = some_answer()
-            dat, code, body = group.fragment(slave, answer, len(built), len(slaves) - place - 1)
+            dat, code, body = some_fragment(slave, len(built), len(slaves) - place - 1)
             tally = group.tally_with(tally, dat, code)
-            fields += group_fields(slave, answer, dat, code, body)
+            fields += group_fields(slave, dat, code, body)
             built += body
         reply = built + group.ending(built, tally, 0x01A0)
         yield ("read_group", *reply), [1, *fields]
@@ -335,9 +356,12 @@ def group_lines():
         broken[chance.randrange(len(broken))] ^= 1 << chance.randrange(16)
         yield ("read_group", *broken), [0]
     # fragments that no node lays, under a right FCS: too long, of length 0, of no slave, of no code, of a wrong length for their code
-    for built in ([5, 0x8005], [0, 0x8005], [1, 0x8018], [1, 0x8805], [2, 1, 0x1005], [1, 0x3005], [4, 1, 2, 3, 0x8005 | 4 << 11], [1, 0x1025],
-                  [1, 0x3805], [4, 1, 2, 3, 0xB005], [1, 0x1005, 1], [0xFFFF, 0x8005]):
+    for built in ([5, 0x8005], [0, 0x8005], [1, 0x8018], [1, 0x8805], [2, 1, 0x1005], [1, 0x3005], [1, 0x1025], [1, 0x3805], [1, 0xB005],
+                  [3, 1, 2, 0xB005], [4, 1, 2, 3, 0xB025], [4, 1, 2, 3, 0xE405], [1, 0x1005, 1], [0xFFFF, 0x8005]):
         yield ("read_group", *with_status(built, 0x0300)), [0]
+    for code in range(1, 16):
+        fields = [1, 5, 0x10 | code, 0, 1, 0, 2, 3, 0] if 0x10 | code in CODES else [0]
+        yield ("read_group", *with_status([4, 1, 2, 3, 0x8005 | code << 11], 0x0300)), fields
 
 
 def fcs_lines():
@@ -354,7 +378,7 @@ def fcs_lines():
 def main(folder):
     with open(folder + "/helpers.txt", "w") as given, open(folder + "/helpers.stdout", "w") as wanted:
         for lines in (request_lines(), file_lines(), reading_lines(), status_lines(), entry_lines(), named_lines(), group_lines(),
-                      fcs_lines()):
+                      code_lines(), fcs_lines()):
             for (name, *numbers), comes_to in lines:
                 given.write(" ".join([name, *("%X" % number for number in numbers)]) + "\n")
                 wanted.write(" ".join("%X" % number for number in comes_to or [0]) + "\n")

@@ -1,7 +1,8 @@
-"""The whole node, from document 01 and requests 1, 2, 5, 6 and 10 of 02: its state, the refusals, requests, own commands, and the five
-calls start, request, reply, poll and erase. A call takes a node and what it is lent, and hands back the next node with the answer; lent
-lists change in place, and only if the call is accepted. An answer is a tuple: ("refused", number), ("started",), ("reply", BC, words
-in the reply buffer), ("ask", slave, word from which the request is sent on), ("waiting",), or ("erased", words set)."""
+"""The whole node, from document 01 and requests 1, 2, 5, 6, 8 and 10 of 02: its state, the refusals, requests, own commands, and the
+five calls start, request, reply, poll and erase. A call takes a node and what it is lent, and hands back the next node with the answer;
+lent lists change in place, and only if the call is accepted. An answer is a tuple: ("refused", number), ("started",), ("reply", BC, words
+in the reply buffer), ("ask", slave, word from which the request is sent on), ("next", slave that is sent NEXT), ("waiting",), or ("erased",
+words set)."""
 
 from dataclasses import dataclass, replace
 from typing import Optional
@@ -9,7 +10,7 @@ from typing import Optional
 from files import DM, IO, PM, file_length, name_of, sealed, segment_at, segments_of
 from flash import BAD, EMPTY, GOOD, SECTORS, SEVERAL, SIZES, STATUS, attributed, blank, directory_of, entry, entry_of, extent, laid, named
 from flash import place_for, searched, sector_to_erase, status_in, store, words_in
-from group import ABORT, AREA, END, ERROR, NEXT, Answer, ending, fragment, is_late, single, slaves_of, tally_with, zero_length
+from group import ABORT, AREA, END, ERROR, MORE, NEXT, Answer, ending, fragment, is_late, single, slaves_of, tally_with, zero_length
 from memory import fits, load, perform, read
 
 CDP, CDDC = 1, 2
@@ -35,6 +36,8 @@ class Built:
     first: int  # the word from which the request is sent on
     words: int  # of fragments, in the reply buffer
     tally: int  # 0 none yet, 1 all NEXT, 2 all ABORT, 3 all ERROR, 4 all END, 5 all code 0 with DAT, 6 mixed
+    received: int = 0  # words of the asked slave's reply, behind those of fragments and one for a length; 02, request 8
+    rx_status: int = 0  # of the last packet received, 0 where none is
 
 
 @dataclass(frozen=True)
@@ -118,7 +121,9 @@ def group_refused(slave, group):
     if group.asked > ALL or not group.asked >> slave & 1:
         return True
     left = len(slaves_of(group.asked >> slave + 1))
-    return group.words + 5 * (left + 1) + 2 > AREA or group.first not in (1, 2) or group.tally not in range(7)
+    if group.words + 5 * (left + 1) + 2 > AREA or group.words + group.received + 5 * left + 2 > AREA:
+        return True
+    return group.first not in (1, 2) or group.tally not in range(7) or group.received == 0 and group.rx_status != 0
 
 
 def pending_refused(node):
@@ -503,13 +508,26 @@ def taken(node, reply, now, answer):
     if group is None:
         return replace(node, pending=None), sent(reply, *single(answer))
     later = [slave for slave in slaves_of(group.asked) if slave > pending.slave]
-    dat, code, words = fragment(pending.slave, answer, group.words, len(later))
+    at = group.words + 1  # behind the fragment's length word
+    judged = fragment(pending.slave, answer, group.words, len(later), reply[at:at + group.received], group.rx_status)
+    if judged is MORE:
+        return stored(node, reply, now, answer)
+    dat, code, words = judged
     built, tally = group.words + len(words), tally_with(group.tally, dat, code)
     reply[group.words:built] = words
     if later:
-        group = replace(group, words=built, tally=tally)
+        group = Built(group.asked, group.first, built, tally)
         return replace(node, pending=Pending(pending.link, later[0], now, group)), ("ask", later[0], group.first)
     return replace(node, pending=None), ended(reply, built, tally, own_status(node))
+
+
+def stored(node, reply, now, answer):
+    """02, request 8: the packet's words stand behind those received before, and the slave has 60 ticks anew."""
+    pending, group = node.pending, node.pending.group
+    at = group.words + 1 + group.received
+    reply[at:at + len(answer.words)] = answer.words
+    group = replace(group, received=group.received + len(answer.words), rx_status=answer.rx_status)
+    return replace(node, pending=replace(pending, at=now, group=group)), ("next", pending.slave)
 
 
 def ended(reply, built, tally, own):

@@ -31,13 +31,13 @@ one before times 25173 plus 13849, modulo 65,536 (no product reaches 2^32), then
 The fields of line 8: 0 kind, 1 ports, 2 sub-detector, 3 mode, 4 program version, 5 sub-detector version, 6 start tests, 7 start
 clock, 8 flash words, 9 AMSWire errors, 10 FLASH errors, 11 mask `index`, 12 directory word `index`, 13 erasing nothing, 14 erasing
 sector `index` with `value` words done, 15 nothing pending, 16 a slave pending, 17 a group pending. For 16 and 17 `index` is the
-link and `value` the clock when the slave was asked, and behind them stand slave asked(2) first words(2) tally, of which 16 has the
-slave alone. 18 no write stands, 19 a write of link `index` stands, with `value` words joined. Kind, ports, sub-detector, mode, sector,
-link, slave and first are at most 255, and the tally at most 6.
+link and `value` the clock when the slave was asked, and behind them stand slave asked(2) first words(2) tally received(2) rx_status, of
+which 16 has the slave alone. 18 no write stands, 19 a write of link `index` stands, with `value` words joined. Kind, ports, sub-detector,
+mode, sector, link, slave and first are at most 255, and the tally at most 6.
 
 A call prints the digest of the node's words, then its answer:
 
-    refused N             started             erased N             waiting             ask SLAVE FIRST
+    refused N         started         erased N         waiting         ask SLAVE FIRST         next SLAVE
     reply BC N DIGEST WORD..      N words in the reply buffer, the digest of them, and the words themselves where N is at most 16
 
 with numbers in decimal, and a digest or a word in four hex digits. Then, for each bit of `show` that is set, a letter and the
@@ -49,8 +49,8 @@ halves of each word count, the high half first. (An FCS would not do: it is 0 of
 
 The node's words: kind, ports, sub-detector, mode, program version, sub-detector version, start tests, start clock(2), flash
 words(2), AMSWire errors, FLASH errors, 16 masks(2), 32 directory words; 1 or 0 as something is erasing or not, sector, done(2); 0
-nothing, 1 a slave, 2 a group pending, link, slave, at(2), asked(2), first, words(2), tally; 1 or 0 as a write stands or not, link,
-joined(2). What a case doesn't have is 0: 96 words in all."""
+nothing, 1 a slave, 2 a group pending, link, slave, at(2), asked(2), first, words(2), tally, received(2), rx_status; 1 or 0 as a write
+stands or not, link, joined(2). What a case doesn't have is 0: 99 words in all."""
 
 from dataclasses import replace
 
@@ -78,16 +78,17 @@ def words_of_node(node):
     words += halves(node.start_clock) + halves(node.flash_words) + [node.amswire, node.flash_errors]
     words += [half for mask in node.masks for half in halves(mask)] + list(node.directory)
     words += [1, node.erasing.sector] + halves(node.erasing.done) if node.erasing else [0] * 4
-    words += words_of_pending(node.pending) if node.pending else [0] * 11
+    words += words_of_pending(node.pending) if node.pending else [0] * 14
     return words + ([1, node.write.link] + halves(node.write.joined) if node.write else [0] * 4)
 
 
 def words_of_pending(pending):
     words = [2 if pending.group else 1, pending.link, pending.slave] + halves(pending.at)
     if pending.group is None:
-        return words + [0] * 6
+        return words + [0] * 9
     group = pending.group
-    return words + halves(group.asked) + [group.first] + halves(group.words) + [group.tally]
+    words += halves(group.asked) + [group.first] + halves(group.words) + [group.tally]
+    return words + halves(group.received) + [group.rx_status]
 
 
 def digest_of(memory, words):
@@ -181,8 +182,8 @@ class Program:
         elif field in (NO_WRITE, WRITE):
             self.node = replace(self.node, write=model.Write(index, value) if field == WRITE else None)
         else:
-            slave, asked, first, words, tally = items.number(), items.number(2), items.number(), items.number(2), items.number()
-            group = model.Built(asked, first, words, tally) if field == PENDING_GROUP else None
+            slave = items.number()
+            group = model.Built(*[items.number(count) for count in (2, 1, 2, 1, 2, 1)]) if field == PENDING_GROUP else None
             self.node = replace(self.node, pending=model.Pending(index, slave, value, group))
 
     def lend_all(self, items):

@@ -7,6 +7,8 @@ from scripts_lengths import erasing_lengths, shown_lengths, wrong_lengths
 from scripts_memory import headers, loads, long_segments, runs_of_memory, segments
 from scripts_names import doubled_names, kept_twice, one_being_erased, one_that_counts
 from scripts_remains import nothing_behind, remains, remains_come_and_go
+from scripts_replies import between_packets, dropped_between, every_end, everyone_in_packets, kept_replies, leftovers, long_counts
+from scripts_replies import not_of_a_group, packet_errors, packet_room, packet_times, received_ranges, single_words, whole_or_divided
 from scripts_requests import command_numbers, counts, first_bytes, lengths, small_commands, start_masks
 from scripts_slaves import groups, room, singles, tallies, times
 from scripts_states import refusals, soup, start_refusals, states
@@ -27,6 +29,8 @@ SCRIPTS = (
     shown_lengths, wrong_lengths, erasing_lengths,
     remains, remains_come_and_go, nothing_behind,
     doubled_names, one_being_erased, one_that_counts, kept_twice,
+    every_end, single_words, whole_or_divided, packet_room, long_counts, packet_times, packet_errors, leftovers, everyone_in_packets,
+    dropped_between, between_packets, kept_replies, received_ranges, not_of_a_group,
 )
 
 

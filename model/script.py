@@ -75,8 +75,8 @@ class Script:
     def set_slave(self, link, slave, at):
         self.set(PENDING_SLAVE, at, link, slave)
 
-    def set_group(self, link, slave, at, asked, first=1, words=0, tally=0):
-        self.set(PENDING_GROUP, at, link, slave, *halves(asked), first, *halves(words), tally)
+    def set_group(self, link, slave, at, asked, first=1, words=0, tally=0, received=0, rx_status=0):
+        self.set(PENDING_GROUP, at, link, slave, *halves(asked), first, *halves(words), tally, *halves(received), rx_status)
 
     def set_write(self, link=None, joined=0):
         """A write of a link stands, or none does."""

@@ -1,51 +1,117 @@
 """Scripts on slaves: groups and single slaves with answers of every kind."""
 
-from group import ABORT, END, ERROR, NEXT
+from group import ABORT, AREA, END, ERROR, NEXT
 from node import CDDC, CDP
 from node_lines import BUFFER, PENDING_NOTHING, POLL, REPLY, halves
+from runs import check_sequence
 from script import Run, command
 from scripts_requests import dropped
 
 ZEROS = {"NEXT": NEXT, "ERROR": ERROR, "ABORT": ABORT, "END": END}
-KINDS = ("late", "late errors", "errors", *ZEROS, "BC1 clear", "BC 10", "one word", "wrong FCS", "whole", "whole", "whole", "two")
+ONE_PACKET = ("late", "late errors", "errors", *ZEROS, "BC1 clear", "one word", "wrong FCS", "whole", "whole", "whole", "two")
+IN_PACKETS = ("in packets", "late after NEXT", "empty after NEXT", "first again", "no room for a packet", "joined FCS", "errors after NEXT")
+KINDS = ONE_PACKET + IN_PACKETS + ("in packets",)
 
 
-def slave_run(s, length, good=True, seed=None, status=None):
-    """A slave's data reply of a length, mostly with a right FCS."""
+def slave_run(s, length, good=True, seed=None, status=None, before=()):
+    """A slave's data reply of a length, or the rest of one behind other words, mostly with a right FCS over them all."""
     pick = s.pick
     status = pick.randrange(65536) if status is None else status
     if length == 0:
         return Run()
-    if length == 1:
-        return Run(back=s.anything(1))
-    words = Run([], length - 2, pick.randrange(65536) if seed is None else seed, [status]).sealed()
+    words = Run([], max(length - 2, 0), pick.randrange(65536) if seed is None else seed, [status] if length > 1 else [])
+    words.back.append(check_sequence([*before, *words.words()]) if length > 1 or before else pick.randrange(65536))
     if not good:
         words.back[-1] ^= 1 << pick.randrange(16)
     return words
+
+
+def high(s):
+    """Higher bits of BC, which don't count."""
+    return s.pick.choice((0, 0, 0, 4, 0xFFFC))
 
 
 def slave_answers(s, slave, kind=None, length=None):
     """An answer of a slave, of one kind."""
     pick = s.pick
     kind = pick.choice(KINDS) if kind is None else kind
-    high = pick.choice((0, 0, 0, 4, 0xFFFC))  # higher bits of BC don't count
+    if kind in IN_PACKETS:
+        return answers_in_packets(s, slave, kind)
     length = pick.choice((2, 3, 4, 5, 7, 12, 40)) if length is None else length
     if kind.startswith("late"):
-        s.tick(pick.choice((60, 60, 61, 1000, 2**31, 2**32 - 1)))
-        if kind == "late" and pick.randrange(2):
-            return s.poll()
-        return s.reply(slave, slave_run(s, pick.choice((0, 1, 3))), pick.randrange(4), int(kind == "late errors"))
+        return answers_late(s, slave, kind != "late")
     if kind == "errors":
         return s.reply(slave, s.anything(pick.randrange(4)), pick.randrange(4), pick.choice((1, 2, 0x100, 0xFFFF)))
     if kind in ZEROS:
-        return s.reply(slave, [], high | ZEROS[kind])
+        return s.reply(slave, [], high(s) | ZEROS[kind])
     if kind == "BC1 clear":
-        return s.reply(slave, slave_run(s, pick.choice((1, 2, length))), high | pick.randrange(2))
-    if kind == "BC 10":
-        return s.reply(slave, slave_run(s, pick.choice((1, 2, length))), high | 2)
+        return s.reply(slave, slave_run(s, pick.choice((1, 2, length))), high(s) | pick.randrange(2))
     if kind == "one word":
-        return s.reply(slave, slave_run(s, 1), high | 3)
-    return s.reply(slave, slave_run(s, 2 if kind == "two" else length, kind != "wrong FCS"), high | 3)
+        return s.reply(slave, slave_run(s, 1), high(s) | 3)
+    return s.reply(slave, slave_run(s, 2 if kind == "two" else length, kind != "wrong FCS"), high(s) | 3)
+
+
+def answers_late(s, slave, errors=False):
+    """By a poll or a reply, of which nothing counts."""
+    pick = s.pick
+    s.tick(pick.choice((60, 60, 61, 1000, 2**31, 2**32 - 1)))
+    if not errors and pick.randrange(2):
+        return s.poll()
+    return s.reply(slave, slave_run(s, pick.choice((0, 1, 3))), pick.randrange(4), int(errors))
+
+
+# 02, request 8: a reply in packets.
+
+
+def under_way(s):
+    """The words of the reply of which packets are stored, as they stand in the buffer; none where no such reply is waited for."""
+    group = s.node.pending and s.node.pending.group
+    return s.program.lent[BUFFER][group.words + 1:group.words + 1 + group.received] if group else []
+
+
+def room_left(s):
+    """How many more words of the asked slave's reply fit."""
+    pending = s.node.pending
+    left = bin(pending.group.asked >> pending.slave + 1).count("1")
+    return AREA - 2 - pending.group.words - pending.group.received - 5 * left
+
+
+def sends_front(s, slave, sizes, show=None, between=None):
+    """A first packet and middle ones of so many words, each with a right FCS of its own; whether all are stored, and more is waited for."""
+    for place, size in enumerate(sizes):
+        words = slave_run(s, size, seed=7 if size > 300 else None)
+        if s.reply(slave, words, high(s) | (0 if place else 2), show=show) != ("next", slave):
+            return False
+        if between:
+            between(s)
+    return s.node.pending is not None and s.node.pending.slave == slave and under_way(s) != []
+
+
+def ends_in_packets(s, slave, kind, length=None, show=None):
+    """The answer to NEXT that ends a reply of which packets are stored."""
+    pick = s.pick
+    length = pick.choice((1, 1, 2, 3, 9)) if length is None else length
+    if kind == "late after NEXT":
+        return answers_late(s, slave, not pick.randrange(4))
+    if kind == "empty after NEXT":
+        return s.reply(slave, [], high(s) | pick.randrange(4), show=show)
+    if kind == "first again":
+        return s.reply(slave, slave_run(s, length), high(s) | pick.choice((2, 3)), show=show)
+    if kind == "no room for a packet":
+        words = Run([], room_left(s) + pick.choice((1, 1, 2, 500, 40000)), 7)
+        return s.reply(slave, words, high(s) | pick.randrange(2), show=show)
+    if kind == "errors after NEXT":
+        return s.reply(slave, s.anything(pick.randrange(4)), pick.randrange(4), pick.choice((1, 2, 0x100, 0xFFFF)), show=show)
+    return s.reply(slave, slave_run(s, length, kind == "in packets", before=under_way(s)), high(s) | 1, show=show)
+
+
+def answers_in_packets(s, slave, kind):
+    """A reply in packets, of one kind, with calls of others between. A single slave's first packet passes, and is all of it."""
+    pick = s.pick
+    if kind == "no room for a packet" and not pick.randrange(3):
+        return s.reply(slave, Run([], pick.choice((12287, 12288, 40000)), 7), high(s) | 2)
+    if sends_front(s, slave, pick.choices((1, 1, 2, 3, 7, 30), k=pick.randrange(1, 4)), between=between):
+        ends_in_packets(s, slave, kind)
 
 
 def ask(s, mask, link=0):
@@ -132,10 +198,10 @@ def room(s):
     s.fresh(CDDC, 4, reply=12288)
     s.fill(BUFFER, 12304, 0x5A5A, 0)
     for length in (12285, 12286, 12287, 12288, 12289, 40000, 65535, 65536, 65540):
-        for kind in ("whole", "wrong FCS", "BC 10", "BC1 clear"):
+        for kind in ("whole", "wrong FCS", "BC1 clear"):
             ask(s, 1 << pick.randrange(24))
             slave = s.node.pending.slave
-            s.reply(slave, slave_run(s, length, kind != "wrong FCS", 7), {"BC 10": 2, "BC1 clear": 1}.get(kind, 3), show=16)
+            s.reply(slave, slave_run(s, length, kind != "wrong FCS", 7), {"BC1 clear": 1}.get(kind, 3), show=16)
     for left in (1, 2, 11, 22):
         for before in ("END", "wrong FCS", 40, 6000):
             for over in (-1, 0, 1):

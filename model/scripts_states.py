@@ -38,6 +38,9 @@ def out_of_range(s):
         lambda: s.set_group(0, slave, s.clock, asked, words=12288 - 5 * left - 6),
         lambda: s.set_group(0, slave, s.clock, asked, words=pick.choice((12288, 65536, 2**32 - 1, 2**32 - 5 * left - 7))),
         lambda: s.set_group(0, slave, s.clock, asked, first=pick.choice((0, 3, 255))),
+        lambda: s.set_group(0, slave, s.clock, asked, words=300, received=12288 - 5 * left - 301, rx_status=pick.choice((0, 9))),
+        lambda: s.set_group(0, slave, s.clock, asked, words=7, received=pick.choice((12288, 65536, 2**31, 2**32 - 1, 2**32 - 5 * left - 9))),
+        lambda: s.set_group(0, slave, s.clock, asked, rx_status=pick.choice((1, 0x8000, 0xFFFF))),
         lambda: s.set_write(pick.choice((node.ports, node.ports + 1, 255)), pick.choice((0, 7, 32768))),
         lambda: s.set_write(pick.randrange(max(node.ports, 1)), pick.choice((32769, 65535, 65536, 2**31, 2**32 - 1))),
     ]
@@ -67,9 +70,18 @@ def within_range(s):
         lambda: s.set(ERASING, pick.randrange(len(extent(node.flash_words, sector))), sector),
         lambda: s.set_slave(link, pick.choice((0, slave, 23)), s.clock),
         lambda: s.set_group(link, slave, s.clock, asked, pick.choice((1, 2)), pick.choice((0, words)), pick.randrange(7)),
+        lambda: s.set_group(link, slave, s.clock, asked, words=pick.choice((0, 300)), received=1, rx_status=pick.choice((0, 1, 0xFFFF))),
+        lambda: s.set_group(link, slave, s.clock, asked, words=300, received=words - 300 + pick.choice((4, 5)), rx_status=pick.randrange(9)),
+        lambda: s.set_group(link, slave, s.clock, asked, words=words, received=pick.choice((4, 5)), rx_status=pick.randrange(9)),
         lambda: s.set_write(link, pick.choice((0, 1, 100, 32767, 32768))),
     ]
     pick.choice(ways)()
+
+
+def set_pending(s):
+    """Slave 5 is being asked: alone, or in a group, of which it may have sent packets."""
+    in_packets = s.pick.choice(({}, {"received": 3, "rx_status": 8}))
+    s.set_group(0, 5, s.clock, 1 << 5 | 1 << 9, **in_packets) if s.pick.randrange(3) else s.set_slave(0, 5, s.clock)
 
 
 def refusals(s):
@@ -94,7 +106,7 @@ def refusals(s):
             if causes & 64:
                 lent["area"] = pick.choice((0, 1, 32767))
             if causes & 32:
-                s.set_group(0, 5, s.clock, 1 << 5 | 1 << 9) if pick.randrange(2) else s.set_slave(0, 5, s.clock)
+                set_pending(s)
             if causes & 16:
                 out_of_range(s)
             s.lend(**lent)

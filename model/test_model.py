@@ -1,7 +1,7 @@
 #!/usr/bin/env python3
 """The model against documents 01 and 02: each example of 01, the lines of the bench, what 01 says of every call, and what 02 says of
 files that come in several packets, of the masks at start, of the lengths in the summary, of remains behind a file, of names that
-several sectors have and of captured group replies."""
+several sectors have, of captured group replies and of slaves that answer in packets."""
 
 import random
 import unittest
@@ -10,11 +10,11 @@ from functools import lru_cache
 from itertools import product
 
 from build import file_of, segment
-from capture import answered, broken_at
+from capture import answered, broken_at, fragment_of
 from fcs import fcs
 from files import DM, IO, PM, sealed
 from flash import SECTORS, address_of, attributed, directory_of, extent, kept
-from group import ABORT, AREA, END, ERROR, NEXT, Answer, ending, fragment, is_late, tally_with, zero_length
+from group import ABORT, AREA, END, ERROR, MORE, NEXT, Answer, ending, fragment, is_late, tally_with, zero_length
 from memory import index, read
 from node import CDDC, CDP, ZEROS, Lent, Pending, Write, erase, poll, reply, request, start
 from node_lines import FLASH, POKE
@@ -578,6 +578,279 @@ class Packets(unittest.TestCase):
                 self.assertEqual(self.lent.reply[:length], file)
 
 
+class Replies(unittest.TestCase):
+    """02, request 8, sentence by sentence. Slaves 5 and 7 are asked, or 7 alone; `w` words of fragments were built before."""
+
+    FIRST, MIDDLE, LAST, WHOLE = 2, 0, 1, 3
+    REPLY = sealed([0xAAAA, 0x0001, 0x0002, 0x01A0])
+
+    def ask(self, *slaves, w=0):
+        self.node, self.lent = started()
+        mask = sum(1 << slave for slave in slaves)
+        self.node, answer = request(self.node, self.lent, 100, 1, 3, 0, [mask << 8 & 0xFF00 | 0x23, mask >> 8, 0x0C2E])
+        self.assertEqual(answer, ("ask", slaves[0], 2))
+        self.lent.reply[:] = [0x5A5A] * AREA
+        self.set(words=w)
+
+    def set(self, **fields):
+        self.node = replace(self.node, pending=replace(self.node.pending, group=replace(self.node.pending.group, **fields)))
+
+    def give(self, words, bc, now=100, error=0, rx=(0, 0), slave=None):
+        """What a packet is answered."""
+        slave = self.node.pending.slave if slave is None else slave
+        self.node, answer = reply(self.node, self.lent.reply, now, slave, bc, error, *rx, list(words))
+        return answer
+
+    def stored(self, words, bc, now=100, rx=0):
+        """A packet is stored, and the slave is sent NEXT."""
+        before, slave, built = self.node.amswire, self.node.pending.slave, self.node.pending.group
+        at = built.words + 1 + built.received
+        self.assertEqual(self.give(words, bc, now, rx=(rx, 0x7777)), ("next", slave))
+        group = self.node.pending.group
+        self.assertEqual((group.received, group.rx_status, self.node.pending.at), (built.received + len(words), rx, now))
+        self.assertEqual((group.words, group.tally, self.node.amswire), (built.words, built.tally, before))
+        self.assertEqual(self.lent.reply[at:at + len(words)], list(words))
+
+    def ends(self, fragment, answer, left=None):
+        """The sole slave's reply ended in a fragment, status and FCS; behind them stands what stood there."""
+        whole = fragment[-1] >> 11 == 0x10
+        words = sealed(fragment + [0x0000 if whole else 0x0200])
+        self.assertEqual((answer, self.lent.reply[:len(words)]), (("reply", 3, len(words)), words))
+        if left is not None:
+            self.assertEqual(self.lent.reply[len(words):len(words) + len(left)], left)
+        self.assertIsNone(self.node.pending)
+
+    def test_joined(self):
+        """Middle packets are BC 00, the last 01; the slave's FCS, at the very end, is not stored."""
+        for cuts in ((1, 5), (4, 5), (2, 3, 5), (1, 2, 3, 4, 5), (3, 5)):
+            self.ask(7)
+            self.stored(self.REPLY[:cuts[0]], self.FIRST)
+            for at, end in zip(cuts, cuts[1:-1]):
+                self.stored(self.REPLY[at:end], self.MIDDLE)
+            answer = self.give(self.REPLY[cuts[-2]:], self.LAST, rx=(1, 2))
+            self.ends([4, 0xAAAA, 0x0001, 0x0002, 0x81A7], answer, [0x5A5A] * 9)
+
+    def test_two_words_in_two_packets(self):
+        self.ask(7)
+        self.stored([0x0660], self.FIRST)
+        self.ends([1, 0x8667], self.give([fcs([0x0660])], self.LAST))
+
+    def test_higher_bits_of_bc_do_not_count(self):
+        self.ask(7)
+        self.stored(self.REPLY[:2], 0xFFFE)
+        self.stored(self.REPLY[2:3], 0x0004)
+        self.ends([4, 0xAAAA, 0x0001, 0x0002, 0x81A7], self.give(self.REPLY[3:], 0x8001))
+
+    def left_by(self, words, cuts, w):
+        """The answer, the group's reply and the node that a reply leaves which is cut into packets at some places."""
+        self.ask(7, w=w)
+        for at, end in zip([0, *cuts], [*cuts, len(words)]):
+            answer = self.give(words[at:end], (self.FIRST if at == 0 else 0) | (self.LAST if end == len(words) else 0))
+            if answer[0] == "reply":
+                return answer, self.lent.reply[:answer[2]], self.node
+
+    def test_equal_fragments(self):
+        """One packet or several with equal joined words, if either gives code 0; where the one has no room the others haven't."""
+        pick = random.Random(12)
+        for n, w in ((2, 0), (9, 40), (500, 11), (12280, 4), (12286, 0), (12246, 40), (12247, 40)):
+            words = sealed([pick.randrange(65536) for _ in range(n - 1)])
+            divided = [sorted(pick.sample(range(1, n), min(count, n - 1))) for count in (1, 2, 7)]
+            whole, *others = [self.left_by(words, cuts, w) for cuts in ([], *divided)]
+            if w + n <= 12286:
+                self.assertEqual(whole[1][w + n - 1] >> 11, 0x10)
+                self.assertEqual(others, [whole] * 3)
+            else:
+                self.assertEqual([left[1][w + 4] >> 11 for left in (whole, *others)], [0x12, 0x1A, 0x1A, 0x1A])
+
+    def test_60_ticks_anew(self):
+        """A timeout after NEXT is code 6, by a reply and by a poll, a clock that goes round included."""
+        for at in (100, 0xFFFFFFC4, 0xFFFFFFF0, 0xFFFFFFFF):
+            for late in (False, True):
+                for by_poll in (False, True):
+                    self.ask(7)
+                    self.node = replace(self.node, pending=replace(self.node.pending, at=at))
+                    self.stored(self.REPLY[:2], self.FIRST, (at + 59) % 2**32, rx=0x1234)
+                    self.stored(self.REPLY[2:3], self.MIDDLE, (at + 118) % 2**32, rx=0x4321)
+                    now = (at + 118 + 59 + late) % 2**32
+                    node = self.node
+                    if by_poll:
+                        self.node, answer = poll(self.node, self.lent.reply, now)
+                    else:
+                        answer = self.give(self.REPLY[3:], self.LAST, now, rx=(0x9999, 0x9999))
+                    if not late and by_poll:
+                        self.assertEqual((answer, self.node), (("waiting",), node))
+                    elif late:
+                        self.ends([4, 0x4321, 3, 0xAAAA, 0xB007], answer, [0x5A5A])
+                    else:
+                        self.ends([4, 0xAAAA, 0x0001, 0x0002, 0x81A7], answer)
+
+    def test_a_late_packet_is_not_looked_at(self):
+        """Its words don't count, nor its RX status, nor its receive errors."""
+        for words, bc, error in ((self.REPLY[2:], 1, 0), ([], 3, 0), ([1], 2, 0), ([1] * 12288, 0, 0), ([1, 2], 1, 1)):
+            self.ask(7)
+            self.stored(self.REPLY[:2], self.FIRST, rx=0x1234)
+            answer = self.give(words, bc, 160, error, (0x9999, 0x9999))
+            self.ends([4, 0x1234, 2, 0xAAAA, 0xB007], answer)
+            self.assertEqual(self.node.amswire, 0)
+
+    def test_the_first_packet_late(self):
+        """Code 5 without DAT, as before: nothing was received."""
+        for by_poll in (False, True):
+            self.ask(7)
+            if by_poll:
+                self.node, answer = poll(self.node, self.lent.reply, 160)
+            else:
+                answer = self.give(self.REPLY[:2], self.FIRST, 160)
+            self.ends([1, 0x2807], answer)
+
+    def test_no_words_after_next(self):
+        """Code 7, whatever the BC; the empty packet's RX status, since it came in time."""
+        for bc in range(4):
+            self.ask(7)
+            self.stored(self.REPLY[:3], self.FIRST, rx=0x1234)
+            self.ends([4, 0x4321, 3, 0xAAAA, 0xB807], self.give([], bc, rx=(0x4321, 1)))
+
+    def test_first_again(self):
+        """Code 8, before room and FCS; the failing packet's words count."""
+        for bc in (2, 3, 0xFFFE):
+            for words in ([9], [9, 9], self.REPLY, [9] * 12300):
+                self.ask(7)
+                self.stored(self.REPLY[:3], self.FIRST, rx=0x1234)
+                self.ends([4, 0x4321, 3 + len(words), 0xAAAA, 0xC007], self.give(words, bc, rx=(0x4321, 1)))
+
+    def test_no_room(self):
+        """Code A, by 01's room sum over the words so far: for a first packet, a middle one and a last one."""
+        for w, slaves in ((0, (7,)), (40, (7,)), (0, (5, 7)), (7, (5, 7, 23))):
+            room = AREA - 2 - w - 5 * (len(slaves) - 1)
+            for front in ((), (1,), (6000,), (5, 6000), (room - 1,), (room,)):
+                for over in (0, 1):
+                    n = room - sum(front) + over
+                    if n == 0:
+                        continue
+                    for bc in (self.FIRST,) if not front else (self.MIDDLE, self.LAST):
+                        self.ask(*slaves, w=w)
+                        for place, count in enumerate(front):
+                            self.stored([0xAAAA] * count, self.MIDDLE if place else self.FIRST, rx=0x1234)
+                        left = self.lent.reply[w + 5:]
+                        words = [0xAAAA] * n
+                        if not over and bc != self.LAST:
+                            self.stored(words, bc, rx=0x4321)
+                            continue
+                        answer = self.give(words, bc, rx=(0x4321, 1))
+                        code = 0xA if over else 0xC
+                        fragment = [4, 0x4321, room + over, 0xAAAA, 0x8000 | code << 11 | slaves[0]]
+                        self.assertEqual(self.lent.reply[w:w + 5], fragment)
+                        if len(slaves) > 1:
+                            self.assertEqual((answer, self.lent.reply[w + 5:]), (("ask", slaves[1], 2), left))
+
+    def test_no_room_for_more_than_65535(self):
+        for front, n in ((0, 65534), (0, 65535), (0, 65536), (1, 65533), (1, 65534), (1, 65535), (5, 70000)):
+            self.ask(7)
+            if front:
+                self.stored([0xAAAA] * front, self.FIRST)
+            answer = self.give([0xAAAA] * n, self.MIDDLE if front else self.FIRST)
+            self.ends([4, 0, min(front + n, 0xFFFF), 0xAAAA, 0xD007], answer)
+
+    def test_wrong_fcs(self):
+        """Code C over the joined reply; a right FCS of the last packet alone is none."""
+        for last in ([*self.REPLY[2:-1], self.REPLY[-1] ^ 1], sealed(self.REPLY[2:-1]), [7]):
+            self.ask(7)
+            self.stored(self.REPLY[:1], self.FIRST)
+            self.stored(self.REPLY[1:2], self.MIDDLE, rx=0x1234)
+            self.ends([4, 0x4321, 2 + len(last), 0xAAAA, 0xE007], self.give(last, self.LAST, rx=(0x4321, 1)))
+
+    def test_receive_errors(self):
+        """On a later packet they are tested behind 6, and give the four-word fragment with this packet's words; they are counted."""
+        for words, bc in (([], 0), ([], 2), ([1], 2), (self.REPLY[2:], 1), ([1] * 13000, 0)):
+            self.ask(7)
+            self.stored(self.REPLY[:2], self.FIRST, rx=0x1234)
+            self.ends([3, 0x4321, 0x7654, 0x3007], self.give(words, bc, error=0x100, rx=(0x4321, 0x7654)))
+            self.assertEqual(self.node.amswire, 1)
+
+    def test_bc1_clear_on_the_first_packet(self):
+        for bc in (0, 1):
+            self.ask(7)
+            self.ends([4, 0x4321, 2, 0xAAAA, 0x8807], self.give(self.REPLY[:2], bc, rx=(0x4321, 1)))
+
+    def test_code_3_is_for_a_whole_packet_alone(self):
+        self.ask(7)
+        self.ends([4, 0x4321, 1, 0xAAAA, 0x9807], self.give([0xAAAA], self.WHOLE, rx=(0x4321, 1)))
+        self.ask(7)
+        self.stored([0xAAAA], self.FIRST)
+
+    def test_words_stored_past_a_failed_reply_stay(self):
+        """Uncounted, until the next slave's words stand there."""
+        self.ask(5, 7)
+        self.stored([1, 2, 3, 4, 5, 6, 7, 8], self.FIRST, rx=0x1234)
+        self.assertEqual(self.give([9, 9], self.WHOLE, rx=(0x4321, 1)), ("ask", 7, 2))
+        group = self.node.pending.group
+        self.assertEqual((group.words, group.tally, group.received, group.rx_status), (5, 6, 0, 0))
+        self.assertEqual(self.lent.reply[:10], [4, 0x4321, 10, 1, 0xC005, 5, 6, 7, 8, 0x5A5A])
+        self.stored([0xBBBB], self.FIRST)
+        self.assertEqual(self.lent.reply[5:10], [5, 0xBBBB, 7, 8, 0x5A5A])
+        answer = self.give([fcs([0xBBBB])], self.LAST)
+        words = sealed([4, 0x4321, 10, 1, 0xC005, 1, 0x8007 | 0xBBBB & 0x07E0, 0x0200])
+        self.assertEqual((answer, self.lent.reply[:10]), (("reply", 3, 9), words + [0x5A5A]))
+
+    def test_what_stands_in_the_buffer_counts(self):
+        """The FCS and the first word are those of the lent buffer."""
+        self.ask(7)
+        self.stored(self.REPLY[:3], self.FIRST)
+        self.lent.reply[1:3] = [0xBBBB, 0xCCCC]
+        joined = [0xBBBB, 0xCCCC, 0x0002, 0x01A0]
+        self.ends([4, 0xBBBB, 0xCCCC, 0x0002, 0x81A7], self.give([0x01A0, fcs(joined)], self.LAST))
+        self.ask(7)
+        self.stored(self.REPLY[:3], self.FIRST, rx=0x1234)
+        self.lent.reply[1] = 0xBBBB
+        self.node, answer = poll(self.node, self.lent.reply, 160)
+        self.ends([4, 0x1234, 3, 0xBBBB, 0xB007], answer)
+
+    def test_all_slaves_in_packets(self):
+        self.ask(*range(24))
+        for slave in range(24):
+            words = sealed([slave, 0x0040])
+            self.stored(words[:1], self.FIRST)
+            answer = self.give(words[1:], self.LAST)
+            self.assertEqual(answer[:2], ("ask", slave + 1) if slave < 23 else ("reply", 3))
+        words = sealed([word for slave in range(24) for word in (2, slave, 0x8040 | slave)] + [0x0000])
+        self.assertEqual((answer, self.lent.reply[:75]), (("reply", 3, 74), words + [0x5A5A]))
+
+    def test_dropped(self):
+        """By its own link: the buffer stays as it is, and the next group begins anew."""
+        self.ask(5, 7)
+        self.stored(self.REPLY[:3], self.FIRST, rx=0x1234)
+        buffer, node = list(self.lent.reply), self.node
+        for link, bc, packet, answer in ((0, 2, [], ("reply", ABORT, 0)), (1, 0, [], ("reply", ABORT, 0)), (1, 1, [7], ("refused", 6))):
+            self.assertEqual(request(node, self.lent, 100, link, bc, 0, packet), (node, answer))
+        self.node, answer = request(node, self.lent, 100, 1, 2, 0, [])
+        self.assertEqual((answer, self.node.pending, self.lent.reply), (("reply", END, 0), None, buffer))
+        self.node, _ = request(self.node, self.lent, 100, 1, 3, 0, [0x8023, 0x0000, 0x0C2E])
+        self.assertEqual((self.node.pending.group.received, self.node.pending.group.rx_status), (0, 0))
+        self.ends([1, 0x8007], self.give(sealed([0]), self.WHOLE))
+
+    def test_single_slaves_pass_as_before(self):
+        for bc in range(4):
+            self.node, self.lent = started()
+            self.node, _ = request(self.node, self.lent, 100, 1, 3, 0, [0x0407, 0x0C2E])
+            self.assertEqual(self.give([1, 2, 3], bc), ("reply", bc, 3))
+            self.assertEqual((self.lent.reply[:4], self.node.pending), ([1, 2, 3, 0], None))
+
+    def test_refusals(self):
+        """Words received are within the room, and a kept RX status belongs to some."""
+        for slaves, w in (((7,), 0), ((5, 7), 0), ((5, 7, 23), 300)):
+            room = AREA - 2 - w - 5 * (len(slaves) - 1)
+            ranges = ((room, 0, True), (room, 9, True), (room + 1, 0, False), (2**32 - 1, 0, False), (2**32 - w, 0, False), (0, 0, True),
+                      (0, 1, False), (0, 0xFFFF, False), (1, 0xFFFF, True))
+            for received, rx_status, fine in ranges:
+                self.ask(*slaves, w=w)
+                self.set(received=received, rx_status=rx_status)
+                node = self.node
+                self.assertEqual(poll(node, self.lent.reply, 100), (node, ("waiting",) if fine else ("refused", 5)))
+                self.assertEqual(erase(node, self.lent.flash, 1), (node, ("erased", 0) if fine else ("refused", 5)))
+                self.assertEqual(request(node, self.lent, 100, 0, 3, 0, [7])[1], ("refused", 6 if fine else 5))
+                self.assertEqual(reply(node, self.lent.reply, 100, 9, 3, 0, 0, 0, [])[1], ("refused", 7 if fine else 5))
+
+
 class Captures(unittest.TestCase):
     """02, request 3, sentence by sentence."""
 
@@ -616,20 +889,25 @@ class Captures(unittest.TestCase):
             self.one([0x0001, status], 1)
         for status in (0x2807, 0x3006, 0x3407, 0x8807):
             self.one([0x0003, 0, 0, status], 3)
-        for code in (4, 6, 7, 8, 10, 11, 12, 13, 14, 15):
+        for code in (4, 9, 11, 13, 14, 15):
             self.one([0x0004, 0, 4, 0, 0x8007 | code << 11], 4)
+        for code in (1, 3, 5, 6, 7, 8, 10, 12):
+            for bits in (0x0020, 0x0400):
+                self.one([0x0004, 0, {3: 1, 10: 12287}.get(code, 4), 0, 0x8007 | code << 11 | bits], 4)
         self.one([0x0004, 0, 4, 0, 0xA827], 4)
         self.one([0x0005, 0, 4, 0, 0, 0xA807], 5)
 
     def test_code_against_reply_length(self):
         room = 12286
-        limits = {1: (1, 0xFFFF), 9: (1, 0xFFFF), 3: (1, 1), 5: (2, 0xFFFF), 2: (room + 1, 0xFFFF)}
+        limits = {1: (1, 0xFFFF), 3: (1, 1), 5: (2, 0xFFFF), 2: (room + 1, 0xFFFF)}
+        limits |= {6: (1, room), 7: (1, room), 8: (2, 0xFFFF), 0xA: (room + 1, 0xFFFF), 0xC: (2, room), 9: (1, 0)}  # 02, request 8
         for code, (least, most) in limits.items():
             for n in (0, 1, 2, 3, 5, 6, room - 1, room, room + 1, 0xFFFE, 0xFFFF):
                 self.one([4, 0x5555, n, 0xAAAA, 0x8007 | code << 11], None if least <= n <= most else 4)
         self.one([4, 0, room + 1, 0, 0x97E7], None)  # status bits with no room
-        for n, place in ((12281, 4), (12282, None)):  # with a slave more to ask
-            self.breaks(0x180, sealed([4, 0, n, 0, 0x9007, 1, 0x2808, 0x0200]), place)
+        for n in (12281, 12282):  # with a slave more to ask
+            for status, fits in ((0x9007, n > 12281), (0xB007, n <= 12281), (0xB807, n <= 12281), (0xD007, n > 12281), (0xE007, n <= 12281)):
+                self.breaks(0x180, sealed([4, 0, n, 0, status, 1, 0x2808, 0x0200]), None if fits else 4)
 
     def test_nothing_is_judged_before_the_status_word(self):
         for words in ([4], [4, 0], [4, 0, 0], [4, 0, 0, 0]):
@@ -698,7 +976,7 @@ class Captures(unittest.TestCase):
             mask = pick.getrandbits(24) & pick.getrandbits(24) or 1
             slaves = [slave for slave in range(24) if mask >> slave & 1]
             parts = [(1, 0x2800), (1, 0x0800), (1, 0x2000), (3, 5, 6, 0x3000), (1, 0x8060), (4, 7, 8, 9, 0x8000), (2, 7, 0x87E0)]
-            parts += [(4, 1, n, 3, 0x8000 | code << 11) for n in (1, 2, 0xFFFF) for code in (1, 9, 3, 5, 2)]
+            parts += [(4, 1, n, 3, 0x8000 | code << 11) for n in (1, 2, 0xFFFF) for code in (1, 3, 5, 2, 6, 7, 8, 0xA, 0xC)]
             words = [word for slave in slaves for part in [pick.choice(parts)] for word in part[:-1] + (part[-1] | slave,)]
             words = sealed(words + [0x0200 | pick.randrange(8) << 6])
             found = answered(mask, words, True)
@@ -712,18 +990,36 @@ class Captures(unittest.TestCase):
         node, memories = started()
         node = replace(node, mode=status >> 6 & 3, start_tests=status & 0x0100)
         node, answer = request(node, memories, 0, 0, 3, 0, [mask << 8 & 0xFF00 | 0x23, mask >> 8, 0x0C2E])
-        for item in given:
+        for packets in given:
             self.assertEqual(answer[0], "ask")
-            now = 60 if item.late else 0
-            node = replace(node, pending=replace(node.pending, at=0))
-            rest = (item.bc, item.errors, item.rx_status, item.rx_address, item.words)
-            node, answer = reply(node, memories.reply, now, answer[1], *rest)
+            for item in packets:
+                now = 60 if item.late else 0
+                node = replace(node, pending=replace(node.pending, at=0))
+                rest = (item.bc, item.errors, item.rx_status, item.rx_address, item.words)
+                node, answer = reply(node, memories.reply, now, answer[1], *rest)
         return memories.reply[:answer[2]]
 
 
 def every_answer(palette, front):
-    """Every answer of a slave that is made of a palette: its RX words, its first words up to `front` of them, its length, and what its
-    length word would be, each any word of the palette; with every BC, bits 10-5 of its status word set or clear, its FCS right or wrong."""
+    """Every answer of a slave that is made of a palette, as a list of packets: its RX words, its first words up to `front` of them, its
+    length, and what its length word would be, each any word of the palette; with every BC, bits 10-5 of its status word set or clear, its
+    FCS right or wrong. In packets: its first word by itself, all words but the last, or all, and every way to go on."""
+    for packet in every_packet(palette, front):
+        yield [packet]
+    for n, first in product([word for word in palette if word > 0], palette):
+        words = sealed([first] + [0] * (n - 2)) if n > 1 else [first]
+        for end in {1, max(n - 1, 1), n}:
+            rest, wrong = words[end:], words[end:-1] + [words[-1] ^ 1]
+            for rx_status in palette:
+                before = answer_of(words[:end], 2, rx_status=rx_status)
+                yield [before, answer_of(rest, late=True)]
+                yield [before, answer_of(errors=True, rx_status=rx_status, rx_address=first)]
+                for bc in range(4):
+                    yield [before, answer_of(rest, bc, rx_status=rx_status)]
+                yield [before, answer_of(wrong if rest else [], 1, rx_status=rx_status)]
+
+
+def every_packet(palette, front):
     yield answer_of(late=True)
     for bc in (NEXT, ABORT, ERROR, END):
         yield answer_of(bc=bc)
@@ -755,8 +1051,8 @@ def every_reply(slaves, palette, front, depth):
 
     @lru_cache(maxsize=None)
     def fragments(place, built):
-        laid = [fragment(slaves[place], answer, built, len(slaves) - 1 - place) for answer in given]
-        return {(dat, code, tuple(words[:depth])) for dat, code, words in laid}
+        laid = [fragment_of(slaves[place], packets, built, len(slaves) - 1 - place) for packets in given]
+        return {(made[0], made[1], tuple(made[2][:depth])) for made in laid if made is not MORE}
 
     def go_on(place, words, tally):
         if len(words) >= depth and (place < len(slaves) or zero_length(tally) is None):
@@ -781,7 +1077,8 @@ class CapturesTried(unittest.TestCase):
         pick = random.Random(9)
         beginnings, wholes = every_reply(slaves, palette, front, depth)
         mask = sum(1 << slave for slave in slaves)
-        known, short = sorted(beginnings), sorted(reply for reply in wholes if len(reply) < depth)
+        known = sorted(words for words in beginnings if set(words) <= set(palette))  # so that what goes on by the palette was made too
+        short = sorted(reply for reply in wholes if len(reply) < depth)
         captures = [words for length in range(4) for words in product(palette, repeat=length)]
         for _ in range(200):
             words = pick.choice(known) + tuple(pick.choices(palette, k=pick.randrange(4)))
@@ -794,6 +1091,8 @@ class CapturesTried(unittest.TestCase):
 
     def test_a_sole_slave(self):
         for palette in ((0, 1, 4, 0xA805), (3, 4, 0x3005, 0x9005), (1, 4, 0x8805, 0x9805), (1, 2, 0x8005, 0xC805)):
+            self.compare([5], palette, 3, 8)
+        for palette in ((0, 1, 4, 0xB005), (0, 2, 4, 0xB805), (0, 1, 4, 0xC005), (0, 4, 0xD005), (0, 1, 4, 0xE005)):  # 02, request 8
             self.compare([5], palette, 3, 8)
 
     def test_two_slaves(self):

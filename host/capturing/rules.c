@@ -1,4 +1,4 @@
-/* What words are by 01 'Group assembly' and 02, request 3: the fragments that they begin with, and the first word that breaks a rule. The
+/* What words are by 01 'Group assembly' and 02, requests 3 and 8: the fragments that they begin with, and the first word that breaks a rule. The
    proved reader decides whether they are a group's reply; this says why not, and verdict.c notices where the two disagree.
 
    A word is judged as soon as it can be: a length word by itself, all else of a fragment at its status word, since before that any words
@@ -51,6 +51,10 @@ static bool is_length_right(struct walk *walk) {
     return true;
 }
 
+/* Bounds of a reply's length that depend on the room: the longest that there is room for, and the shortest that there is none for. They
+   are above FFFF, which stands for more than a word can tell. */
+enum { MORE = 0xFFFF, ROOM, PAST_ROOM };
+
 /* Of each code that there is: the length of its fragment, 0 where any will do, and which lengths of a reply go with it. */
 static const struct code {
     unsigned code;
@@ -64,11 +68,15 @@ static const struct code {
     {LOGODWEN_CODE_LATE, 1, 0, 0},
     {LOGODWEN_CODE_ERRORS, 3, 0, 0},
     {LOGODWEN_CODE_WHOLE, 0, 0, 0},
-    {LOGODWEN_CODE_NOT_FIRST, 4, 1, 0xFFFF},
-    {LOGODWEN_CODE_NO_ROOM, 4, 0, 0xFFFF}, /* the least depends on the room */
+    {LOGODWEN_CODE_NOT_FIRST, 4, 1, MORE},
+    {LOGODWEN_CODE_NO_ROOM, 4, PAST_ROOM, MORE},
     {LOGODWEN_CODE_ONE_WORD, 4, 1, 1},
-    {LOGODWEN_CODE_WRONG_FCS, 4, 2, 0xFFFF},
-    {LOGODWEN_CODE_NOT_LAST, 4, 1, 0xFFFF},
+    {LOGODWEN_CODE_WRONG_FCS, 4, 2, MORE},
+    {LOGODWEN_CODE_NEXT_LATE, 4, 1, ROOM},
+    {LOGODWEN_CODE_NEXT_EMPTY, 4, 1, ROOM},
+    {LOGODWEN_CODE_NEXT_FIRST, 4, 2, MORE}, /* room or not */
+    {LOGODWEN_CODE_PACKET_NO_ROOM, 4, PAST_ROOM, MORE},
+    {LOGODWEN_CODE_JOINED_FCS, 4, 2, ROOM},
 };
 
 static const struct code *code_of(unsigned code) {
@@ -87,19 +95,33 @@ static void code_text(unsigned code, char *text) {
         say(text, "code %X %s, '%s',", code & 15u, dat, logodwen_code_text(code));
 }
 
-/* Whether the length of the reply that the fragment tells goes with its code. */
+/* A bound as a number. */
+static unsigned bound(const struct walk *walk, unsigned stated) {
+    return stated == ROOM ? (unsigned)room(walk) : stated == PAST_ROOM ? (unsigned)room(walk) + 1 : stated;
+}
+
+/* Which lengths are within two bounds. */
+static void range_text(unsigned least, unsigned most, char *text) {
+    if (least == most)
+        say(text, "just %u", least);
+    else if (most == MORE)
+        say(text, "%u or more", least);
+    else
+        say(text, "%u to %u", least, most);
+}
+
+/* Whether the length of the reply that the fragment tells, or of what had come of it in packets, goes with its code. */
 static bool is_reply_length_right(struct walk *walk, const struct code *code, size_t at, unsigned status) {
     if (code->most == 0)
         return true;
-    unsigned told = word_at(walk, at - 2), least = code->code == LOGODWEN_CODE_NO_ROOM ? (unsigned)room(walk) + 1 : code->least;
-    char name[TEXT];
-    if (least <= told && told <= code->most)
+    unsigned told = word_at(walk, at - 2), least = bound(walk, code->least), most = bound(walk, code->most);
+    char name[TEXT], range[TEXT];
+    if (least <= told && told <= most)
         return true;
     code_text(code->code, name);
-    bool is_one = least == code->most;
-    return breaks(walk->found, "reply length", at,
-                  "the status word %04X has %s and word %zu a reply length of %u; with this code it is %s%u%s", status, name, at - 2, told,
-                  is_one ? "just " : "", least, is_one ? "" : " or more");
+    range_text(least, most, range);
+    return breaks(walk->found, "reply length", at, "the status word %04X has %s and word %zu a reply length of %u; with this code it is %s",
+                  status, name, at - 2, told, range);
 }
 
 /* Whether this slave's 0-length reply makes all slaves' the same: the group's reply would be that reply, and no words. */

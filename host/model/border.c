@@ -1,9 +1,9 @@
-/* The model at the C border: runs of bytes for words, 180 bytes for the node. */
+/* The model at the C border: runs of bytes for words, 188 bytes for the node. */
 #include "model.h"
 
 #include <string.h>
 
-enum { STATE = 180 };
+enum { STATE = 188 };
 static const struct limits border = {8192, 8192, 4096, 32768, false};
 
 static struct run words_of(uint8_t *bytes, size_t length) { return (struct run){bytes, length / 2}; }
@@ -47,13 +47,19 @@ static bool decoded(const uint8_t *state, struct node *node) {
     node->writing = state[172] != 0;
     node->writer = state[173];
     node->joined = long_at(state, 176);
+    node->received = long_at(state, 180);
+    node->rx_status = word_at(state + 184, 0);
+    if (word_at(state + 186, 0) != 0)
+        return false;
     if (state[172] > 1 || word_at(state + 174, 0) != 0 || (!node->writing && (node->writer != 0 || node->joined != 0)))
         return false;
     if (!node->erasing && node->done != 0)
         return false;
     if (node->pending == PENDING_NOTHING && (node->link != 0 || node->slave != 0 || node->asked_at != 0))
         return false;
-    return node->pending == PENDING_GROUP || (node->from == 0 && node->tally == 0 && node->asked == 0 && node->built == 0);
+    if (node->pending == PENDING_GROUP)
+        return true;
+    return node->from == 0 && node->tally == 0 && node->asked == 0 && node->built == 0 && node->received == 0 && node->rx_status == 0;
 }
 
 static void encode(const struct node *node, uint8_t *state) {
@@ -86,6 +92,9 @@ static void encode(const struct node *node, uint8_t *state) {
     state[173] = (uint8_t)node->writer;
     put_word(state + 174, 0, 0);
     put_long(state, 176, node->joined);
+    put_long(state, 180, node->received);
+    put_word(state + 184, 0, node->rx_status);
+    put_word(state + 186, 0, 0);
 }
 
 /* The node to make a call on. Where the bytes are no state's, its kind is none, so 5 refuses it; 1 and 4, which come first, still

@@ -1,5 +1,6 @@
-/* 02, request 3: whether captured words are a group's reply, in one pass over them. What is tested where follows 01 'Group assembly': a
-   length word can only be judged by the room, a status word by what its code goes with, and the last two words by all before them. */
+/* 02, request 3: whether captured words are a group's reply, in one pass over them. What is tested where follows 01 'Group assembly' and
+   02, request 8: a length word can only be judged by the room, a status word by what its code goes with, and the last two words by all
+   before them. */
 #include "model.h"
 
 enum { ACCEPTED = 4, BROKEN = 5 };
@@ -15,10 +16,12 @@ static bool goes_with(unsigned code, size_t length, const uint8_t *fragment, siz
     case 1: case 2: case 3: case 4: case 5: return length == 1;
     case 6: return length == 3;
     case DAT | 0: return true;
-    case DAT | 1: case DAT | 9: return replied >= 1;
-    case DAT | 2: return replied > room;
+    case DAT | 1: return replied >= 1;
+    case DAT | 2: case DAT | 0xA: return replied > room;
     case DAT | 3: return replied == 1;
-    case DAT | 5: return replied >= 2;
+    case DAT | 5: case DAT | 8: return replied >= 2;
+    case DAT | 6: case DAT | 7: return replied >= 1 && replied <= room; /* the packets before had room */
+    case DAT | 0xC: return replied >= 2 && replied <= room;
     default: return false;
     }
 }

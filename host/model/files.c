@@ -13,10 +13,12 @@ static void fill_table(void) {
 }
 
 /* Polynomial 0x1021, start 0xFFFF, most significant bit first, high byte of each word first. */
-uint16_t model_fcs(const uint8_t *bytes, size_t words) {
+uint16_t model_fcs(const uint8_t *bytes, size_t words) { return model_fcs_on(0xFFFF, bytes, words); }
+
+uint16_t model_fcs_on(uint16_t before, const uint8_t *bytes, size_t words) {
     if (table[1] == 0)
         fill_table();
-    unsigned value = 0xFFFF;
+    unsigned value = before;
     for (size_t i = 0; i < words; i++) {
         value = table[value >> 8 ^ bytes[2 * i + 1]] ^ (value << 8 & 0xFFFF);
         value = table[value >> 8 ^ bytes[2 * i]] ^ (value << 8 & 0xFFFF);

@@ -41,6 +41,8 @@ struct node {
     uint32_t sector, done; /* while erasing */
     uint32_t pending, link, slave, asked_at;
     uint32_t asked, from, built, tally; /* of a group */
+    uint32_t received;                  /* of a reply in packets (02, request 8): words so far, from word built + 1 of the buffer on */
+    uint16_t rx_status;                 /* of its last packet */
     bool writing;                       /* a File Write in several packets stands (02, request 1) */
     uint32_t writer, joined;            /* its link, and the words joined so far */
 };
@@ -55,6 +57,7 @@ static inline void put_word(uint8_t *bytes, size_t at, unsigned word) {
 }
 
 uint16_t model_fcs(const uint8_t *bytes, size_t words);
+uint16_t model_fcs_on(uint16_t before, const uint8_t *bytes, size_t words); /* behind words that have an FCS */
 
 /* Files (files.c). */
 

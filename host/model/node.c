@@ -1,4 +1,4 @@
-/* 01 'Call refusals', 'Requests', 'Group assembly', 'State and status reply', and 02, requests 1 and 2: the node and its five calls. */
+/* 01 'Call refusals', 'Requests', 'Group assembly', 'State and status reply', and 02, requests 1, 2 and 8: the node and its five calls. */
 #include "model.h"
 
 #include <string.h>
@@ -9,6 +9,7 @@ enum { TALLY_WHOLE = 5, TALLY_MIXED = 6 };
 static uint64_t reply_of(unsigned bc, size_t words) { return 1u << 8 | bc << 16 | (uint64_t)words << 32; }
 static uint64_t ask_of(unsigned slave, unsigned from) { return 2u << 8 | slave << 16 | from << 24; }
 static uint64_t waiting(void) { return 3u << 8; }
+static uint64_t next_of(unsigned slave) { return 8u << 8 | slave << 16; }
 
 static void count_error(uint16_t *count) {
     if (*count != 0xFFFF)
@@ -51,7 +52,10 @@ static bool is_unknown(uint32_t kind, uint32_t ports, uint32_t subdetector) {
 static bool is_group_wrong(const struct node *node) {
     if (node->asked > ALL_SLAVES || (node->asked >> node->slave & 1) == 0)
         return true;
-    if ((uint64_t)node->built + 5 * (how_many(yet_to_ask(node)) + 1) + 2 > AREA)
+    unsigned left = how_many(yet_to_ask(node));
+    if ((uint64_t)node->built + 5 * (left + 1) + 2 > AREA || (uint64_t)node->built + node->received + 5 * left + 2 > AREA)
+        return true;
+    if (node->received == 0 && node->rx_status != 0)
         return true;
     return node->from < 1 || node->from > 2 || node->tally > TALLY_MIXED;
 }
@@ -362,14 +366,14 @@ static uint64_t forward(struct node *node, uint32_t now, uint32_t link, const ui
     node->asked_at = now;
     node->asked = first < SLAVES ? 0 : set;
     node->from = first < SLAVES ? 0 : stripped;
-    node->built = 0;
-    node->tally = 0;
+    node->built = node->tally = node->received = node->rx_status = 0;
     return ask_of(node->slave, stripped);
 }
 
 static void drop(struct node *node) {
     node->pending = PENDING_NOTHING;
-    node->link = node->slave = node->asked_at = node->asked = node->from = node->built = node->tally = 0;
+    node->link = node->slave = node->asked_at = node->asked = node->from = node->built = node->tally = node->received = 0;
+    node->rx_status = 0;
 }
 
 static uint64_t error_of(struct node *node) {
@@ -474,8 +478,13 @@ struct answer {
 
 static bool is_late(const struct node *node, uint32_t now) { return (uint32_t)(now - node->asked_at) >= TIMEOUT; }
 
-/* DAT in bit 15 and the code in bits 14-11, as in the status word. */
-static unsigned judged(const struct answer *answer, size_t built, unsigned left) {
+/* A judgement is DAT in bit 15 and the code in bits 14-11, as in the status word; or that a packet is stored, and the next one sent for. */
+enum { MORE = 1 };
+
+static unsigned with_data(unsigned code) { return 0x8000 | code << 11; }
+
+/* Of a first packet. */
+static unsigned judged_first(const struct answer *answer, bool has_room) {
     static const unsigned zero_codes[4] = {1, 3, 2, 4}; /* NEXT, ERROR, ABORT, END */
     if (answer->late)
         return 5u << 11;
@@ -483,43 +492,75 @@ static unsigned judged(const struct answer *answer, size_t built, unsigned left)
         return 6u << 11;
     if (answer->n == 0)
         return zero_codes[answer->bc] << 11;
-    unsigned code = 0;
     if ((answer->bc & 2) == 0)
-        code = 1;
-    else if (answer->bc == 2)
-        code = 9;
-    else if (answer->n == 1)
-        code = 3;
-    else if (word_at(answer->packet, answer->n - 1) != model_fcs(answer->packet, answer->n - 1))
-        code = 5;
-    else if (built + answer->n + 5 * left + 2 > AREA)
-        code = 2;
-    return 0x8000 | code << 11;
+        return with_data(1);
+    if (answer->bc == 2)
+        return has_room ? MORE : with_data(0xA);
+    if (answer->n == 1)
+        return with_data(3);
+    if (word_at(answer->packet, answer->n - 1) != model_fcs(answer->packet, answer->n - 1))
+        return with_data(5);
+    return with_data(has_room ? 0 : 2);
+}
+
+/* Of a later one, the answer to NEXT (02, request 8), behind the words that stand in the buffer. */
+static unsigned judged_later(const struct answer *answer, bool has_room, const uint8_t *stored, size_t received) {
+    if (answer->late)
+        return with_data(6);
+    if (answer->errors)
+        return 6u << 11;
+    if (answer->n == 0)
+        return with_data(7);
+    if ((answer->bc & 2) != 0)
+        return with_data(8);
+    if (!has_room)
+        return with_data(0xA);
+    if (answer->bc == 0)
+        return MORE;
+    uint16_t sequence = model_fcs_on(model_fcs(stored, received), answer->packet, answer->n - 1);
+    return with_data(word_at(answer->packet, answer->n - 1) == sequence ? 0 : 0xC);
+}
+
+/* The five-word fragment: RX status and count of the words that came in time, and the first of them, which may stand where the fragment is
+   put. */
+static size_t put_fault(const struct node *node, const struct answer *answer, uint8_t *fragment) {
+    size_t count = node->received + (answer->late ? 0 : answer->n);
+    unsigned first = node->received != 0 ? word_at(fragment, 1) : word_at(answer->packet, 0);
+    put_word(fragment, 1, answer->late ? node->rx_status : answer->rx_status);
+    put_word(fragment, 2, count > 0xFFFF ? 0xFFFF : (unsigned)count);
+    put_word(fragment, 3, first);
+    return 4;
+}
+
+/* The data behind those that stand in the buffer already. Slave's status and FCS aren't put; of a last packet of one word, the FCS, the
+   status stands there as the last word before. */
+static size_t put_data(const struct node *node, const struct answer *answer, uint8_t *fragment) {
+    if (answer->n > 2)
+        memcpy(fragment + 2 * (1 + (size_t)node->received), answer->packet, 2 * (answer->n - 2));
+    return node->received + answer->n - 1;
+}
+
+/* The slave's own status word, the last but one of its reply. */
+static unsigned status_of_slave(const struct node *node, const struct answer *answer, const uint8_t *fragment) {
+    return answer->n > 1 ? word_at(answer->packet, answer->n - 2) : word_at(fragment, node->received);
 }
 
 /* Puts the fragment behind the words built, and answers how many words it has. */
-static size_t put_fragment(uint8_t *reply, size_t built, unsigned judgement, unsigned slave, const struct answer *answer) {
-    unsigned code = judgement >> 11 & 15, status = judgement | slave;
+static size_t put_fragment(const struct node *node, unsigned judgement, const struct answer *answer, uint8_t *fragment) {
+    unsigned status = judgement | node->slave;
     size_t words = 1;
-    if (judgement < 0x8000) {
-        if (code == 6) {
-            put_word(reply, built + words++, answer->rx_status);
-            put_word(reply, built + words++, answer->rx_address);
-        }
-    } else {
-        if (code == 0 || code == 2)
-            status |= word_at(answer->packet, answer->n - 2) & 0x07E0;
-        if (code == 0) {
-            memcpy(reply + 2 * (built + 1), answer->packet, 2 * (answer->n - 2));
-            words += answer->n - 2;
-        } else {
-            put_word(reply, built + words++, answer->rx_status);
-            put_word(reply, built + words++, answer->n > 0xFFFF ? 0xFFFF : (unsigned)answer->n);
-            put_word(reply, built + words++, word_at(answer->packet, 0));
-        }
+    if (judgement == with_data(0) || judgement == with_data(2))
+        status |= status_of_slave(node, answer, fragment) & 0x07E0;
+    if (judgement == with_data(0)) {
+        words = put_data(node, answer, fragment);
+    } else if (judgement >= with_data(0)) {
+        words = put_fault(node, answer, fragment);
+    } else if (judgement == 6u << 11) {
+        put_word(fragment, words++, answer->rx_status);
+        put_word(fragment, words++, answer->rx_address);
     }
-    put_word(reply, built + words, status);
-    put_word(reply, built, (unsigned)words);
+    put_word(fragment, words, status);
+    put_word(fragment, 0, (unsigned)words);
     return words + 1;
 }
 
@@ -557,18 +598,33 @@ static uint64_t single(struct node *node, const struct answer *answer, uint8_t *
     return reply_of(answer->bc, answer->n);
 }
 
+/* A packet's words stand behind those received before, and the slave has 60 ticks anew. */
+static uint64_t store(struct node *node, uint32_t now, const struct answer *answer, uint8_t *fragment) {
+    memcpy(fragment + 2 * (1 + (size_t)node->received), answer->packet, 2 * answer->n);
+    node->received += (uint32_t)answer->n;
+    node->rx_status = (uint16_t)answer->rx_status;
+    node->asked_at = now;
+    return next_of(node->slave);
+}
+
 static uint64_t take(struct node *node, uint32_t now, const struct answer *answer, uint8_t *reply) {
     if (answer->errors && !answer->late)
         count_error(&node->amswire_errors);
     if (node->pending == PENDING_SLAVE)
         return single(node, answer, reply);
     uint32_t rest = yet_to_ask(node);
-    unsigned judgement = judged(answer, node->built, how_many(rest)), tally = tally_with(node->tally, judgement);
-    size_t built = node->built + put_fragment(reply, node->built, judgement, node->slave, answer);
+    uint8_t *fragment = reply + 2 * (size_t)node->built;
+    bool has_room = node->built + node->received + answer->n + 5 * how_many(rest) + 2 <= AREA;
+    unsigned judgement = node->received == 0 ? judged_first(answer, has_room) : judged_later(answer, has_room, fragment + 2, node->received);
+    if (judgement == MORE)
+        return store(node, now, answer, fragment);
+    unsigned tally = tally_with(node->tally, judgement);
+    size_t built = node->built + put_fragment(node, judgement, answer, fragment);
     if (rest == 0)
         return group_ends(node, reply, built, tally);
     node->built = (uint32_t)built;
     node->tally = tally;
+    node->received = node->rx_status = 0;
     node->slave = lowest(rest);
     node->asked_at = now;
     return ask_of(node->slave, node->from);

@@ -8,7 +8,7 @@
 
 #include <string.h>
 
-enum { TIMES = 200, LARGE = 4000, PING = 8000, DM_RUN = 8000, PM_READ = 7998, PM_WRITE = 5400, REPLIED = 500, ERASED = 4096 };
+enum { TIMES = 200, LARGE = 4000, PING = 8000, DM_RUN = 8000, PM_READ = 7998, PM_WRITE = 5400, REPLIED = 500, PACKETS = 5, ERASED = 4096 };
 
 /* Above what plain C does in under a microsecond, above what takes longer, and above what looks at a whole sector for a short file. */
 static const double SHORT = 4.00, LONG = 1.30, SECTOR = 1.50;
@@ -34,11 +34,14 @@ static void packet_with(bool plain, uint32_t bc, const uint8_t *packet, size_t w
 
 static void request(bool plain, const uint8_t *packet, size_t words) { packet_with(plain, LOGODWEN_BC_WHOLE, packet, words); }
 
-static void reply(bool plain, unsigned slave, const uint8_t *packet, size_t words) {
-    answered = plain ? model_reply(0, slave, LOGODWEN_BC_WHOLE, 0, 0, 0, packet, 2 * words, state, sizeof lent.state, lent.reply,
-                                   sizeof lent.reply)
-                     : logodwen_reply(0, slave, LOGODWEN_BC_WHOLE, 0, 0, 0, packet, 2 * words, state, sizeof lent.state, lent.reply,
+static void reply_with(bool plain, unsigned slave, uint32_t bc, const uint8_t *packet, size_t words) {
+    answered = plain ? model_reply(0, slave, bc, 0, 0, 0, packet, 2 * words, state, sizeof lent.state, lent.reply, sizeof lent.reply)
+                     : logodwen_reply(0, slave, bc, 0, 0, 0, packet, 2 * words, state, sizeof lent.state, lent.reply,
                                       sizeof lent.reply);
+}
+
+static void reply(bool plain, unsigned slave, const uint8_t *packet, size_t words) {
+    reply_with(plain, slave, LOGODWEN_BC_WHOLE, packet, words);
 }
 
 static void poll(bool plain) {
@@ -238,6 +241,16 @@ static void gathers(bool plain) {
         reply(plain, slave, fivehundred.bytes, fivehundred.words);
 }
 
+/* The same replies, each in five packets (02, request 8). */
+static void gathers_packets(bool plain) {
+    const size_t part = REPLIED / PACKETS;
+    for (unsigned slave = 0; slave < LOGODWEN_SLAVES; slave++)
+        for (size_t at = 0; at < REPLIED; at += part) {
+            uint32_t bc = at == 0 ? LOGODWEN_BC_FIRST : at == REPLIED - part ? LOGODWEN_BC_LAST : LOGODWEN_BC_MIDDLE;
+            reply_with(plain, slave, bc, fivehundred.bytes + 2 * at, part);
+        }
+}
+
 static void one_group(void) {
     pending_group();
     state = lent.state;
@@ -301,6 +314,7 @@ int perf_border_runs(void) {
         {"Load of a file of 4,000 words", as_first, loads, 2, LONG},
         {"start", as_first, starts, 2, LONG},
         {"a group of 24 replies of 500 words", one_group, gathers, 1, LONG},
+        {"24 replies of 500 words in five packets each", one_group, gathers_packets, 1, LONG},
         {"erase of 4,096 words", erasing, erases_all, 1, LONG},
     };
     const size_t count = sizeof rows / sizeof *rows;

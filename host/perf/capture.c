@@ -1,5 +1,5 @@
-/* Captured group replies at the C border, against the independent reader in plain C, which reads the lent bytes in place. The library makes
-   words of them first, 12,289 at most, whatever it then looks at: the last row has what that costs where the first word breaks the reply. */
+/* Captured group replies at the C border, against the independent reader in plain C. Both read the lent bytes in place, and stop at the word
+   that breaks the reply: the last row has what a long one costs whose first word does. */
 #include "measure.h"
 #include "runs.h"
 

@@ -1,7 +1,7 @@
 /* Tests of the border: each refusal and their order, odd lengths, NULL with length 0, guard bytes round every run, alignment, files
-   in several packets, lengths in the directory, remains behind a file, names that several sectors have, captured group replies, the
-   parts of what is answered, and the layout of the state. Every run stands between guard bytes; after each call they are looked at,
-   and after a refused one every byte of every run too. */
+   in several packets, lengths in the directory, remains behind a file, names that several sectors have, slaves that answer in
+   packets, captured group replies, the parts of what is answered, and the layout of the state. Every run stands between guard
+   bytes; after each call they are looked at, and after a refused one every byte of every run too. */
 #include "../../include/logodwen.h"
 
 #include <stdio.h>
@@ -102,9 +102,11 @@ static uint64_t request_at(uint32_t now, uint32_t link, uint32_t bc, uint32_t er
     return answered;
 }
 
+static uint16_t rx_status = 0x00AA; /* of what a slave sends */
+
 static uint64_t reply_at(uint32_t now, uint32_t slave, uint32_t bc, uint32_t error, int line) {
     remember();
-    uint64_t answered = logodwen_reply(now, slave, bc, error, 0x00AA, 0x00BB, lent(PACKET), lengths[PACKET], lent(STATE),
+    uint64_t answered = logodwen_reply(now, slave, bc, error, rx_status, 0x00BB, lent(PACKET), lengths[PACKET], lent(STATE),
                                        lengths[STATE], lent(REPLY), lengths[REPLY]);
     look_round(logodwen_refusal(answered), line);
     return answered;
@@ -146,6 +148,7 @@ static uint64_t with_words(uint64_t words) {
     return (uint64_t)LOGODWEN_REPLY << 8 | (uint64_t)LOGODWEN_BC_WHOLE << 16 | words << 32;
 }
 static uint64_t ask(uint64_t slave, uint64_t from) { return (uint64_t)LOGODWEN_ASK << 8 | slave << 16 | from << 24; }
+static uint64_t send_next(uint64_t slave) { return (uint64_t)LOGODWEN_SEND_NEXT << 8 | slave << 16; }
 
 /* File 21: one DM segment of two words, with its File Write. */
 static void file_write(uint16_t header) {
@@ -159,9 +162,14 @@ static int is_standing(unsigned link, uint32_t words) {
     return at[0] == 1 && at[1] == link && at[2] == 0 && at[3] == 0 && state_long(LOGODWEN_AT_JOINED) == words;
 }
 
-static int is_none_standing(void) {
-    static const uint8_t none[LOGODWEN_STATE_BYTES - LOGODWEN_AT_WRITE];
-    return memcmp(runs[STATE] + LOGODWEN_AT_WRITE, none, sizeof none) == 0;
+static const uint8_t zeros[8];
+
+static int is_none_standing(void) { return memcmp(runs[STATE] + LOGODWEN_AT_WRITE, zeros, sizeof zeros) == 0; }
+
+/* Whether so many words of the asked slave's reply have come in packets, the last with that RX status; or none. */
+static int is_received(uint32_t words, uint16_t status) {
+    return state_long(LOGODWEN_AT_RECEIVED) == words && state_word(LOGODWEN_AT_RX_STATUS) == status
+           && state_word(LOGODWEN_AT_RX_STATUS + 2) == 0;
 }
 
 /* Tests. */
@@ -179,7 +187,7 @@ static void test_start(void) {
         CHECK(state[at] == 0);
     for (size_t at = LOGODWEN_AT_ERASED; at < LOGODWEN_AT_MASKS; at++)
         CHECK(state[at] == 0);
-    CHECK(is_none_standing());
+    CHECK(is_none_standing() && is_received(0, 0));
     for (unsigned i = 0; i < 8; i++) {
         static const uint16_t addresses[8] = {0x0200, 0x0400, 0x0800, 0x0C00, 0x1000, 0x1400, 0x1800, 0x1C00};
         const uint8_t *entry = state + LOGODWEN_AT_DIRECTORY + 8 * i;
@@ -310,7 +318,7 @@ static void test_each_refusal(void) {
           && SLAVE_REPLY(0, 0, 3, 0) == LOGODWEN_REFUSED_STATE);
 }
 
-/* Of another length than 180 bytes, the state's part of 1 and 4 is left out. */
+/* Of another length than 188 bytes, the state's part of 1 and 4 is left out. */
 static void test_state_length(void) {
     for (size_t length = LOGODWEN_STATE_BYTES - 2; length <= LOGODWEN_STATE_BYTES + 2; length++) {
         lend_with(0);
@@ -331,7 +339,8 @@ static void test_state_length(void) {
 /* What a case does not use is 0; each byte of it that is not is refused. Bits that are not looked at are handed back. */
 static void test_state_bytes(void) {
     lend_with(0);
-    static const uint8_t unused[] = {24, 25, 26, 27, 28, 29, 30, 31, 32, 33, 34, 35, 36, 37, 38, 39, 40, 41, 42, 43};
+    static const uint8_t unused[] = {24, 25, 26, 27, 28, 29, 30, 31, 32, 33,  34,  35,  36,  37,
+                                     38, 39, 40, 41, 42, 43, 180, 181, 182, 183, 184, 185, 186, 187};
     for (size_t i = 0; i < sizeof unused; i++) {
         runs[STATE][unused[i]] = 1;
         CHECK(REQUEST(1000, 0, LOGODWEN_BC_WHOLE, 0) == LOGODWEN_REFUSED_STATE && ERASE(1) == LOGODWEN_REFUSED_STATE);
@@ -379,6 +388,53 @@ static void test_write_bytes(void) {
     for (size_t i = 0; i < sizeof wrong / sizeof *wrong; i++)
         check_write(wrong[i][0], wrong[i][1], wrong[i][2], wrong[i][3], 0, LOGODWEN_REFUSED_STATE);
     check_write(0, 0, 0, 0, 1, LOGODWEN_REFUSED_STATE);
+}
+
+/* Slaves 5 and 7 are asked for link 1, from word 2 on of its request. */
+static void ask_two(size_t shift) {
+    lay_out(shift);
+    CHECK(START(LOGODWEN_CDDC, 2, 0) == LOGODWEN_DONE);
+    PACKET_OF(0xA023, 0x0000, 0x122E);
+    CHECK(REQUEST(1000, 1, LOGODWEN_BC_WHOLE, 0) == ask(5, 2));
+}
+
+/* Of a group: the words that have come in packets have room, with those built and what is to come; the RX status is 0 where none has. */
+static void check_received(uint32_t built, uint32_t words, uint16_t status, uint16_t zero, unsigned expected) {
+    ask_two(0);
+    logodwen_put_pm(runs[STATE] + LOGODWEN_AT_BUILT, 0, built);
+    logodwen_put_pm(runs[STATE] + LOGODWEN_AT_RECEIVED, 0, words);
+    logodwen_put(runs[STATE] + LOGODWEN_AT_RX_STATUS, 0, status);
+    logodwen_put(runs[STATE] + LOGODWEN_AT_RX_STATUS, 1, zero);
+    CHECK(logodwen_refusal(ERASE(1)) == expected && logodwen_refusal(POLL(1000)) == expected);
+    CHECK(expected != 0 || is_received(words, status));
+    lengths[PACKET] = 0;
+    CHECK(logodwen_refusal(REQUEST(1000, 0, LOGODWEN_BC_END, 0)) == expected);
+    CHECK(logodwen_refusal(SLAVE_REPLY(1000, 5, LOGODWEN_BC_END, 0)) == expected);
+}
+
+static void test_received_bytes(void) {
+    static const uint32_t builts[] = {0, 100, 12271}; /* with 12,271 there is room for two slaves' fragments of five, and the end */
+    for (size_t i = 0; i < sizeof builts / sizeof *builts; i++) {
+        uint32_t room = LOGODWEN_REPLY_WORDS - builts[i] - 5 - LOGODWEN_TAIL_WORDS;
+        check_received(builts[i], 0, 0, 0, 0);
+        check_received(builts[i], 1, 0, 0, 0);
+        check_received(builts[i], room, 0xFFFF, 0, 0);
+        check_received(builts[i], room + 1, 0, 0, LOGODWEN_REFUSED_STATE);
+        check_received(builts[i], 0xFFFFFFFF - builts[i], 0, 0, LOGODWEN_REFUSED_STATE); /* nothing wraps */
+        check_received(builts[i], 0xFFFFFFFF, 0, 0, LOGODWEN_REFUSED_STATE);
+    }
+    check_received(0, 0, 1, 0, LOGODWEN_REFUSED_STATE);
+    check_received(0, 0, 0x8000, 0, LOGODWEN_REFUSED_STATE);
+    for (uint32_t words = 0; words < 2; words++) {
+        check_received(0, words, 0, 1, LOGODWEN_REFUSED_STATE);
+        check_received(0, words, 0, 0x8000, LOGODWEN_REFUSED_STATE);
+    }
+    lend_with(0x20); /* a single slave has none of it */
+    for (size_t at = LOGODWEN_AT_RECEIVED; at < LOGODWEN_STATE_BYTES; at++) {
+        runs[STATE][at] = 1;
+        CHECK(POLL(1000) == LOGODWEN_REFUSED_STATE && SLAVE_REPLY(1000, 5, LOGODWEN_BC_END, 0) == LOGODWEN_REFUSED_STATE);
+        runs[STATE][at] = 0;
+    }
 }
 
 /* An unfinished last word is ignored, and stays. (look_round sees that it does.) */
@@ -609,6 +665,182 @@ static void test_group(void) {
     CHECK(POLL(0x36) == LOGODWEN_REFUSED_UNASKED);
 }
 
+/* Slaves that answer in packets (02, request 8). */
+
+static int is_buffer(size_t from, size_t count, const uint16_t *words) {
+    for (size_t i = 0; i < count; i++)
+        if (reply_word(from + i) != words[i])
+            return 0;
+    return 1;
+}
+#define IS_BUFFER(from, ...) is_buffer(from, sizeof(uint16_t[]){__VA_ARGS__} / 2, (const uint16_t[]){__VA_ARGS__})
+
+/* Packets of a reply stand behind the fragments, each asks anew, and the last makes a fragment of all; no other word of the buffer changes. */
+static void test_packets(void) {
+    ask_two(3);
+    const size_t end = rooms[REPLY];
+    rx_status = 0x1234;
+    PACKET_OF(0xAAAA, 0x0001);
+    lengths[PACKET]++; /* an odd byte is no word */
+    CHECK(SLAVE_REPLY(1059, 5, 0x100 | LOGODWEN_BC_FIRST, 0) == send_next(5) && is_received(2, 0x1234));
+    CHECK(state_long(LOGODWEN_AT_ASKED_AT) == 1059 && state_long(LOGODWEN_AT_BUILT) == 0 && runs[STATE][LOGODWEN_AT_TALLY] == 0);
+    CHECK(IS_BUFFER(1, 0xAAAA, 0x0001) && is_same(REPLY, 0, 2) && is_same(REPLY, 6, end));
+    CHECK(SLAVE_REPLY(1059, 7, LOGODWEN_BC_MIDDLE, 0) == LOGODWEN_REFUSED_UNASKED);
+    CHECK(POLL(1118) == (uint64_t)LOGODWEN_WAITING << 8);
+    rx_status = 0;
+    PACKET_OF(0x0002);
+    CHECK(SLAVE_REPLY(1118, 5, LOGODWEN_BC_MIDDLE, 0) == send_next(5) && is_received(3, 0));
+    CHECK(IS_BUFFER(3, 0x0002) && is_same(REPLY, 0, 6) && is_same(REPLY, 8, end));
+    PACKET_OF(0xAAAA, 0x0001, 0x0002, 0x01A0, 0);
+    uint16_t seal = logodwen_fcs(runs[PACKET], 4);
+    PACKET_OF(0x01A0, seal);
+    CHECK(SLAVE_REPLY(1177, 5, LOGODWEN_BC_LAST, 0) == ask(7, 2) && is_received(0, 0) && state_long(LOGODWEN_AT_BUILT) == 5);
+    CHECK(IS_BUFFER(0, 0x0004, 0xAAAA, 0x0001, 0x0002, 0x81A5) && is_same(REPLY, 2, 8) && is_same(REPLY, 10, end));
+    CHECK(runs[STATE][LOGODWEN_AT_TALLY] == 5 && state_long(LOGODWEN_AT_ASKED_AT) == 1177);
+    PACKET_OF(0x0027); /* status word and FCS alone, each in a packet */
+    seal = logodwen_fcs(runs[PACKET], 1);
+    CHECK(SLAVE_REPLY(1177, 7, LOGODWEN_BC_FIRST, 0) == send_next(7) && is_received(1, 0) && IS_BUFFER(6, 0x0027));
+    PACKET_OF(seal);
+    CHECK(SLAVE_REPLY(1177, 7, LOGODWEN_BC_LAST, 0) == with_words(9) && IS_BUFFER(5, 0x0001, 0x8027, 0x0100));
+    CHECK(reply_word(8) == logodwen_fcs(runs[REPLY], 8) && is_received(0, 0) && runs[STATE][LOGODWEN_AT_PENDING] == 0);
+}
+
+/* A reply in packets gives the fragment that it gives in one, however it is divided, with every run at every shift. */
+static void test_packet_divisions(void) {
+    static const uint16_t words[5] = {0xAAAA, 0x0001, 0x8000, 0xFFFF, 0x05E0};
+    for (size_t first = 1; first <= 5; first++)
+        for (size_t second = 0; first + second <= 5; second++) { /* 0: two packets */
+            static uint8_t state[LOGODWEN_STATE_BYTES], reply[14];
+            uint8_t whole[12];
+            ask_two(first + second);
+            packet(5, words);
+            logodwen_put(runs[PACKET], 5, logodwen_fcs(runs[PACKET], 5));
+            memcpy(whole, runs[PACKET], lengths[PACKET] = sizeof whole);
+            CHECK(SLAVE_REPLY(1009, 5, LOGODWEN_BC_WHOLE, 0) == ask(7, 2));
+            memcpy(state, runs[STATE], sizeof state);
+            memcpy(reply, runs[REPLY], sizeof reply);
+            ask_two(first + second);
+            memcpy(runs[PACKET], whole, lengths[PACKET] = 2 * first);
+            CHECK(SLAVE_REPLY(1007, 5, LOGODWEN_BC_FIRST, 0) == send_next(5));
+            memcpy(runs[PACKET], whole + 2 * first, lengths[PACKET] = 2 * second);
+            CHECK(second == 0 || SLAVE_REPLY(1008, 5, LOGODWEN_BC_MIDDLE, 0) == send_next(5));
+            CHECK(is_received((uint32_t)(first + second), rx_status));
+            memcpy(runs[PACKET], whole + 2 * (first + second), lengths[PACKET] = 2 * (6 - first - second));
+            CHECK(SLAVE_REPLY(1009, 5, LOGODWEN_BC_LAST, 0) == ask(7, 2));
+            CHECK(memcmp(state, runs[STATE], sizeof state) == 0 && memcmp(reply, runs[REPLY], sizeof reply) == 0);
+        }
+}
+
+/* Six words of slave 5's reply have come, with RX status 1234, at 1001. */
+static void begin_packets(void) {
+    ask_two(5);
+    rx_status = 0x1234;
+    PACKET_OF(0x1111, 0x2222, 0x3333, 0x4444, 0x5555, 0x6666);
+    CHECK(SLAVE_REPLY(1001, 5, LOGODWEN_BC_FIRST, 0) == send_next(5) && is_received(6, 0x1234));
+    rx_status = 0x5678;
+}
+
+/* The reply has ended in a fragment of five words, with this code, RX status and count; what had come past it stays. The group goes on,
+   and is a group's reply. */
+static void check_ended(uint64_t answered, unsigned code, uint16_t status, uint16_t count, int line) {
+    static const uint16_t past[2] = {0x5555, 0x6666};
+    const uint16_t words[5] = {0x0004, status, count, 0x1111, (uint16_t)(code << 11 | 5)};
+    check(answered == ask(7, 2) && is_buffer(0, 5, words), "a fragment of five words", line);
+    check(is_received(0, 0) && state_long(LOGODWEN_AT_BUILT) == 5 && runs[STATE][LOGODWEN_AT_TALLY] == 6, "the next is asked", line);
+    check(is_buffer(5, 2, past) && is_same(REPLY, 14, rooms[REPLY]), "what had come stays, and nothing more is stored", line);
+    check(state_word(LOGODWEN_AT_AMSWIRE_ERRORS) == 0, "no error is counted", line);
+    lengths[PACKET] = 0;
+    uint64_t ended = reply_at(1060, 7, LOGODWEN_BC_END, 0, line);
+    check(ended == with_words(9) && logodwen_capture(0xA0, runs[REPLY], 18) == (uint64_t)LOGODWEN_ACCEPTED << 8, "a group's reply", line);
+}
+#define CHECK_ENDED(answered, code, status, count) check_ended(answered, code, status, count, __LINE__)
+
+/* Each code of a later packet, first that applies. */
+static void test_packet_codes(void) {
+    begin_packets();
+    CHECK_ENDED(POLL(1061), LOGODWEN_CODE_NEXT_LATE, 0x1234, 6);
+    begin_packets();
+    CHECK_ENDED(SLAVE_REPLY(1061, 5, LOGODWEN_BC_WHOLE, 1), LOGODWEN_CODE_NEXT_LATE, 0x1234, 6); /* it isn't looked at */
+    for (uint32_t bc = 0; bc < 4; bc++) {
+        begin_packets();
+        lengths[PACKET] = 1;
+        CHECK_ENDED(SLAVE_REPLY(1060, 5, bc, 0), LOGODWEN_CODE_NEXT_EMPTY, 0x5678, 6);
+    }
+    for (uint32_t bc = LOGODWEN_BC_FIRST; bc <= LOGODWEN_BC_WHOLE; bc++) {
+        begin_packets();
+        PACKET_OF(0x7777, 0x8888, 0x9999);
+        CHECK_ENDED(SLAVE_REPLY(1060, 5, bc, 0), LOGODWEN_CODE_NEXT_FIRST, 0x5678, 9);
+        begin_packets();
+        lengths[PACKET] = LOGODWEN_SLAVE_REPLY_BYTES; /* room or not */
+        CHECK_ENDED(SLAVE_REPLY(1060, 5, bc, 0), LOGODWEN_CODE_NEXT_FIRST, 0x5678, 6 + 32768);
+    }
+    for (uint32_t bc = LOGODWEN_BC_MIDDLE; bc <= LOGODWEN_BC_LAST; bc++) {
+        begin_packets();
+        lengths[PACKET] = 2 * (12281 - 6 + 1);
+        CHECK_ENDED(SLAVE_REPLY(1060, 5, bc, 0), LOGODWEN_CODE_PACKET_NO_ROOM, 0x5678, 12282);
+    }
+    begin_packets();
+    PACKET_OF(0x7777, 0x8888);
+    CHECK_ENDED(SLAVE_REPLY(1060, 5, LOGODWEN_BC_LAST, 0), LOGODWEN_CODE_JOINED_FCS, 0x5678, 8);
+    begin_packets(); /* the FCS of the last packet's own words is none */
+    PACKET_OF(0x7777, 0);
+    logodwen_put(runs[PACKET], 1, logodwen_fcs(runs[PACKET], 1));
+    CHECK_ENDED(SLAVE_REPLY(1060, 5, LOGODWEN_BC_LAST, 0), LOGODWEN_CODE_JOINED_FCS, 0x5678, 8);
+}
+
+/* Receive errors on a later packet: the fragment of four words, with that packet's RX status and address, and one error counted. */
+static void test_packet_errors(void) {
+    for (uint32_t bc = 0; bc < 4; bc++) {
+        begin_packets();
+        lengths[PACKET] = bc == LOGODWEN_BC_LAST ? 0 : 4;
+        CHECK(SLAVE_REPLY(1060, 5, bc, 0x100) == ask(7, 2) && IS_BUFFER(0, 0x0003, 0x5678, 0x00BB, 0x3005, 0x4444, 0x5555, 0x6666));
+        CHECK(state_word(LOGODWEN_AT_AMSWIRE_ERRORS) == 1 && is_received(0, 0) && state_long(LOGODWEN_AT_BUILT) == 4);
+    }
+}
+
+/* Up to the last word that there is room for; and a first packet without. Its words are looked at where they stand: in the packet. */
+static void test_packet_room(void) {
+    const size_t room = LOGODWEN_REPLY_WORDS - 5 - LOGODWEN_TAIL_WORDS; /* slave 7 is to come */
+    for (size_t last = 1; last <= 2; last++) {
+        ask_two(1);
+        PACKET_OF(0x1111);
+        lengths[PACKET] = 2 * (room - 1);
+        logodwen_put(runs[PACKET], room - 2, 0x0020);
+        uint16_t seal = logodwen_fcs(runs[PACKET], room - 1);
+        CHECK(SLAVE_REPLY(1000, 5, LOGODWEN_BC_FIRST, 0) == send_next(5) && is_received((uint32_t)room - 1, rx_status));
+        PACKET_OF(seal, 0);
+        lengths[PACKET] = 2 * last;
+        CHECK(SLAVE_REPLY(1000, 5, LOGODWEN_BC_LAST, 0) == ask(7, 2));
+        CHECK(reply_word(0) == (last == 1 ? room - 1 : 4) && state_long(LOGODWEN_AT_BUILT) == (last == 1 ? room : 5));
+        lengths[PACKET] = 0;
+        CHECK(SLAVE_REPLY(1000, 7, LOGODWEN_BC_END, 0) == with_words(last == 1 ? room + 4 : 9));
+    }
+    static const size_t lengths_of_first[] = {12282, 32768};
+    for (size_t i = 0; i < 2; i++) {
+        ask_two(2);
+        PACKET_OF(0xBEEF);
+        lengths[PACKET] = 2 * lengths_of_first[i];
+        CHECK(SLAVE_REPLY(1000, 5, LOGODWEN_BC_FIRST, 0) == ask(7, 2) && is_received(0, 0) && is_same(REPLY, 10, rooms[REPLY]));
+        CHECK(IS_BUFFER(0, 0x0004, rx_status, (uint16_t)lengths_of_first[i], 0xBEEF, 0xD005));
+    }
+}
+
+/* Its own link drops a group with what has come of a reply, and the buffer stays; a single slave's packet passes, whatever its BC. */
+static void test_packets_dropped(void) {
+    begin_packets();
+    CHECK(REQUEST(1001, 1, LOGODWEN_BC_MIDDLE, 0) == LOGODWEN_REFUSED_BUSY);
+    lengths[PACKET] = 0;
+    CHECK(REQUEST(1001, 0, LOGODWEN_BC_ABORT, 0) == zero_length(LOGODWEN_BC_ABORT) && is_received(6, 0x1234));
+    CHECK(REQUEST(1001, 1, LOGODWEN_BC_ABORT, 0) == zero_length(LOGODWEN_BC_END) && is_received(0, 0));
+    CHECK(is_same(REPLY, 0, rooms[REPLY]) && IS_BUFFER(1, 0x1111, 0x2222));
+    for (uint32_t bc = 0; bc < 4; bc++) {
+        lend_with(0x20);
+        PACKET_OF(0x1111, 0x2222);
+        CHECK(SLAVE_REPLY(1000, 5, bc, 0) == ((uint64_t)LOGODWEN_REPLY << 8 | bc << 16 | (uint64_t)2 << 32) && is_received(0, 0));
+        CHECK(IS_BUFFER(0, 0x1111, 0x2222));
+    }
+}
+
 /* Captured group replies (02, request 3). */
 
 static uint64_t capture_of(uint32_t mask, int line) {
@@ -667,6 +899,33 @@ static void test_capture_answers(void) {
     CHECK(logodwen_place(with_words(7)) == LOGODWEN_NONE && logodwen_place((uint64_t)7 << 32) == LOGODWEN_NONE);
     CHECK(logodwen_bc(broken(7)) == LOGODWEN_NONE && logodwen_slave(broken(7)) == LOGODWEN_NONE && !logodwen_is_next(broken(0)));
     CHECK(strcmp(logodwen_reply_text(broken(7)), "not a reply") == 0);
+}
+
+/* A fragment of each code of a reply in packets, at the bounds of its count and past them; slave 5 alone, so the room is 12,286. */
+static void test_capture_packets(void) {
+    static const struct {
+        unsigned code;
+        uint16_t least, most;
+    } codes[] = {{LOGODWEN_CODE_NEXT_LATE, 1, 12286},
+                 {LOGODWEN_CODE_NEXT_EMPTY, 1, 12286},
+                 {LOGODWEN_CODE_NEXT_FIRST, 2, 0xFFFF},
+                 {LOGODWEN_CODE_PACKET_NO_ROOM, 12287, 0xFFFF},
+                 {LOGODWEN_CODE_JOINED_FCS, 2, 12286}};
+    lay_out(0);
+    for (size_t i = 0; i < sizeof codes / sizeof *codes; i++) {
+        const uint16_t status = (uint16_t)(codes[i].code << 11 | 5), least = codes[i].least, most = codes[i].most;
+        const uint16_t counts[5] = {0, (uint16_t)(least - 1), least, most, (uint16_t)(most + 1)};
+        for (size_t j = 0; j < 5; j++) {
+            CAPTURE_OF(0x0004, 0xFFFF, counts[j], 0xFFFF, status, 0x0200);
+            CHECK(CAPTURE(0x20) == (least <= counts[j] && counts[j] <= most ? accepted() : broken(4)));
+        }
+        CAPTURE_OF(0x0004, 0, least, 0, (uint16_t)(status | 0x0020), 0x0200); /* it has none of the slave's bits */
+        CHECK(CAPTURE(0x20) == broken(4));
+        CAPTURE_OF(0x0003, 0, least, status, 0x0200);
+        CHECK(CAPTURE(0x20) == broken(3));
+    }
+    CAPTURE_OF(0x0004, 0, 4, 0, 0xC805, 0x0200); /* code 9 is gone */
+    CHECK(CAPTURE(0x20) == broken(4));
 }
 
 /* The longest reply: a sole slave's 12,286 words, of which its FCS and status go and a length, a status and the tail come; and a length
@@ -897,12 +1156,31 @@ static void test_texts(void) {
     CHECK(strcmp(logodwen_refusal_text(0), "done") == 0 && strcmp(logodwen_refusal_text(9), "not a refusal") == 0);
     CHECK(logodwen_slave(ask(23, 2)) == 23 && logodwen_from(ask(23, 2)) == 2 && logodwen_answer(ask(23, 2)) == LOGODWEN_ASK);
     CHECK(logodwen_bc(ask(2, 1)) == LOGODWEN_NONE && logodwen_words(ask(2, 1)) == 0);
+    CHECK(logodwen_slave(send_next(23)) == 23 && logodwen_slave(send_next(0)) == 0 && logodwen_from(send_next(23)) == LOGODWEN_NONE);
+    CHECK(logodwen_answer(send_next(0)) == LOGODWEN_SEND_NEXT && logodwen_refusal(send_next(0)) == LOGODWEN_DONE);
+    CHECK(logodwen_bc(send_next(0)) == LOGODWEN_NONE && logodwen_words(send_next(0)) == 0 && !logodwen_is_next(send_next(0)));
+    CHECK(strcmp(logodwen_reply_text(send_next(0)), "not a reply") == 0 && logodwen_place(send_next(0)) == LOGODWEN_NONE);
     CHECK(logodwen_slave(zero_length(2)) == LOGODWEN_NONE && logodwen_from(with_words(3)) == LOGODWEN_NONE);
     for (uint64_t other = 0; other < 8; other++) /* refused, waiting, words set */
         CHECK(logodwen_bc(other) == LOGODWEN_NONE && logodwen_slave((uint64_t)LOGODWEN_WAITING << 8) == LOGODWEN_NONE
               && logodwen_from(other << 32) == LOGODWEN_NONE);
     static const uint8_t text[8] = {0x32, 0x31, 0x34, 0x33, 0x36, 0x35, 0x38, 0x37};
-    CHECK(logodwen_fcs(text, 4) == 0xA12B && logodwen_fcs(NULL, 0) == 0xFFFF && logodwen2_fcs(text, 7) == logodwen_fcs(text, 3));
+    CHECK(logodwen_fcs(text, 4) == 0xA12B && logodwen_fcs(NULL, 0) == 0xFFFF && logodwen3_fcs(text, 7) == logodwen_fcs(text, 3));
+}
+
+/* What a slave is to be sent: the request from some word on, whole; or no words with BC 0; or nothing. */
+static void test_to_send(void) {
+    static const uint8_t request[6];
+    struct logodwen_packet sent = {NULL, 0, 9};
+    CHECK(logodwen_to_send(ask(5, 2), request, 3, &sent) && sent.bytes == request + 4 && sent.words == 1 && sent.bc == LOGODWEN_BC_WHOLE);
+    CHECK(logodwen_to_send(ask(5, 1), request, 3, &sent) && sent.bytes == request + 2 && sent.words == 2 && sent.bc == LOGODWEN_BC_WHOLE);
+    CHECK(logodwen_to_send(send_next(5), request, 3, &sent) && sent.bytes == NULL && sent.words == 0 && sent.bc == LOGODWEN_BC_MIDDLE);
+    sent.bc = 9;
+    CHECK(!logodwen_to_send(ask(5, 2), request, 2, &sent) && !logodwen_to_send(ask(5, 2), NULL, 0, &sent));
+    CHECK(!logodwen_to_send(zero_length(0), request, 3, &sent) && !logodwen_to_send(with_words(3), request, 3, &sent));
+    CHECK(!logodwen_to_send((uint64_t)LOGODWEN_WAITING << 8, request, 3, &sent) && !logodwen_to_send(broken(0), request, 3, &sent));
+    for (uint64_t refusal = 0; refusal < 9; refusal++)
+        CHECK(!logodwen_to_send(refusal, request, 3, &sent) && sent.bc == 9);
 }
 
 int main(void) {
@@ -914,6 +1192,7 @@ int main(void) {
     test_state_length();
     test_state_bytes();
     test_write_bytes();
+    test_received_bytes();
     test_odd_lengths();
     test_null();
     test_alignment();
@@ -921,8 +1200,15 @@ int main(void) {
     test_remains();
     test_names_twice();
     test_group();
+    test_packets();
+    test_packet_divisions();
+    test_packet_codes();
+    test_packet_errors();
+    test_packet_room();
+    test_packets_dropped();
     test_capture();
     test_capture_answers();
+    test_capture_packets();
     test_longest_capture();
     test_area();
     test_joining();
@@ -933,6 +1219,7 @@ int main(void) {
     test_drops();
     test_slave_length();
     test_texts();
+    test_to_send();
     for (int run = 0; run < RUNS; run++) {
         free(blocks[run]);
         free(copies[run]);

@@ -44,7 +44,7 @@ static uint64_t seed;
 static unsigned long calls;
 static char call_text[256];
 static uint64_t answered;               /* the last one */
-static unsigned long tallies[5][16][4]; /* by call, by refusal, by answer */
+static unsigned long tallies[5][16][9]; /* by call, by refusal, by answer */
 static unsigned long commands[256][3];  /* own commands answered with words, END, ABORT */
 
 static void differs(const char *what, size_t at, uint64_t by_library, uint64_t by_model) {
@@ -71,7 +71,7 @@ static void compare(int call, uint64_t by_library, uint64_t by_model, const int 
     for (; *runs >= 0; runs++)
         compare_run(*runs);
     answered = by_model;
-    tallies[call][logodwen_refusal(by_model) & 15][logodwen_answer(by_model) & 3]++;
+    tallies[call][logodwen_refusal(by_model) & 15][logodwen_answer(by_model) % 9]++;
 }
 
 static const int start_runs[] = {STATE_RUN, -1}, slave_runs[] = {STATE_RUN, REPLY_RUN, -1},
@@ -168,6 +168,104 @@ static void count_write(struct standing was, uint32_t link, unsigned bc, bool er
         later_without_write++;
 }
 
+/* The reply that the asked slave of a group gives, as the state says it, and how many calls of each kind fell in groups that have replies
+   in packets (02, request 8), from a group's first packet on. */
+
+struct group {
+    bool pending;
+    uint32_t slave, built, received, room; /* room: how many more words fit */
+};
+
+static unsigned slaves_above(uint32_t set, unsigned slave) {
+    unsigned count = 0;
+    for (set &= ~((2u << slave % 32) - 1); set != 0; set &= set - 1)
+        count++;
+    return count;
+}
+
+static struct group group(void) {
+    const uint8_t *state = model[STATE_RUN];
+    uint32_t slave = state[LOGODWEN_AT_SLAVE], asked = logodwen_get_pm(state + LOGODWEN_AT_ASKED, 0);
+    uint32_t built = logodwen_get_pm(state + LOGODWEN_AT_BUILT, 0), received = logodwen_get_pm(state + LOGODWEN_AT_RECEIVED, 0);
+    uint64_t taken = (uint64_t)built + received + 5 * slaves_above(asked, slave) + 2;
+    bool is_state = lent_bytes[STATE_RUN] == LOGODWEN_STATE_BYTES;
+    return (struct group){is_state && state[LOGODWEN_AT_PENDING] == 2, slave, built, received,
+                          taken < LOGODWEN_REPLY_WORDS ? (uint32_t)(LOGODWEN_REPLY_WORDS - taken) : 0};
+}
+
+enum packet_kind {
+    FIRST_STORED,
+    FIRST_WITHOUT_ROOM,
+    MIDDLE_STORED,
+    JOINED_WHOLE,
+    LATE_BY_REPLY,
+    LATE_BY_POLL,
+    EMPTY,
+    FIRST_AGAIN,
+    WITHOUT_ROOM,
+    WRONG_JOINED,
+    WITH_ERRORS,
+    WAITS,
+    IN_ONE,
+    GROUP_DROPPED,
+    PACKET_KINDS
+};
+static const char *const packet_names[PACKET_KINDS] = {
+    [FIRST_STORED] = "first packet stored",
+    [FIRST_WITHOUT_ROOM] = "first packet without room",
+    [MIDDLE_STORED] = "middle packet stored",
+    [JOINED_WHOLE] = "joined and whole",
+    [LATE_BY_REPLY] = "late after NEXT, by a reply",
+    [LATE_BY_POLL] = "late after NEXT, by a poll",
+    [EMPTY] = "no words after NEXT",
+    [FIRST_AGAIN] = "BC1 set on a later packet",
+    [WITHOUT_ROOM] = "later packet without room",
+    [WRONG_JOINED] = "wrong FCS of the joined reply",
+    [WITH_ERRORS] = "receive errors on a later packet",
+    [WAITS] = "a poll that waits for a later packet",
+    [IN_ONE] = "another slave's answer in one packet",
+    [GROUP_DROPPED] = "dropped between packets",
+};
+static unsigned long in_packets[PACKET_KINDS];
+static bool has_packets; /* the group that is pending */
+
+/* What an answer of the asked slave came to, by the status word of the fragment that it left. */
+static enum packet_kind packet_kind(struct group was, bool by_poll, uint64_t answer) {
+    if (logodwen_answer(answer) == LOGODWEN_SEND_NEXT)
+        return was.received == 0 ? FIRST_STORED : MIDDLE_STORED;
+    if (logodwen_answer(answer) == LOGODWEN_WAITING)
+        return was.received == 0 ? IN_ONE : WAITS;
+    const uint8_t *fragment = model[REPLY_RUN] + 2 * (size_t)was.built;
+    unsigned code = logodwen_get(fragment, logodwen_get(fragment, 0)) >> 11;
+    if (was.received == 0)
+        return code == LOGODWEN_CODE_PACKET_NO_ROOM ? FIRST_WITHOUT_ROOM : IN_ONE;
+    switch (code) {
+    case LOGODWEN_CODE_NEXT_LATE: return by_poll ? LATE_BY_POLL : LATE_BY_REPLY;
+    case LOGODWEN_CODE_NEXT_EMPTY: return EMPTY;
+    case LOGODWEN_CODE_NEXT_FIRST: return FIRST_AGAIN;
+    case LOGODWEN_CODE_PACKET_NO_ROOM: return WITHOUT_ROOM;
+    case LOGODWEN_CODE_JOINED_FCS: return WRONG_JOINED;
+    case LOGODWEN_CODE_ERRORS: return WITH_ERRORS;
+    default: return JOINED_WHOLE;
+    }
+}
+
+static void count_packet(struct group was, bool by_poll, uint64_t answer) {
+    if (logodwen_refusal(answer) != 0 || !was.pending)
+        return;
+    enum packet_kind kind = packet_kind(was, by_poll, answer);
+    has_packets = has_packets || kind != IN_ONE;
+    in_packets[kind] += has_packets;
+    has_packets = has_packets && group().pending;
+}
+
+static void count_dropped(struct group was) {
+    if (group().pending)
+        return;
+    in_packets[GROUP_DROPPED] += was.pending && was.received != 0;
+    has_packets = false;
+}
+
 /* Calls. */
 
 static uint32_t now;
@@ -195,6 +293,7 @@ static uint64_t call_request(uint32_t link, uint32_t bc, uint32_t receive_error)
         lent_bytes[DM_RUN], lent_bytes[IO_RUN], lent_bytes[AREA_RUN], lent_bytes[REPLY_RUN]);
     const uint8_t *words = packet_bytes == 0 ? NULL : packet;
     struct standing was = standing();
+    struct group asked = group();
     uint64_t a =
         logodwen_request(now, link, bc, receive_error, words, packet_bytes, lend(library, STATE_RUN), lent_bytes[STATE_RUN],
                          lend(library, FLASH_RUN), lent_bytes[FLASH_RUN], lend(library, PM_RUN), lent_bytes[PM_RUN],
@@ -206,6 +305,7 @@ static uint64_t call_request(uint32_t link, uint32_t bc, uint32_t receive_error)
                                lend(model, AREA_RUN), lent_bytes[AREA_RUN], lend(model, REPLY_RUN), lent_bytes[REPLY_RUN]);
     compare(1, a, b, all_runs);
     count_write(was, link, bc & 3, receive_error != 0, words, packet_bytes / 2, b);
+    count_dropped(asked);
     if (packet_bytes >= 2 && packet[0] == 0x2E && (bc & 3) == 3 && logodwen_refusal(b) == 0 && logodwen_bc(b) != LOGODWEN_BC_ERROR)
         commands[packet[1]][logodwen_words(b) != 0 ? 0 : logodwen_bc(b) == LOGODWEN_BC_END ? 1 : 2]++;
     return b;
@@ -216,21 +316,25 @@ static uint64_t call_reply(uint32_t slave, uint32_t bc, uint32_t receive_error) 
     snprintf(call_text, sizeof call_text, "reply(now %08x, slave %u, bc %u, error %x, packet %zu bytes, state %zu, reply %zu)", now,
              slave, bc, receive_error, packet_bytes, lent_bytes[STATE_RUN], lent_bytes[REPLY_RUN]);
     const uint8_t *words = packet_bytes == 0 ? NULL : packet;
+    struct group was = group();
     uint64_t a = logodwen_reply(now, slave, bc, receive_error, status, address, words, packet_bytes, lend(library, STATE_RUN),
                                 lent_bytes[STATE_RUN], lend(library, REPLY_RUN), lent_bytes[REPLY_RUN]);
     uint64_t b = model_reply(now, slave, bc, receive_error, status, address, words, packet_bytes, lend(model, STATE_RUN),
                              lent_bytes[STATE_RUN], lend(model, REPLY_RUN), lent_bytes[REPLY_RUN]);
     compare(2, a, b, slave_runs);
+    count_packet(was, false, b);
     return b;
 }
 
 static uint64_t call_poll(void) {
     snprintf(call_text, sizeof call_text, "poll(now %08x, state %zu, reply %zu)", now, lent_bytes[STATE_RUN],
              lent_bytes[REPLY_RUN]);
+    struct group was = group();
     uint64_t a =
         logodwen_poll(now, lend(library, STATE_RUN), lent_bytes[STATE_RUN], lend(library, REPLY_RUN), lent_bytes[REPLY_RUN]);
     uint64_t b = model_poll(now, lend(model, STATE_RUN), lent_bytes[STATE_RUN], lend(model, REPLY_RUN), lent_bytes[REPLY_RUN]);
     compare(3, a, b, slave_runs);
+    count_packet(was, true, b);
     return b;
 }
 
@@ -597,13 +701,82 @@ static void step_reply(void) {
     call_reply(slave, bc, one_in(20) ? wild() : 0);
 }
 
+/* Puts the FCS of a reply in packets behind its last words: of those that stand in the buffer and of the packet's. */
+static void seal_joined(struct group was) {
+    static uint8_t joined[sizeof packet];
+    size_t before = 2 * (size_t)was.received;
+    if (was.built >= LOGODWEN_REPLY_WORDS || was.received >= LOGODWEN_REPLY_WORDS - was.built)
+        return;
+    memcpy(joined, model[REPLY_RUN] + 2 * ((size_t)was.built + 1), before);
+    memcpy(joined + before, packet, packet_bytes);
+    word(logodwen_fcs(joined, (before + packet_bytes) / 2));
+}
+
+/* A packet of a reply in packets, first, middle or last, as it should be in most cases. */
+static void step_packet(void) {
+    struct group was = group();
+    bool is_last = was.received != 0 && one_in(3);
+    uint32_t bc = was.received == 0 ? 2 : is_last, high = one_in(8) ? wild() << 2 : 0, slave = one_in(40) ? wild() : was.slave;
+    unsigned count = one_in(25) ? was.room + below(3) : one_in(6) ? 1 + below(300) : one_in(3) ? 1 : 1 + below(8);
+    packet_bytes = 0;
+    for (unsigned i = is_last; i < count; i++)
+        word(any() & 0xFFFF);
+    if (is_last)
+        seal_joined(was);
+    if (one_in(12))
+        damage();
+    if (one_in(12))
+        packet_bytes = below(2);
+    if (one_in(12))
+        bc = below(4);
+    if (one_in(12))
+        now += one_in(2) ? 58 + below(4) : wild();
+    call_reply(slave, high | bc, one_in(16) ? wild() : 0);
+}
+
+/* Words received of a reply in packets, as many as have room, or one more, or any number, and an RX status. */
+static void put_received(bool is_group) {
+    put_state_long(LOGODWEN_AT_RECEIVED, 0);
+    uint32_t room = group().room, received = one_in(3) ? 0 : one_in(2) ? room + below(2) : one_in(4) ? wild() : below(room + 1);
+    put_state_long(LOGODWEN_AT_RECEIVED, is_group ? received : 0);
+    put_state_word(LOGODWEN_AT_RX_STATUS, is_group && (received != 0 || one_in(8)) ? any() : 0);
+}
+
+/* A reply under way that no packets led to; back to where it was if that is refused. */
+static void step_received(void) {
+    uint8_t before[LOGODWEN_STATE_BYTES];
+    memcpy(before, model[STATE_RUN], sizeof before);
+    put_received(true);
+    one_in(2) ? (void)call_poll() : step_packet();
+    for (size_t at = LOGODWEN_AT_RECEIVED; logodwen_refusal(answered) != 0 && at < sizeof before; at++)
+        put_both(STATE_RUN, at, before[at]);
+}
+
 static void step_slave(void) {
+    if (pending() == 2 && one_in(30)) {
+        step_received();
+        return;
+    }
+    if (pending() == 2 && !one_in(5)) {
+        one_in(16) ? (void)call_poll() : step_packet();
+        return;
+    }
     if (one_in(6))
         now += one_in(2) ? 58 + below(4) : wild();
     if (one_in(3))
         call_poll();
     else
         step_reply();
+}
+
+/* A request to a group of a few slaves, while none is pending. */
+static void step_group(void) {
+    uint32_t ports = model[STATE_RUN][LOGODWEN_AT_PORTS], set = 1u << below(24) | (any() & any() & (one_in(4) ? 0xFFFFFF : any()));
+    packet_bytes = 0;
+    word((set & 0xFF) << 8 | LOGODWEN_TO_SLAVES);
+    word(set >> 8 & 0xFFFF);
+    word(0x0C2E);
+    call_request(below(ports == 0 ? 1 : ports), 3, 0);
 }
 
 /* The same 0-length reply of each slave of a group. */
@@ -671,11 +844,12 @@ static void step_state(void) {
         put_both(STATE_RUN, LOGODWEN_AT_LINK, (uint8_t)below(4));
         put_both(STATE_RUN, LOGODWEN_AT_SLAVE, (uint8_t)below(one_in(10) ? 40 : 24));
         put_state_long(LOGODWEN_AT_ASKED_AT, one_in(3) ? any() : now);
-        bool group = model[STATE_RUN][LOGODWEN_AT_PENDING] == 2;
-        put_both(STATE_RUN, LOGODWEN_AT_FROM, (uint8_t)(group ? 1 + below(one_in(10) ? 255 : 2) : 0));
-        put_both(STATE_RUN, LOGODWEN_AT_TALLY, (uint8_t)(group ? below(one_in(10) ? 10 : 7) : 0));
-        put_state_long(LOGODWEN_AT_ASKED, group ? set | (one_in(10) ? 0 : 1u << model[STATE_RUN][LOGODWEN_AT_SLAVE] % 24) : 0);
-        put_state_long(LOGODWEN_AT_BUILT, !group ? 0 : one_in(3) ? 12160 + below(130) : one_in(10) ? any() : below(12000));
+        bool is_group = model[STATE_RUN][LOGODWEN_AT_PENDING] == 2;
+        put_both(STATE_RUN, LOGODWEN_AT_FROM, (uint8_t)(is_group ? 1 + below(one_in(10) ? 255 : 2) : 0));
+        put_both(STATE_RUN, LOGODWEN_AT_TALLY, (uint8_t)(is_group ? below(one_in(10) ? 10 : 7) : 0));
+        put_state_long(LOGODWEN_AT_ASKED, is_group ? set | (one_in(10) ? 0 : 1u << model[STATE_RUN][LOGODWEN_AT_SLAVE] % 24) : 0);
+        put_state_long(LOGODWEN_AT_BUILT, !is_group ? 0 : one_in(3) ? 12160 + below(130) : one_in(10) ? any() : below(12000));
+        put_received(is_group);
         if (one_in(2)) { /* a write of the same link */
             put_both(STATE_RUN, LOGODWEN_AT_WRITE, 1);
             put_both(STATE_RUN, LOGODWEN_AT_WRITE_LINK, model[STATE_RUN][LOGODWEN_AT_LINK]);
@@ -804,8 +978,8 @@ static void step(void) {
     unsigned erasing = model[STATE_RUN][LOGODWEN_AT_ERASING];
     if (logodwen_refusal(answered) == LOGODWEN_REFUSED_STATE && one_in(3))
         step_start();
-    else if (pending() != 0 && below(10) < 8)
-        one_in(12) ? step_all_alike() : step_slave();
+    else if (pending() != 0 && !one_in(10))
+        one_in(20) ? step_all_alike() : step_slave();
     else if (erasing != 0 && one_in(3))
         step_erase();
     else if (one_in(40))
@@ -820,7 +994,9 @@ static void step(void) {
         one_in(2) ? (void)call_poll() : step_erase();
     else if (one_in(100))
         step_start();
-    else if (standing().stands ? one_in(12) : !one_in(3))
+    else if (pending() == 0 && one_in(7))
+        step_group();
+    else if (standing().stands ? one_in(20) : one_in(3))
         step_request();
     else
         step_write();
@@ -860,7 +1036,8 @@ static void print_tallies(void) {
         if (call == 0 || call == 4)
             printf(" done %lu", tallies[call][0][0]);
         else
-            printf(" reply %lu, ask %lu, waiting %lu", tallies[call][0][1], tallies[call][0][2], tallies[call][0][3]);
+            printf(" reply %lu, ask %lu, send NEXT %lu, waiting %lu", tallies[call][0][LOGODWEN_REPLY], tallies[call][0][LOGODWEN_ASK],
+                   tallies[call][0][LOGODWEN_SEND_NEXT], tallies[call][0][LOGODWEN_WAITING]);
         for (int refusal = 1; refusal < 9; refusal++)
             if (tallies[call][refusal][0] != 0)
                 printf(", refused by %d %lu", refusal, tallies[call][refusal][0]);
@@ -877,6 +1054,12 @@ static void print_tallies(void) {
     printf("  standing writes: %lu requests act on one\n", acting);
     for (int kind = 0; kind < WRITE_KINDS; kind++)
         printf("  standing write, %s: %lu\n", write_names[kind], writes[kind]);
+    unsigned long fell = 0;
+    for (int kind = 0; kind < PACKET_KINDS; kind++)
+        fell += in_packets[kind];
+    printf("  replies in packets: %lu calls fall in groups that have one\n", fell);
+    for (int kind = 0; kind < PACKET_KINDS; kind++)
+        printf("  reply in packets, %s: %lu\n", packet_names[kind], in_packets[kind]);
 }
 
 int main(int count, char **arguments) {

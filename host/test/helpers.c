@@ -245,6 +245,14 @@ static void read_group(void) {
     free(reply);
 }
 
+/* A code's text, as its letters' numbers. */
+static void code_text(void) {
+    const char *text = logodwen_code_text(given[0]);
+    for (size_t i = 0; text[i] != 0; i++)
+        printf("%s%X", i == 0 ? "" : " ", (unsigned)text[i]);
+    printf("\n");
+}
+
 static void of_words(const char *name) {
     uint8_t *words = words_from(0);
     printf("%X\n", strcmp(name, "fcs") == 0 ? logodwen_fcs(words, count) : (unsigned)logodwen_is_sealed(words, count));
@@ -266,6 +274,8 @@ static void answer_line(const char *name) {
         read_named();
     else if (strcmp(name, "read_group") == 0)
         read_group();
+    else if (strcmp(name, "code_text") == 0)
+        code_text();
     else if (strcmp(name, "fcs") == 0 || strcmp(name, "sealed") == 0)
         of_words(name);
     else if (!is_request(name) && !is_long_request(name))
@@ -367,18 +377,34 @@ static void try_group(unsigned long turn) {
     free(reply);
 }
 
-/* What a slave says by chance: nothing, something with receive errors, a reply of no words, or words, mostly sealed. */
-static uint64_t answer_by_chance(struct logodwen_node *node, unsigned slave, uint32_t now) {
-    uint8_t packet[2 * 12];
-    size_t words = any() % 3 == 0 ? 0 : 1 + any() % 12;
-    for (size_t i = 0; i < words; i++)
-        logodwen_put(packet, i, (uint16_t)any());
-    if (words > 1 && any() % 8 != 0)
-        logodwen_put(packet, words - 1, logodwen_fcs(packet, words - 1));
+/* What the slaves of a group say by chance: the reply that one has begun, what it has said of it, and the time. */
+struct talk {
+    uint8_t reply[2 * 12];
+    size_t words, said;
+    uint32_t now;
+};
+
+static void reply_by_chance(struct talk *talk) {
+    talk->said = 0;
+    talk->words = any() % 3 == 0 ? 0 : 1 + any() % 12;
+    for (size_t i = 0; i < talk->words; i++)
+        logodwen_put(talk->reply, i, (uint16_t)any());
+    if (talk->words > 1 && any() % 8 != 0)
+        logodwen_put(talk->reply, talk->words - 1, logodwen_fcs(talk->reply, talk->words - 1));
+}
+
+/* Nothing in time, or a packet: all that is left of its reply or less, seldom with receive errors or a BC by chance. */
+static uint64_t answer_by_chance(struct logodwen_node *node, const struct logodwen_packet *sent, unsigned slave, struct talk *talk) {
+    if (sent->words != 0)
+        reply_by_chance(talk);
     if (any() % 8 == 0)
-        return logodwen_node_poll(node, now + LOGODWEN_LATE_TICKS);
-    uint32_t bc = words == 0 || any() % 8 == 0 ? any() % 4 : LOGODWEN_BC_WHOLE;
-    return logodwen_node_reply(node, now, slave, bc, any() % 8 == 0, (uint16_t)any(), (uint16_t)any(), packet, words);
+        return logodwen_node_poll(node, talk->now += LOGODWEN_LATE_TICKS);
+    size_t at = talk->said, left = talk->words - at, words = any() % 2 == 0 ? left : any() % (left + 1);
+    uint32_t bc = (at == 0 ? LOGODWEN_BC_FIRST : 0) | (words == left ? LOGODWEN_BC_LAST : 0);
+    talk->said += words;
+    talk->now += any() % LOGODWEN_LATE_TICKS;
+    return logodwen_node_reply(node, talk->now, slave, words == 0 || any() % 8 == 0 ? any() % 4 : bc, any() % 8 == 0, (uint16_t)any(),
+                               (uint16_t)any(), talk->reply + 2 * at, words);
 }
 
 /* A group's reply of a node is accepted for its mask, and the walk goes over a fragment of each slave of it, in order, to the tail. Cut
@@ -386,17 +412,22 @@ static uint64_t answer_by_chance(struct logodwen_node *node, unsigned slave, uin
 static void try_capture(unsigned long turn) {
     static const struct logodwen_given kind = {LOGODWEN_CDDC, 1, 0, 0, 0, 0, 0};
     static struct logodwen_node node;
+    static struct talk talk;
     uint32_t mask = (uint32_t)1 << any() % LOGODWEN_SLAVES | (any() & (any() % 4 == 0 ? 0xFFFFFFu : 0x3Cu)), slaves = mask;
-    uint8_t packet[2 * 3];
+    uint8_t request[2 * 3];
+    struct logodwen_packet sent;
     if (turn == 0) {
         logodwen_node_blank(&node);
         logodwen_node_start(&node, &kind);
     }
-    size_t at = logodwen_make_to_slaves(packet, mask);
-    uint64_t answered = logodwen_node_send(&node, 0, 0, packet, at + logodwen_make_status(packet + 2 * at));
-    while (logodwen_answer(answered) == LOGODWEN_ASK)
-        answered = answer_by_chance(&node, logodwen_slave(answered), 0);
+    size_t at = logodwen_make_to_slaves(request, mask);
+    at += logodwen_make_status(request + 2 * at);
+    uint64_t answered = logodwen_node_send(&node, talk.now, 0, request, at);
+    while (logodwen_to_send(answered, request, at, &sent))
+        answered = answer_by_chance(&node, &sent, logodwen_slave(answered), &talk);
     size_t words = logodwen_words(answered), cut = words == 0 ? 0 : any() % words;
+    if (logodwen_answer(answered) != LOGODWEN_REPLY)
+        differs("the end of a group", turn);
     if (words == 0)
         return;
     if (logodwen_capture(mask, node.reply, 2 * words + 1) != (uint64_t)LOGODWEN_ACCEPTED << 8)
@@ -422,7 +453,7 @@ static void try_sequence(unsigned long turn) {
     for (size_t i = 0; i <= 2 * words; i++)
         bytes[i] = (uint8_t)any();
     uint16_t expected = model_fcs(bytes, words);
-    if (logodwen_fcs(bytes, words) != expected || logodwen2_fcs(bytes, 2 * words + 1) != expected)
+    if (logodwen_fcs(bytes, words) != expected || logodwen3_fcs(bytes, 2 * words + 1) != expected)
         differs("a check sequence", turn);
     if (logodwen_is_sealed(bytes, words) != (words >= 2 && model_fcs(bytes, words - 1) == word_at(bytes, words - 1)))
         differs("whether a reply is sealed", turn);

@@ -7,7 +7,7 @@
 #include <string.h>
 
 enum { FLASH, PROGRAM, DATA_MEMORY, REGISTERS, BUFFER, JOINING, MEMORIES };
-enum { MOST_WORDS = 1024, MOST_RUN = 65552, NODE_WORDS = 96 };
+enum { MOST_WORDS = 1024, MOST_RUN = 65552, NODE_WORDS = 99 };
 static const size_t rooms[MEMORIES] = {262160, 32784, 32784, 4112, 12304, 32784};
 static const struct limits wide = {32768, 32768, 4096, SIZE_MAX, true};
 
@@ -101,6 +101,8 @@ static void words_of_node(uint16_t words[NODE_WORDS]) {
     *to++ = (uint16_t)node.from;
     put_halves(&to, node.built);
     *to++ = (uint16_t)node.tally;
+    put_halves(&to, node.received);
+    *to++ = (uint16_t)node.rx_status;
     *to++ = node.writing;
     *to++ = (uint16_t)node.writer;
     put_halves(&to, node.joined);
@@ -148,8 +150,10 @@ static void set_pending(unsigned kind, unsigned link, uint32_t at) {
     node.from = (uint32_t)number(1);
     node.built = (uint32_t)number(2);
     node.tally = (uint32_t)number(1);
+    node.received = (uint32_t)number(2);
+    node.rx_status = (uint16_t)number(1);
     if (kind != PENDING_GROUP)
-        node.asked = node.from = node.built = node.tally = 0;
+        node.asked = node.from = node.built = node.tally = node.received = node.rx_status = 0;
     if (kind == PENDING_NOTHING)
         node.link = node.slave = node.asked_at = 0;
 }
@@ -237,6 +241,8 @@ static void print_answer(int does, uint64_t answer) {
         print_reply(answer);
     else if (kind == 2)
         printf("ask %u %u", (unsigned)(answer >> 16 & 0xFF), (unsigned)(answer >> 24 & 0xFF));
+    else if (kind == 8)
+        printf("next %u", (unsigned)(answer >> 16 & 0xFF));
     else
         printf("waiting");
 }

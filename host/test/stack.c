@@ -66,14 +66,29 @@ static void requests(void) {
 /* All replies of the group that was asked last, and the words of its own. */
 static size_t replied;
 
-static void replies(void) {
-    for (unsigned slave = 0; slave < LOGODWEN_SLAVES; slave++) {
-        size_t words = slave == 0 ? 12280 : slave == 1 ? 32767 : 3;
-        for (size_t i = 0; i < words; i++)
-            logodwen_put(packet, i, (uint16_t)i);
-        logodwen_put(packet, words, logodwen_fcs(packet, words));
-        replied = logodwen_words(logodwen_node_reply(&node, 0, slave, slave % 4 == 3 ? 2 : 3, slave == 5, 0, 0, packet, words + 1));
+/* A slave's reply of so many words, sealed, in packets of so many; the last with an FCS that is wrong, or a receive error. */
+static void reply_in_packets(unsigned slave, size_t words, size_t part, unsigned wrong, uint32_t error) {
+    for (size_t i = 0; i < words; i++)
+        logodwen_put(packet, i, (uint16_t)i);
+    logodwen_put(packet, words - 1, (uint16_t)(logodwen_fcs(packet, words - 1) ^ wrong));
+    for (size_t at = 0, next; at < words; at = next) {
+        next = words - at > part ? at + part : words;
+        uint32_t bc = (at == 0 ? LOGODWEN_BC_FIRST : 0) | (next == words ? LOGODWEN_BC_LAST : 0);
+        uint64_t answered = logodwen_node_reply(&node, 0, slave, bc, next == words && error, 0, 0, packet + 2 * at, next - at);
+        replied = logodwen_words(answered);
     }
+}
+
+static void replies(void) {
+    reply_in_packets(0, 12281, 12281, 0, 0); /* without room, in one and in two */
+    reply_in_packets(1, 32768, 32768, 0, 0);
+    reply_in_packets(2, 12200, 10000, 0, 0);
+    reply_in_packets(3, 4, 4, 1, 0);
+    reply_in_packets(4, 4, 3, 1, 0);
+    reply_in_packets(5, 4, 3, 0, 1);
+    reply_in_packets(6, 11000, 4000, 0, 0);
+    for (unsigned slave = 7; slave < LOGODWEN_SLAVES; slave++)
+        reply_in_packets(slave, 4, slave % 4 + 1, 0, 0);
 }
 
 static void polls(void) {

@@ -16,6 +16,7 @@ enum { FIRST_OFF = 19, LENGTH_OFF, LENGTH_LEFT };                               
 enum { REMAINS_OVERLOOKED = 22 };                                                               /* of words behind a file */
 enum { LOWEST_TAKEN = 23 };                                                                     /* of a name in several sectors */
 enum { ALL_READABLE = 24, PLACE_OFF, SEAL_OVERLOOKED, LEFT_OVER_OVERLOOKED, KIND_UNKNOWN, MASK_CUT }; /* of a captured group reply */
+enum { OLD_CLOCK = 30, RX_STATUS_LOST };                                                        /* of a slave that is sent NEXT */
 enum { DIRECTORY_BYTES = 64, ENTRY_WORDS = 4, FIRST = 0, STATUS = 2, LENGTH = 3 };
 
 static bool is_own(const uint8_t *packet, size_t packet_len, unsigned id) {
@@ -118,7 +119,7 @@ static const uint8_t *erase_with_fault(const uint8_t *packet, size_t packet_len,
     return packet;
 }
 
-uint32_t logodwen2_start(uint32_t kind, uint32_t ports, uint32_t subdetector, uint16_t program_version,
+uint32_t logodwen3_start(uint32_t kind, uint32_t ports, uint32_t subdetector, uint16_t program_version,
                          uint16_t subdetector_version, uint16_t start_tests, uint32_t clock, const uint8_t *flash, size_t flash_len,
                          uint8_t *state, size_t state_len) {
     uint32_t refusal = model_start(kind, ports, subdetector, program_version, subdetector_version, start_tests, clock, flash,
@@ -130,7 +131,7 @@ uint32_t logodwen2_start(uint32_t kind, uint32_t ports, uint32_t subdetector, ui
     return refusal;
 }
 
-uint64_t logodwen2_request(uint32_t now, uint32_t link, uint32_t bc, uint32_t receive_error, const uint8_t *packet,
+uint64_t logodwen3_request(uint32_t now, uint32_t link, uint32_t bc, uint32_t receive_error, const uint8_t *packet,
                            size_t packet_len, uint8_t *state, size_t state_len, uint8_t *flash, size_t flash_len, uint8_t *pm,
                            size_t pm_len, uint8_t *dm, size_t dm_len, uint8_t *io, size_t io_len, uint8_t *area, size_t area_len,
                            uint8_t *reply, size_t reply_len) {
@@ -168,25 +169,36 @@ uint64_t logodwen2_request(uint32_t now, uint32_t link, uint32_t bc, uint32_t re
     return is_write && logodwen_answer(answered) == LOGODWEN_REPLY ? write_with_fault(answered) : answered;
 }
 
-uint64_t logodwen2_reply(uint32_t now, uint32_t slave, uint32_t bc, uint32_t receive_error, uint16_t rx_status, uint16_t rx_address,
+/* The state of a node that has a slave sent NEXT, with a fault: its 60 ticks go on from when it was asked, or the RX status is not kept. */
+static void next_with_fault(uint32_t asked_at, uint8_t *state) {
+    if (FAULT == OLD_CLOCK)
+        logodwen_put_pm(state + LOGODWEN_AT_ASKED_AT, 0, asked_at);
+    if (FAULT == RX_STATUS_LOST)
+        logodwen_put(state + LOGODWEN_AT_RX_STATUS, 0, 0);
+}
+
+uint64_t logodwen3_reply(uint32_t now, uint32_t slave, uint32_t bc, uint32_t receive_error, uint16_t rx_status, uint16_t rx_address,
                          const uint8_t *packet, size_t packet_len, uint8_t *state, size_t state_len, uint8_t *reply,
                          size_t reply_len) {
+    uint32_t asked_at = state_len == LOGODWEN_STATE_BYTES ? logodwen_get_pm(state + LOGODWEN_AT_ASKED_AT, 0) : 0;
     uint64_t answered =
         model_reply(now, slave, bc, receive_error, rx_status, rx_address, packet, packet_len, state, state_len, reply, reply_len);
     if (FAULT == REFUSED_YET_CHANGED && logodwen_refusal(answered) == LOGODWEN_REFUSED_UNASKED)
         state[LOGODWEN_AT_AMSWIRE_ERRORS] ^= 1;
     if (FAULT == TALLY_FORGOTTEN && logodwen_answer(answered) == LOGODWEN_ASK)
         state[LOGODWEN_AT_TALLY] = 6;
+    if (logodwen_answer(answered) == LOGODWEN_SEND_NEXT)
+        next_with_fault(asked_at, state);
     return answered;
 }
 
-uint64_t logodwen2_poll(uint32_t now, uint8_t *state, size_t state_len, uint8_t *reply, size_t reply_len) {
+uint64_t logodwen3_poll(uint32_t now, uint8_t *state, size_t state_len, uint8_t *reply, size_t reply_len) {
     if (FAULT == CLOCK_COMPARED && state_len == LOGODWEN_STATE_BYTES && now < logodwen_get_pm(state + LOGODWEN_AT_ASKED_AT, 0))
         now = logodwen_get_pm(state + LOGODWEN_AT_ASKED_AT, 0);
     return model_poll(now, state, state_len, reply, reply_len);
 }
 
-uint64_t logodwen2_erase(uint64_t budget, uint8_t *state, size_t state_len, uint8_t *flash, size_t flash_len) {
+uint64_t logodwen3_erase(uint64_t budget, uint8_t *state, size_t state_len, uint8_t *flash, size_t flash_len) {
     uint8_t before[DIRECTORY_BYTES];
     if (state_len == LOGODWEN_STATE_BYTES)
         memcpy(before, state + LOGODWEN_AT_DIRECTORY, sizeof before);
@@ -198,7 +210,7 @@ uint64_t logodwen2_erase(uint64_t budget, uint8_t *state, size_t state_len, uint
     return answered;
 }
 
-uint16_t logodwen2_fcs(const uint8_t *bytes, size_t len) { return model_fcs(bytes, len / 2); }
+uint16_t logodwen3_fcs(const uint8_t *bytes, size_t len) { return model_fcs(bytes, len / 2); }
 
 /* A captured group reply, with a fault: an FCS is taken for right, whatever it is, or words left over are not looked at. */
 static uint64_t capture_with_fault(uint64_t answered, uint32_t mask, const uint8_t *words) {
@@ -213,7 +225,7 @@ static uint64_t capture_with_fault(uint64_t answered, uint32_t mask, const uint8
     return model_capture(mask, resealed, 2 * place + 2) == LOGODWEN_ACCEPTED << 8 ? LOGODWEN_ACCEPTED << 8 : answered;
 }
 
-uint64_t logodwen2_capture(uint32_t mask, const uint8_t *words, size_t words_len) {
+uint64_t logodwen3_capture(uint32_t mask, const uint8_t *words, size_t words_len) {
     uint64_t answered = model_capture(FAULT == MASK_CUT ? mask & 0xFFFFFFu : mask, words, words_len);
     if (FAULT == ALL_READABLE)
         return LOGODWEN_ACCEPTED << 8;

@@ -89,6 +89,7 @@ fn say_come(answer: Answer, held: &[u16], buffer: &[u16]) -> bool {
         Answer::Started => say(b"\tSTARTED"),
         Answer::Reply(sent) => say_reply(sent, buffer),
         Answer::Ask(asking) => say_asking(asking, held),
+        Answer::Next(slave) => say(b"\tSEND NEXT") && say_number(slave as u64),
         Answer::Waiting => say(b"\tWAITING"),
         Answer::Erased(words) => say(b"\tERASED") && say_number(words as u64),
         Answer::Refused(refusal) => {

@@ -9,12 +9,12 @@ use mathlib.Core.List.{List, [], _∷_}
 use lib.ListN.{length, take, length-take}
 use lib.Dec.{ltb, leb, eqb}
 use borrow.Author.Tests.{eqb-true, leb-true, ltb-false}
-use Rattle.base.proofs.Pick.{pick-case, and-right}
+use Rattle.base.proofs.Pick.{pick-case, and-left, and-right}
 use Rattle.flash.specs.Geometry.{unitOf}
 use Rattle.flash.specs.Change.{eraseCount}
 use Rattle.flash.specs.declared.Erasing.{Erasing}
-use Rattle.group.specs.Kind.{answer, Answer as SlaveAnswer}
-use Rattle.group.specs.Slaves.{hasSlave, slavesUp, above, nextOf}
+use Rattle.group.specs.Kind.{answer, partBy, Answer as SlaveAnswer}
+use Rattle.group.specs.Slaves.{slavesUp, above, nextOf}
 use Rattle.group.specs.Fragment.{Assembly, assembly, taken}
 use Rattle.group.specs.Time.{isLate}
 use Rattle.group.specs.Ending.{Sent, replied, zeroReply, groupStatus, sealed, endBy, endOf}
@@ -29,7 +29,7 @@ use Rattle.node.specs.Effect.{Effect, Lent, lent}
 use Rattle.node.specs.Refusals.{replyVerdict, pollVerdict, eraseVerdict}
 use Rattle.node.specs.Valid.{askOk, gatheringOk, pendingOk}
 use Rattle.node.specs.Settings.{statusIn}
-use Rattle.node.specs.Slaves.{heard, silent, goesOn, hears, askedAt, replyEffect, pollEffect}
+use Rattle.node.specs.Slaves.{heard, silent, goesOn, packetIn, yetToAsk, hears, askedAt, replyEffect, pollEffect}
 use Rattle.node.specs.Calls.{judged, lentReply, lentFlash, routed, requestOf, replyOf, pollOf, eraseEffect, eraseOf}
 use Rattle.node.specs.declared.Answer.{Answer}
 use Rattle.node.specs.declared.Gathering.{Gathering}
@@ -38,7 +38,7 @@ use Rattle.node.specs.declared.Node.{Node}
 use Rattle.node.specs.declared.Pending.{Pending}
 use Rattle.node.specs.declared.Verdict.{Verdict}
 use Rattle.node.proofs.Routes.{Named, route-case}
-use Rattle.node.proofs.Ranges.{ranges-tell}
+use Rattle.node.proofs.Ranges.{ranges-tell, gathered-tells}
 use Rattle.demands.specs.Machine.{isRefused}
 use Rattle.demands.specs.Requests.{end}
 use Rattle.demands.proofs.Taken.{verdictOn, requestEffect}
@@ -70,6 +70,7 @@ bounds-say (Answer.Ask a) (s, f) = fields-in 2 (a .slave) (a .from) 0 (omega ari
     by : (a .from ≡ 1) ⊎ (a .from ≡ 2) → a .from < 256
     by (inl e) = omega arith
     by (inr e) = omega arith
+bounds-say (Answer.Next s) b = fields-in 8 s 0 0 (omega arith) (omega arith) (omega arith) (omega arith)
 bounds-say Answer.Waiting b = fields-in 3 0 0 0 (omega arith) (omega arith) (omega arith) (omega arith)
 bounds-say (Answer.Erased count) b = fields-in 0 0 0 count (omega arith) (omega arith) (omega arith) (omega arith)
 
@@ -139,22 +140,23 @@ one-or-two x h = by (eqb x 1) refl h
     by false e q = inr (eqb-true x 2 q)
 
 gathering-from : (slave : ℕ) (g : Gathering) → gatheringOk slave g ≡ true → (g .from ≡ 1) ⊎ (g .from ≡ 2)
-gathering-from slave g h =
-    let room = leb (g .built .words + 5 * (length (above (g .set) slave) + 1) + 2) 12288 in
-    one-or-two (g .from) (and-right (hasSlave (g .set) slave && ltb (g .set) 16777216 && room) (eqb (g .from) 1 || eqb (g .from) 2) h)
+gathering-from slave g h = one-or-two (g .from) (gathered-tells slave g h .from)
 
 hears-bounds : (ports : ℕ) (p : Pending) (n : Node) (clock : ℕ) (h : Heard) (words reply : List ℕ) → pendingOk ports p ≡ true
     → length reply ≤ 12288 → Bounds (hears p n clock h words reply .answer)
 hears-bounds ports Pending.Nothing n clock h words reply ok b = tt
 hears-bounds ports (Pending.Slave a) n clock h words reply ok b = passed-short reply (answer h words)
-hears-bounds ports (Pending.Group a g) n clock h words reply ok b = by (nextOf (above (g .set) (a .slave))) refl
+hears-bounds ports (Pending.Group a g) n clock h words reply ok b =
+    pick-case (λ (e : Effect). Bounds (e .answer)) (partBy h (g .received .words) (length words) (g .built .words) (yetToAsk a g))
+    (λ _. leb-true (a .slave) 23 (and-right (ltb (a .link) ports) (leb (a .slave) 23) (and-left (askOk ports a) (gatheringOk (a .slave) g) ok)))
+    (λ _. by (nextOf (above (g .set) (a .slave))) refl)
   where
     after : Assembly
-    after = taken (assembly reply (g .built)) (length (above (g .set) (a .slave))) (a .slave) (answer h words)
+    after = taken (assembly reply (g .built)) (yetToAsk a g) (a .slave) (packetIn g h words reply)
 
     by : (next : Next) → nextOf (above (g .set) (a .slave)) ≡ next → Bounds (goesOn n a g clock after next .answer)
     by Next.Nobody e =
-        let k = taken-changes (assembly reply (g .built)) (length (above (g .set) (a .slave))) (a .slave) (answer h words) .size in
+        let k = taken-changes (assembly reply (g .built)) (yetToAsk a g) (a .slave) (packetIn g h words reply) .size in
         end-short after (statusIn n) (omega arith)
     by (Next.Slave s) e =
         (next-small (g .set) (a .slave + 1) s e, gathering-from (a .slave) g (and-right (askOk ports a) (gatheringOk (a .slave) g) ok))
@@ -248,5 +250,6 @@ ended-answer e state flash h = by (answerIn e state flash) refl (nothing-cut e s
         let words : r .words ≡ 0 = omega (arith, h, s .words) in
         λ i. Answer.Reply (replied (bc i) (words i))
     by (Answer.Ask a) q s = absurd (omega (arith, h, s .kind))
+    by (Answer.Next t) q s = absurd (omega (arith, h, s .kind))
     by Answer.Waiting q s = absurd (omega (arith, h, s .kind))
     by (Answer.Erased count) q s = absurd (omega (arith, h, s .kind))

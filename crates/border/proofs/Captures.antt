@@ -11,11 +11,13 @@ use lib.Seq.{length-take-le, take-take}
 use Rattle.base.specs.Pick.{pick}
 use Rattle.base.specs.Words.{Below}
 use Rattle.base.proofs.Pick.{pick-case}
-use Rattle.base.proofs.Part.{below-none}
+use Rattle.base.proofs.Part.{below-none, below-append}
 use Rattle.group.specs.Time.{isLate}
+use Rattle.group.specs.Kind.{isPart, Answer as SlaveAnswer}
+use Rattle.group.specs.Fragment.{fragmentOf}
 use Rattle.group.specs.Whole.{groupOf}
 use Rattle.group.specs.declared.Reply.{Reply}
-use Rattle.capture.specs.Acceptable.{AllOnWire, Acceptable}
+use Rattle.capture.specs.Acceptable.{OnWire, AllOnWire, Acceptable}
 use Rattle.capture.specs.Reader.{readOf}
 use Rattle.capture.specs.declared.Capture.{Capture}
 use Rattle.capture.proofs.Assembled.{acceptable-accepted}
@@ -24,8 +26,8 @@ use Rattle.capture.proofs.Says.{reads, reads-once}
 use Rattle.node.specs.Refusals.{isPending as nodePending}
 use Rattle.node.specs.Settings.{statusIn}
 use Rattle.node.specs.declared.Answer.{Answer}
-use Rattle.demands.specs.Events.{Event as Call, Host as NodeHost, heards}
-use Rattle.demands.specs.Groups.{atLast as nodeLast, said as nodeSaid}
+use Rattle.demands.specs.Events.{Event as Call, Host as NodeHost, Awaited, asked, sentNext, answeredBy, silentBy, Heards, heards}
+use Rattle.demands.specs.Groups.{packetsStored, atLast as nodeLast, said as nodeSaid}
 use Rattle.demands.proofs.Groups.{stands as nodeStands}
 use Rattle.demands.proofs.Captures.{sent-data}
 use Rattle.codec.specs.Bytes.{wordsOf}
@@ -84,20 +86,37 @@ calls-wire (Event.Replied clock slave bc errors status address packet ∷ es) h 
 calls-wire (Event.Polled clock ∷ es) h = (tt, calls-wire es (h .1))
 calls-wire (Event.Erased budget ∷ es) h = (tt, calls-wire es (h .1))
 
-heard-wire : (at : ℕ) (ss : List ℕ) (cs : List Call) → AreWire cs → AllOnWire (heards at ss cs)
+-- .. and so did what is received of a reply under way
+record Wired (x : Awaited) : Type 0 where
+  earlier : Below 65536 (x .earlier)
+  kept : x .kept < 65536
+
+fresh-wire : (clock : ℕ) → Wired (asked clock)
+fresh-wire clock = record { earlier = below-none (omega arith); kept = omega arith }
+
+abbrev Wire : Heards → Type 0
+Wire h = AllOnWire (h .said)
+
+heard-wire : (x : Awaited) (ss : List ℕ) (w : ℕ) (cs : List Call) → Wired x → AreWire cs → AllOnWire (heards x ss w cs .said)
 unfolding heards AreWire IsWire AllOnWire
-heard-wire at [] cs w = tt
-heard-wire at (s ∷ ss) [] w = tt
-heard-wire at (s ∷ ss) (Call.Requested clock link bc errors packet m x ∷ cs) w = heard-wire at (s ∷ ss) cs (w .1)
-heard-wire at (s ∷ ss) (Call.Replied clock slave bc errors status address words ∷ cs) w =
-    let next : AllOnWire (heards clock ss cs) = heard-wire clock ss cs (w .1) in
-    let same : AllOnWire (heards at (s ∷ ss) cs) = heard-wire at (s ∷ ss) cs (w .1) in
-    pick-case AllOnWire (eqb s slave) (λ _. (record { status = w .0 .0; address = w .0 .1; words = w .0 .2 }, next)) (λ _. same)
-heard-wire at (s ∷ ss) (Call.Polled clock ∷ cs) w =
-    let next : AllOnWire (heards clock ss cs) = heard-wire clock ss cs (w .1) in
-    let same : AllOnWire (heards at (s ∷ ss) cs) = heard-wire at (s ∷ ss) cs (w .1) in
-    pick-case AllOnWire (isLate clock at) (λ _. (record { status = omega arith; address = omega arith; words = below-none (omega arith) }, next)) (λ _. same)
-heard-wire at (s ∷ ss) (Call.Erased budget ∷ cs) w = heard-wire at (s ∷ ss) cs (w .1)
+heard-wire x [] w cs d e = tt
+heard-wire x (s ∷ ss) w [] d e = tt
+heard-wire x (s ∷ ss) w (Call.Requested clock link bc errors packet m y ∷ cs) d e = heard-wire x (s ∷ ss) w cs d (e .1)
+heard-wire x (s ∷ ss) w (Call.Replied clock slave bc errors status address words ∷ cs) d e =
+    let a : SlaveAnswer = answeredBy x clock bc errors status address words in
+    let on : OnWire a = record { status = e .0 .0; address = e .0 .1; words = e .0 .2; earlier = d .earlier; kept = d .kept } in
+    let more : Wired (sentNext clock a) = record { earlier = below-append (x .earlier) words (d .earlier) (e .0 .2); kept = e .0 .0 } in
+    pick-case Wire (eqb s slave)
+    (λ _. pick-case Wire (isPart a w (length ss)) (λ _. heard-wire (sentNext clock a) (s ∷ ss) w cs more (e .1))
+    (λ _. (on, heard-wire (asked clock) ss (w + length (fragmentOf s a w (length ss))) cs (fresh-wire clock) (e .1))))
+    (λ _. heard-wire x (s ∷ ss) w cs d (e .1))
+heard-wire x (s ∷ ss) w (Call.Polled clock ∷ cs) d e =
+    let on : OnWire (silentBy x) =
+    record { status = omega arith; address = omega arith; words = below-none (omega arith); earlier = d .earlier; kept = d .kept } in
+    pick-case Wire (isLate clock (x .at))
+    (λ _. (on, heard-wire (asked clock) ss (w + length (fragmentOf s (silentBy x) w (length ss))) cs (fresh-wire clock) (e .1)))
+    (λ _. heard-wire x (s ∷ ss) w cs d (e .1))
+heard-wire x (s ∷ ss) w (Call.Erased budget ∷ cs) d e = heard-wire x (s ∷ ss) w cs d (e .1)
 
 -- so what a group's host gets is accepted: the words are those that the node sent
 pub data-is-accepted : DataIsAccepted entries
@@ -105,9 +124,9 @@ data-is-accepted r all bc n bits some =
     let hs = all-heard r all in
     let buffer : List ℕ = atLast r .buffer in
     let wire : AllOnWire (nodeSaid (nodes r)) =
-    subst AllOnWire (sym (said-is r)) (heard-wire (r .clock) (slaves r) (callsOf (r .events)) (calls-wire (r .events) (r .all-typed))) in
+    subst AllOnWire (sym (said-is r)) (heard-wire (asked (r .clock)) (slaves r) 0 (callsOf (r .events)) (fresh-wire (r .clock)) (calls-wire (r .events) (r .all-typed))) in
     let o = nodeStands (nodes r) .ended hs in
-    let reply : Reply = groupOf (replyWords (r .buffer)) (slaves r) (nodeSaid (nodes r)) (statusIn (nodeIn (r .state))) .reply in
+    let reply : Reply = groupOf (packetsStored (replyWords (r .buffer)) (slaves r) (nodeSaid (nodes r)) 0) (slaves r) (nodeSaid (nodes r)) (statusIn (nodeIn (r .state))) .reply in
     let last : run r .last ≡ Answer.Reply reply = sym (ap (λ (h : NodeHost). h .turn .answer) (last-is r)) ∙ o .reply in
     let nothing : isPending (atLast r .state) ≡ false =
     sym (pending-is (atLast r .state)) ∙ ap (λ (h : NodeHost). nodePending (h .turn .node .pending)) (sym (last-is r)) ∙ ap nodePending (o .nothing) in

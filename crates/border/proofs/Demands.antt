@@ -11,6 +11,7 @@ use Rattle.border.proofs.Erasing.{erasure-follows, erases, flash-follow
 use Rattle.border.proofs.GroupAsked.{group-is-asked}
 use Rattle.border.proofs.Groups.{group-is-its-fragments}
 use Rattle.border.proofs.Captures.{data-is-accepted}
+use Rattle.border.proofs.Ends.{each-lowers-or-stores, always-ends, never-asked-twice, settled-in-time, dead-end-in-time, all-end-in-time}
 use Rattle.border.proofs.ClosedRun.{closed-run}
 use Rattle.border.proofs.OneSector.{one-sector, no-bit-rises}
 
@@ -27,6 +28,12 @@ demands =
       group-is-asked = group-is-asked;
       group-is-its-fragments = group-is-its-fragments;
       data-is-accepted = data-is-accepted;
+      each-lowers-or-stores = each-lowers-or-stores;
+      always-ends = always-ends;
+      never-asked-twice = never-asked-twice;
+      settled-in-time = settled-in-time;
+      dead-end-in-time = dead-end-in-time;
+      all-end-in-time = all-end-in-time;
       closed-run = closed-run;
       no-stale-record = no-stale-record;
       lengths-shown = lengths-shown;

@@ -269,6 +269,7 @@ count-is-answer e state flash done = by (answerIn e state flash) (nothing-cut e 
     by Answer.Started q = counts 0 0 (q .kind) (q .words)
     by (Answer.Reply r) q = counts 1 (r .words) (q .kind) (q .words)
     by (Answer.Ask a) q = counts 2 0 (q .kind) (q .words)
+    by (Answer.Next s) q = counts 8 0 (q .kind) (q .words)
     by Answer.Waiting q = counts 3 0 (q .kind) (q .words)
     by (Answer.Erased count) q = counts 0 count (q .kind) (q .words)
 
@@ -291,6 +292,7 @@ undone-counts e state flash h = by (entry-step e state flash)
         refused Answer.Started n q = absurd (false≢true (sym q ∙ eq-eqb (answerNumber Answer.Started % 256) 0 (done-low Answer.Started refl)))
         refused (Answer.Reply r) n q = absurd (false≢true (sym q ∙ eq-eqb (answerNumber (Answer.Reply r) % 256) 0 (done-low (Answer.Reply r) refl)))
         refused (Answer.Ask a) n q = absurd (false≢true (sym q ∙ eq-eqb (answerNumber (Answer.Ask a) % 256) 0 (done-low (Answer.Ask a) refl)))
+        refused (Answer.Next s) n q = absurd (false≢true (sym q ∙ eq-eqb (answerNumber (Answer.Next s) % 256) 0 (done-low (Answer.Next s) refl)))
         refused Answer.Waiting n q = absurd (false≢true (sym q ∙ eq-eqb (answerNumber Answer.Waiting % 256) 0 (done-low Answer.Waiting refl)))
         refused (Answer.Erased count) n q = absurd (false≢true (sym q ∙ eq-eqb (answerNumber (Answer.Erased count) % 256) 0 (done-low (Answer.Erased count) refl)))
 

@@ -15,7 +15,7 @@ use Rattle.node.specs.Effect.{Effect, Lent, Outcome, outcome}
 use Rattle.node.specs.Valid.{kindOk, portsOk}
 use Rattle.node.specs.Refusals.{firstOf, isPending, isAsked, replyVerdict, pollVerdict, eraseVerdict, startVerdict}
 use Rattle.node.specs.Refusals.{Cause as Test, cause as test, replyCause as replyTest, areaCause as areaTest, slaveCause as slaveTest, busyCause as busyTest, pollCause as pollTest, unaskedCause as unaskedTest}
-use Rattle.node.specs.Slaves.{ask, gathering, replyEffect, pollEffect}
+use Rattle.node.specs.Slaves.{ask, received, gathering, replyEffect, pollEffect}
 use Rattle.node.specs.Calls.{judged, given, startBy, lentReply, lentFlash, eraseEffect, startOf, requestOf, replyOf, pollOf, eraseOf}
 use Rattle.node.specs.declared.Answer.{Answer}
 use Rattle.node.specs.declared.Ask.{Ask}
@@ -56,7 +56,7 @@ bench-tells flash = same-tells long words (eqb-tells (length flash / 2) 32768)
     words (inl e) = omega arith
     words (inr e) = omega arith
 
--- what is looked at only where the state bytes are 180
+-- what is looked at only where the state bytes are 188
 where-tells : {t u : Bool} {A B : Type 0} → Tells t A → Tells u B → Tells (not (pick t u true)) (A × (B → ⊥))
 where-tells {t} {u} {A} {B} p q = record { told = left t p; tells = right t p }
   where
@@ -70,9 +70,9 @@ where-tells {t} {u} {A} {B} p q = record { told = left t p; tells = right t p }
 
 flash-tells : (state flash : List ℕ)
     → Tells (benchTest state (length flash / 2) .holds)
-    ((BenchSize flash → ⊥) ⊎ ((length state ≡ 180) × (length flash / 2 ≡ sizeIn state → ⊥)))
+    ((BenchSize flash → ⊥) ⊎ ((length state ≡ 188) × (length flash / 2 ≡ sizeIn state → ⊥)))
 flash-tells state flash =
-    or-tells (not-tells (bench-tells flash)) (where-tells (eqb-tells (length state) 180) (eqb-tells (length flash / 2) (sizeIn state)))
+    or-tells (not-tells (bench-tells flash)) (where-tells (eqb-tells (length state) 188) (eqb-tells (length flash / 2) (sizeIn state)))
 
 short-tells : (words : ℕ) (run : List ℕ) → Tells (ltb (length run / 2) words) (length run < 2 * words)
 short-tells words run = same-tells (λ h. omega arith) (λ h. omega arith) (ltb-tells (length run / 2) words)
@@ -107,7 +107,7 @@ abbrev askIn : Wait → Ask
 askIn w = ask (w .link) (w .slave) (w .at)
 
 abbrev gatheringIn : Wait → Gathering
-gatheringIn w = gathering (w .set) (w .from) (built (w .words) (tallyOf (w .tally)))
+gatheringIn w = gathering (w .set) (w .from) (built (w .words) (tallyOf (w .tally))) (received (w .received) (w .«rx_status»))
 
 pends-tells : (state : List ℕ) → Tells (isPending (nodeIn state .pending)) (Pends state)
 unfolding nodeIn
@@ -128,6 +128,7 @@ done-low (Answer.Refused r) h = absurd (false≢true (sym h))
 done-low Answer.Started h = refl
 done-low (Answer.Reply r) h = omega arith
 done-low (Answer.Ask a) h = omega arith
+done-low (Answer.Next s) h = omega arith
 done-low Answer.Waiting h = refl
 done-low (Answer.Erased count) h = omega arith
 
@@ -198,7 +199,7 @@ request-exactly clock link bc errors packet state runs =
           (
             (refl, short-tells 32768 (runs .further .area)),
             (
-              (refl, where-tells (eqb-tells (length state) 180) (ltb-tells link (portsIn state))),
+              (refl, where-tells (eqb-tells (length state) 188) (ltb-tells link (portsIn state))),
               (
                 (refl, not-tells (state-bytes-tell state)),
                 (
@@ -289,7 +290,7 @@ start-exactly kind ports subdetector program version tests clock flash state =
     causes =
         test Refusal.FlashSize (not (eqb (length flash / 2) 32768))
         ∷ test Refusal.Number (not (portsOk ports) || not (kindOk kind) || ltb 7 subdetector)
-        ∷ test Refusal.State (not (eqb (length state) 180))
+        ∷ test Refusal.State (not (eqb (length state) 188))
         ∷ []
 
     done : firstOf causes ≡ Verdict.Fine → o .turn .answer ≡ Answer.Started
@@ -304,7 +305,7 @@ start-exactly kind ports subdetector program version tests clock flash state =
           (refl, not-tells (bench-tells flash)),
           (
             (refl, or-tells (or-tells (not-tells (ports-tells ports)) (not-tells (kind-tells kind))) (ltb-tells 7 subdetector)),
-            ((refl, not-tells (eqb-tells (length state) 180)), tt),
+            ((refl, not-tells (eqb-tells (length state) 188)), tt),
           ),
         )
 

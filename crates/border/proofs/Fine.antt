@@ -106,7 +106,7 @@ start-bench kind ports subdetector state flash h =
     let none =
     fine-tells
     (cause Refusal.FlashSize (not (eqb words 32768)) ∷ cause Refusal.Number numbers
-    ∷ cause Refusal.State (not (eqb (length state) 180)) ∷ [])
+    ∷ cause Refusal.State (not (eqb (length state) 188)) ∷ [])
     h in
     eqb-true words 32768 (not-false (eqb words 32768) (none .0))
 
@@ -120,7 +120,7 @@ start-fine kind ports subdetector state flash h =
     let none =
     fine-tells
     (cause Refusal.FlashSize (not (eqb words 32768)) ∷ cause Refusal.Number numbers
-    ∷ cause Refusal.State (not (eqb (length state) 180)) ∷ [])
+    ∷ cause Refusal.State (not (eqb (length state) 188)) ∷ [])
     h in
     let bench = start-bench kind ports subdetector state flash h in
     let sized : not (sizeOk words) ≡ false = ap (λ (n : ℕ). not (sizeOk n)) bench in

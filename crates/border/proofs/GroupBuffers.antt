@@ -6,18 +6,18 @@ use mathlib.Core.Path.{_≡_, refl, sym, ap, _∙_}
 use mathlib.Core.Bool.{Bool, true, false, _&&_}
 use mathlib.Core.List.{List, [], _∷_, _++_}
 use lib.Dec.{ltb, leb, eqb}
-use lib.ListN.{length, getD, take, length-take}
+use lib.ListN.{length, getD, take, drop, length-take, length-drop, length-append}
 use borrow.Author.Tests.{leb-false}
 use Rattle.base.specs.Pick.{pick}
-use Rattle.base.specs.Words.{Below, laid}
+use Rattle.base.specs.Words.{part, Below, laid}
 use Rattle.base.proofs.Pick.{pick-case}
-use Rattle.base.proofs.Part.{below-take, below-append, below-none, below-cons, below-one, below-two}
+use Rattle.base.proofs.Part.{below-take, below-drop, below-append, below-none, below-cons, below-one, below-two}
 use Rattle.fcs.specs.Fcs.{fcsOf}
 use Rattle.fcs.proofs.Bounds.{fcs-below}
-use Rattle.group.specs.Kind.{answer, Answer as SlaveAnswer, datOf, codeOf, kindOf}
+use Rattle.group.specs.Kind.{answer, Answer as SlaveAnswer, joinedOf, datOf, codeOf, kindOf, partBy}
 use Rattle.group.specs.Slaves.{above, nextOf}
 use Rattle.group.specs.Time.{isLate}
-use Rattle.group.specs.Fragment.{bitsOf, statusOf, dataOf, fragmentBy, fragmentOf, Assembly, assembly, behind, taken}
+use Rattle.group.specs.Fragment.{bitsOf, statusOf, receivedOf, rxOf, dataOf, fragmentBy, fragmentOf, Assembly, assembly, behind, taken}
 use Rattle.group.specs.Ending.{Sent, sealed, groupStatus, endBy, endOf}
 use Rattle.group.specs.Single.{passedOn}
 use Rattle.group.specs.declared.Heard.{Heard}
@@ -25,6 +25,7 @@ use Rattle.group.specs.declared.Kind.{Kind}
 use Rattle.group.specs.declared.Next.{Next}
 use Rattle.group.specs.declared.Reply.{Reply}
 use Rattle.group.specs.declared.Tally.{Tally}
+use Rattle.group.proofs.Answers.{part-tells}
 use Rattle.group.proofs.Changes.{end-changes, passed-changes}
 use Rattle.group.proofs.Status.{status-fits}
 use Rattle.group.proofs.Takes.{taken-changes}
@@ -32,51 +33,65 @@ use Rattle.report.specs.Status.{ownStatus}
 use Rattle.node.specs.Effect.{Effect, Lent, Outcome, Did}
 use Rattle.node.specs.Refusals.{isPending, replyVerdict, pollVerdict}
 use Rattle.node.specs.Settings.{statusIn}
-use Rattle.node.specs.Slaves.{heard, silent, goesOn, hears, askedAt, replyEffect, pollEffect}
+use Rattle.node.specs.Slaves.{heard, silent, goesOn, packetIn, yetToAsk, awaits, hears, askedAt, replyEffect, pollEffect}
 use Rattle.node.specs.Calls.{judged, lentReply, routed, requestOf, replyOf, pollOf}
 use Rattle.node.specs.declared.Answer.{Answer}
 use Rattle.node.specs.declared.Asking.{Asking}
+use Rattle.node.specs.declared.Gathering.{Gathering}
 use Rattle.node.specs.declared.Node.{Node}
 use Rattle.node.specs.declared.Pending.{Pending}
 use Rattle.node.specs.declared.Verdict.{Verdict}
 use Rattle.node.proofs.Routes.{Command, command-words, route-case}
 use Rattle.node.proofs.Verdicts.{request-fine}
 use Rattle.demands.proofs.Taken.{verdictOn, requestEffect}
-use Rattle.base.proofs.Laid.{laid-none}
+use Rattle.base.proofs.Laid.{length-laid, laid-none}
 use Rattle.node.specs.Files.{fileWriteOf, joined, isErasing, placedFor, writeAt}
 use Rattle.flash.specs.declared.Found.{Found}
+use Rattle.codec.specs.StateBytes.{waitOf}
 use Rattle.border.proofs.Runs.{below-laid}
 
--- an answer whose numbers are those of the C types, with at most as many words as the border takes
+-- an answer whose numbers are those of the C types, with at most as many words as the border takes, behind at most those of the buffer
 pub record SmallAnswer (a : SlaveAnswer) : Type 0 where
   pub words : Below 65536 (a .words)
-  pub short : length (a .words) ≤ 32768
+  pub earlier : Below 65536 (a .earlier)
+  pub short : length (joinedOf a) ≤ 45056
   pub status : a .heard .«rx_status» < 65536
   pub address : a .heard .«rx_address» < 65536
+  pub kept : a .kept < 65536
+
+joined-below : (a : SlaveAnswer) → SmallAnswer a → Below 65536 (joinedOf a)
+joined-below a s = below-append (a .earlier) (a .words) (s .earlier) (s .words)
+
+-- what a fault's fragment tells, whether or not its packet was late
+rx-below : (a : SlaveAnswer) → SmallAnswer a → rxOf a < 65536
+rx-below a s = pick-case (λ (x : ℕ). x < 65536) (a .heard .late) (λ _. s .kept) (λ _. s .status)
+
+received-below : (a : SlaveAnswer) → SmallAnswer a → Below 65536 (receivedOf a)
+received-below a s = pick-case (λ (x : List ℕ). Below 65536 x) (a .heard .late) (λ _. s .earlier) (λ _. joined-below a s)
 
 data-below : (kind : Kind) (a : SlaveAnswer) → SmallAnswer a → Below 65536 (dataOf kind a)
 data-below Kind.Late a s = below-none (omega arith)
 data-below Kind.Errors a s = below-two (a .heard .«rx_status») (a .heard .«rx_address») (s .status) (s .address)
 data-below (Kind.Zero z) a s = below-none (omega arith)
 data-below (Kind.Faulty f) a s =
-    let words : ℕ = min (length (a .words)) 65535 in
-    let first : ℕ = getD (a .words) 0 0 in
-    below-cons (a .heard .«rx_status») (words ∷ first ∷ []) (s .status) (below-two words first (omega arith) (s .words 0))
-data-below Kind.Whole a s = below-take (length (a .words) - 2) (a .words) (s .words)
+    let words : ℕ = min (length (receivedOf a)) 65535 in
+    let first : ℕ = getD (receivedOf a) 0 0 in
+    below-cons (rxOf a) (words ∷ first ∷ []) (rx-below a s) (below-two words first (omega arith) (received-below a s 0))
+data-below Kind.Whole a s = below-take (length (joinedOf a) - 2) (joinedOf a) (joined-below a s)
 
-data-short : (kind : Kind) (a : SlaveAnswer) → SmallAnswer a → length (dataOf kind a) ≤ 32768
+data-short : (kind : Kind) (a : SlaveAnswer) → SmallAnswer a → length (dataOf kind a) ≤ 45056
 data-short Kind.Late a s = omega arith
 data-short Kind.Errors a s = omega arith
 data-short (Kind.Zero z) a s = omega arith
 data-short (Kind.Faulty f) a s = omega arith
-data-short Kind.Whole a s = omega (arith, s .short, length-take (length (a .words) - 2) (a .words))
+data-short Kind.Whole a s = omega (arith, s .short, length-take (length (joinedOf a) - 2) (joinedOf a))
 
 fragment-below : (kind : Kind) (slave : ℕ) (a : SlaveAnswer) → SmallAnswer a → Below 65536 (fragmentBy kind slave a)
 fragment-below kind slave a s =
-    let status : ℕ = statusOf kind (a .words) slave in
+    let status : ℕ = statusOf kind (joinedOf a) slave in
     below-cons (length (dataOf kind a) + 1) (dataOf kind a ++ (status ∷ [])) (omega (arith, data-short kind a s))
     (below-append (dataOf kind a) (status ∷ []) (data-below kind a s)
-    (below-one status (status-fits (datOf kind) (codeOf kind) (bitsOf kind (a .words)) slave)))
+    (below-one status (status-fits (datOf kind) (codeOf kind) (bitsOf kind (joinedOf a)) slave)))
 
 -- as many words, and 16-bit words
 pub record Kept (before after : List ℕ) : Type 0 where
@@ -151,17 +166,45 @@ end-kept m n h = record { size = end-changes m (statusIn n) .size; below = below
 stays : (buffer : List ℕ) → Below 65536 buffer → Kept buffer buffer
 stays buffer h = record { size = refl; below = h }
 
-hears-kept : (p : Pending) (n : Node) (clock : ℕ) (h : Heard) (words buffer : List ℕ) → SmallAnswer (answer h words) → Below 65536 buffer
-    → Kept buffer (hears p n clock h words buffer .reply)
-hears-kept Pending.Nothing n clock h words buffer s b = stays buffer b
-hears-kept (Pending.Slave a) n clock h words buffer s b = passed-kept (answer h words) s buffer b
-hears-kept (Pending.Group a g) n clock h words buffer s b = by (nextOf (above (g .set) (a .slave)))
+-- a packet that is heard, behind what is received
+small-packet : (g : Gathering) (h : Heard) (words buffer : List ℕ) → SmallAnswer (answer h words) → length words ≤ 32768 → g .received .«rx_status» < 65536
+    → Below 65536 buffer → length buffer ≡ 12288 → SmallAnswer (packetIn g h words buffer)
+small-packet g h words buffer s short kept b long =
+    let at = g .built .words + 1 in
+    let r = g .received .words in
+    let earlier = part buffer at r in
+    let few : length earlier ≤ 12288 = omega (arith, length-take r (drop at buffer), length-drop at buffer, long) in
+    record {
+      words = s .words;
+      earlier = below-take r (drop at buffer) (below-drop at buffer b);
+      short = omega (arith, length-append earlier words, few, short);
+      status = s .status;
+      address = s .address;
+      kept = kept;
+    }
+
+hears-kept : (p : Pending) (n : Node) (clock : ℕ) (h : Heard) (words buffer : List ℕ) → SmallAnswer (answer h words) → length words ≤ 32768
+    → waitOf p .«rx_status» < 65536 → Below 65536 buffer → length buffer ≡ 12288 → Kept buffer (hears p n clock h words buffer .reply)
+hears-kept Pending.Nothing n clock h words buffer s short kept b long = stays buffer b
+hears-kept (Pending.Slave a) n clock h words buffer s short kept b long = passed-kept (answer h words) s buffer b
+hears-kept (Pending.Group a g) n clock h words buffer s short kept b long =
+    pick-case (λ (e : Effect). Kept buffer (e .reply)) (partBy h (g .received .words) (length words) (g .built .words) (yetToAsk a g))
+    stored (λ _. by (nextOf (above (g .set) (a .slave))))
   where
+    said : SlaveAnswer
+    said = packetIn g h words buffer
+
     after : Assembly
-    after = taken (assembly buffer (g .built)) (length (above (g .set) (a .slave))) (a .slave) (answer h words)
+    after = taken (assembly buffer (g .built)) (yetToAsk a g) (a .slave) said
+
+    stored : partBy h (g .received .words) (length words) (g .built .words) (yetToAsk a g) ≡ true → Kept buffer (awaits a g clock h words buffer .reply)
+    stored e =
+        let t = part-tells h (g .received .words) (length words) (g .built .words) (yetToAsk a g) e in
+        let at = g .built .words + 1 + g .received .words in
+        record { size = length-laid buffer at words (omega (arith, t .room, long)); below = below-laid buffer at words b (s .words) }
 
     so-far : Kept buffer (after .reply)
-    so-far = taken-kept (answer h words) s (assembly buffer (g .built)) (length (above (g .set) (a .slave))) (a .slave) b
+    so-far = taken-kept said (small-packet g h words buffer s short kept b long) (assembly buffer (g .built)) (yetToAsk a g) (a .slave) b
 
     by : (next : Next) → Kept buffer (goesOn n a g clock after next .reply)
     by Next.Nobody =
@@ -176,21 +219,30 @@ judged-kept (Verdict.No r) n buffer e b k = stays buffer b
 -- a slave's reply, and a poll
 
 pub reply-kept : (n : Node) (clock slave bc : ℕ) (errors : Bool) (status address : ℕ) (words buffer : List ℕ)
-    → Below 65536 words → length words ≤ 32768 → status < 65536 → address < 65536 → Below 65536 buffer
-    → Kept buffer (replyOf n clock slave bc errors status address words buffer .after .reply)
+    → Below 65536 words → length words ≤ 32768 → status < 65536 → address < 65536 → waitOf (n .pending) .«rx_status» < 65536 → Below 65536 buffer
+    → length buffer ≡ 12288 → Kept buffer (replyOf n clock slave bc errors status address words buffer .after .reply)
 unfolding replyOf replyEffect
-reply-kept n clock slave bc errors status address words buffer w l s d b =
+reply-kept n clock slave bc errors status address words buffer w l s d r b long =
     let h : Heard = heard (isLate clock (askedAt (n .pending))) errors status address bc in
     judged-kept (replyVerdict n slave (length buffer)) n buffer (replyEffect n clock errors status address bc words buffer) b
-    (hears-kept (n .pending) n clock h words buffer (record { words = w; short = l; status = s; address = d }) b)
+    (hears-kept (n .pending) n clock h words buffer
+    (record { words = w; earlier = below-none (omega arith); short = omega arith; status = s; address = d; kept = omega arith }) l r b long)
 
-pub poll-kept : (n : Node) (clock : ℕ) (buffer : List ℕ) → Below 65536 buffer → Kept buffer (pollOf n clock buffer .after .reply)
+pub poll-kept : (n : Node) (clock : ℕ) (buffer : List ℕ) → waitOf (n .pending) .«rx_status» < 65536 → Below 65536 buffer → length buffer ≡ 12288 → Kept buffer (pollOf n clock buffer .after .reply)
 unfolding pollOf pollEffect
-poll-kept n clock buffer b =
+poll-kept n clock buffer r b long =
     judged-kept (pollVerdict n (length buffer)) n buffer (pollEffect n clock buffer) b
     (pick-case (λ (e : Effect). Kept buffer (e .reply)) (isLate clock (askedAt (n .pending)))
     (λ _. hears-kept (n .pending) n clock silent [] buffer
-    (record { words = below-none (omega arith); short = omega arith; status = omega arith; address = omega arith }) b)
+    (record {
+      words = below-none (omega arith);
+      earlier = below-none (omega arith);
+      short = omega arith;
+      status = omega arith;
+      address = omega arith;
+      kept = omega arith;
+    })
+    (omega arith) r b long)
     (λ _. stays buffer b))
 
 -- a request that is not an own command leaves the buffer

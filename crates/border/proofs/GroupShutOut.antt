@@ -1,6 +1,6 @@
 -- What stores nothing of a slave's reply leaves a group of one slave with a reply buffer of zeros, where the slave's fragment starts with
 -- the byte 1. Assumes nothing.
-use Prim.Native.Nat.{ℕ, zero, suc, _+_, _%_}
+use Prim.Native.Nat.{ℕ, _%_}
 use native.Mathlib.Omega.{arith}
 use mathlib.Core.Path.{_≡_, refl, sym, ap, _∙_, subst}
 use mathlib.Core.Bool.{Bool, true, false}
@@ -12,8 +12,8 @@ use Rattle.base.specs.Words.{laid}
 use Rattle.flash.specs.Geometry.{isSector}
 use Rattle.memory.specs.Run.{allBelow}
 use Rattle.memory.specs.Segment.{Memories, memories}
-use Rattle.group.specs.Kind.{kindOf}
-use Rattle.group.specs.Slaves.{hasSlave, slavesFrom, slavesOf}
+use Rattle.group.specs.Kind.{partBy, firstKind, kindOf}
+use Rattle.group.specs.Slaves.{slavesOf}
 use Rattle.group.specs.Tally.{Every}
 use Rattle.group.specs.Time.{isLate}
 use Rattle.group.specs.Fragment.{fragmentOf}
@@ -27,8 +27,9 @@ use Rattle.node.specs.Calls.{judged, requestOf}
 use Rattle.node.specs.declared.Node.{Node}
 use Rattle.node.specs.declared.Verdict.{Verdict}
 use Rattle.demands.specs.Machine.{isRefused}
-use Rattle.demands.specs.Events.{Event as Call, Undropped, heards}
-use Rattle.demands.specs.Groups.{isGroup, setAsked, stripped, knowsMask}
+use Rattle.demands.specs.Events.{Event as Call, Undropped, asked, heards}
+use Rattle.demands.specs.Groups.{isGroup, setAsked, stripped, knowsMask, packetsStored}
+use Rattle.demands.proofs.Slaves.{up, slaves-up}
 use Rattle.demands.proofs.Taken.{requestEffect, request-taken}
 use Rattle.codec.specs.Bytes.{valueOf, digitsOf, numberAt, wordsIn, wordsOf, bytesOf, storeWords}
 use Rattle.codec.specs.Places.{packed}
@@ -42,7 +43,7 @@ use Rattle.border.specs.Answers.{InBits}
 use Rattle.border.specs.ClosedRun.{blank, zeros, fresh, sends}
 use Rattle.border.specs.Events.{Event, callsOf, AllInC, stepped, isPending, hosted}
 use Rattle.border.specs.Files.{Stands}
-use Rattle.border.specs.Groups.{GroupRun, begun, atLast, slaves, said, GroupIsItsFragments}
+use Rattle.border.specs.Groups.{GroupRun, begun, atLast, slaves, said, stored, GroupIsItsFragments}
 use Rattle.border.specs.ShutOut.{forgetful}
 use Rattle.border.proofs.Fine.{request-fine}
 use Rattle.border.proofs.Exactly.{done-low}
@@ -83,26 +84,7 @@ ask-in = (omega arith, omega arith, omega arith, omega arith, tested packet refl
 has : Hosted forgetful fresh blank
 has =
     subst (λ (x : List ℕ). Hosted forgetful x blank) (closed-run .begun)
-    (Hosted.First 2 4 0 0 0 0 0 (zeros 180) blank starts-in blank-bytes (closed-run .begins))
-
--- the slaves of a set, with each rest computed once
-
-abbrev slaveThen : Bool → ℕ → List ℕ → List ℕ
-slaveThen true s ss = s ∷ ss
-slaveThen false s ss = ss
-
-up : ℕ → ℕ → ℕ → List ℕ
-up zero s set = []
-up (suc n) s set = slaveThen (hasSlave set s) s (up n (s + 1) set)
-
-slaves-up : (n s set : ℕ) → slavesFrom n s set ≡ up n s set
-unfolding slavesFrom up
-slaves-up zero s set = refl
-slaves-up (suc n) s set = by (hasSlave set s) (slavesFrom n (s + 1) set) ∙ ap (slaveThen (hasSlave set s) s) (slaves-up n (s + 1) set)
-  where
-    by : (t : Bool) (rest : List ℕ) → pick t (s ∷ rest) rest ≡ slaveThen t s rest
-    by true rest = refl
-    by false rest = refl
+    (Hosted.First 2 4 0 0 0 0 0 (zeros 188) blank starts-in blank-bytes (closed-run .begins))
 
 set-is : setAsked (nodeIn fresh) words ≡ 1
 unfolding valueOf wordsIn wordsOf
@@ -207,19 +189,19 @@ run =
 
 -- in which the slave is heard to say END
 all-heard : length (said run) ≡ length (slaves run)
-unfolding heards callsOf
-all-heard = subst (λ (ss : List ℕ). length (heards 0 ss calls) ≡ length ss) (sym slaves-are) refl
+unfolding heards callsOf wordsIn wordsOf isLate partBy
+all-heard = subst (λ (ss : List ℕ). length (heards (asked 0) ss 0 calls .said) ≡ length ss) (sym slaves-are) refl
 
 all-end : Every (Kind.Zero ZeroLength.End) (kindsOf (slaves run) (said run) 0)
-unfolding heards callsOf wordsIn wordsOf isLate kindOf kindsOf Every
-all-end = subst (λ (ss : List ℕ). Every (Kind.Zero ZeroLength.End) (kindsOf ss (heards 0 ss calls) 0)) (sym slaves-are) (refl, tt)
+unfolding heards callsOf wordsIn wordsOf isLate partBy firstKind kindOf kindsOf Every
+all-end = subst (λ (ss : List ℕ). Every (Kind.Zero ZeroLength.End) (kindsOf ss (heards (asked 0) ss 0 calls .said) 0)) (sym slaves-are) (refl, tt)
 
 -- the first byte that there should be, and the one that there is, whether or not the host went on
 
-first-byte : getD (storeWords 2 (assembled (slaves run) (said run) 0) (zeros 24576)) 0 0 ≡ 1
-unfolding laid digitsOf bytesOf heards callsOf wordsIn wordsOf isLate kindOf fragmentsOf joined fragmentOf
+first-byte : getD (storeWords 2 (laid (stored run) 0 (assembled (slaves run) (said run) 0)) (zeros 24576)) 0 0 ≡ 1
+unfolding laid digitsOf bytesOf heards callsOf wordsIn wordsOf isLate partBy firstKind kindOf fragmentsOf joined fragmentOf packetsStored
 first-byte =
-    ap (λ (ss : List ℕ). getD (storeWords 2 (assembled ss (heards 0 ss calls) 0) (zeros 24576)) 0 0) slaves-are
+    ap (λ (ss : List ℕ). getD (storeWords 2 (laid (packetsStored (replyWords (zeros 24576)) ss (heards (asked 0) ss 0 calls .said) 0) 0 (assembled ss (heards (asked 0) ss 0 calls .said) 0)) (zeros 24576)) 0 0) slaves-are
 
 last-byte : getD (atLast run .buffer) 0 0 ≡ 0
 unfolding hosted
@@ -231,6 +213,6 @@ last-byte = by (isPending (begun run .state)) ∙ ap (λ (x : List ℕ). getD x 
 
 pub forgets-slaves : GroupIsItsFragments forgetful → ⊥
 forgets-slaves g =
-    let sent = g .fragments run all-heard .common ZeroLength.End all-end in
+    let sent = g .at-last run all-heard .common ZeroLength.End all-end in
     let same = ap (λ (x : List ℕ). getD x 0 0) (sent .bytes) in
     omega (arith, last-byte, same, first-byte)

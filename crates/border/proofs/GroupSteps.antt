@@ -1,5 +1,5 @@
 -- One entry of a group's host: it is the node's call on the words, or it is refused, and nothing to the group. Assumes nothing.
-use Prim.Native.Nat.{ℕ, _+_, _/_, _%_, _≤_}
+use Prim.Native.Nat.{ℕ, _+_, _/_, _%_, _≤_, _<_}
 use native.Mathlib.Omega.{arith}
 use mathlib.Core.Path.{_≡_, refl, sym, ap, _∙_, subst}
 use mathlib.Core.Bool.{Bool, true, false, _&&_, _||_, not, false≢true}
@@ -18,7 +18,7 @@ use Rattle.node.specs.State.{turn}
 use Rattle.node.specs.Refusals.{firstOf, slaveCause, unaskedCause, isAsked, replyVerdict, pollVerdict}
 use Rattle.node.specs.Refusals.{isPending as nodePending}
 use Rattle.node.specs.Effect.{Effect, Lent, lent, Outcome, Further}
-use Rattle.node.specs.Slaves.{ask, gathering, replyEffect, pollEffect}
+use Rattle.node.specs.Slaves.{ask, received, gathering, replyEffect, pollEffect}
 use Rattle.node.specs.Calls.{judged, lentReply, replyOf, pollOf}
 use Rattle.node.specs.declared.Answer.{Answer}
 use Rattle.node.specs.declared.Ask.{Ask}
@@ -32,7 +32,7 @@ use Rattle.demands.specs.Reached.{stateAfter as nodeAfter}
 use Rattle.demands.specs.Events.{Event as Call, Host as NodeHost, host as nodeHost, slaveIn as slaveAsked, stepped as nodeStepped}
 use Rattle.demands.proofs.Taken.{reply-taken, poll-taken}
 use Rattle.codec.specs.Bytes.{wordsIn, wordsOf, bytesOf, storeWords}
-use Rattle.codec.specs.StateBytes.{tallyOf, waitIn, nodeIn, areState}
+use Rattle.codec.specs.StateBytes.{tallyOf, waitOf, waitIn, nodeIn, areState}
 use Rattle.logodwen.specs.Number.{answerNumber}
 use Rattle.logodwen.specs.Causes.{bytesCause, replyCheck, pollCheck}
 use Rattle.logodwen.specs.Entry.{Answered, entered, memoryWords, replyWords, isSet, replyEntry, pollEntry, furtherWords}
@@ -47,7 +47,7 @@ use Rattle.border.proofs.Runs.{words-of-below, stored-below, laid-front
 use Rattle.logodwen.proofs.Fine.{state-sound}
 use Rattle.border.proofs.Exactly.{done-low, refused-exactly}
 use Rattle.border.proofs.Steps.{Made, outcomeOf, done-made}
-use Rattle.border.proofs.Stands.{Stands, made-moves}
+use Rattle.border.proofs.Stands.{Stands, made-moves, stands-typed}
 use Rattle.border.proofs.Answers.{nothing-cut}
 use Rattle.border.proofs.GroupBuffers.{Kept, reply-kept, poll-kept, busy-leaves}
 
@@ -112,7 +112,7 @@ unfolding nodeIn
 pending-is state =
     let w : Wait = waitIn state in
     by (eqb (w .pending) 1) (eqb (w .pending) 2) (ask (w .link) (w .slave) (w .at))
-    (gathering (w .set) (w .from) (built (w .words) (tallyOf (w .tally))))
+    (gathering (w .set) (w .from) (built (w .words) (tallyOf (w .tally))) (received (w .received) (w .«rx_status»)))
   where
     by : (t u : Bool) (a : Ask) (g : Gathering)
         → nodePending (pick t (Pending.Slave a) (pick u (Pending.Group a g) Pending.Nothing)) ≡ (t || u)
@@ -202,6 +202,7 @@ says-asks number (Answer.Refused r) s = absurd s
 says-asks number Answer.Started s = λ i. pick (eqb (s .done i) 0 && eqb (s .kind i) 2) (number / 65536 % 256 ∷ []) []
 says-asks number (Answer.Reply r) s = λ i. pick (eqb (s .done i) 0 && eqb (s .kind i) 2) (number / 65536 % 256 ∷ []) []
 says-asks number (Answer.Ask a) s = λ i. pick (eqb (s .done i) 0 && eqb (s .kind i) 2) (s .who i ∷ []) []
+says-asks number (Answer.Next t) s = λ i. pick (eqb (s .done i) 0 && eqb (s .kind i) 2) (number / 65536 % 256 ∷ []) []
 says-asks number Answer.Waiting s = λ i. pick (eqb (s .done i) 0 && eqb (s .kind i) 2) (number / 65536 % 256 ∷ []) []
 says-asks number (Answer.Erased count) s = λ i. pick (eqb (s .done i) 0 && eqb (s .kind i) 2) (number / 65536 % 256 ∷ []) []
 
@@ -361,6 +362,10 @@ module _ {first : List ℕ} (h : Host) (k : Holds first h) (p : isPending (h .st
   abbrev buffer : List ℕ
   buffer = replyWords (h .buffer)
 
+  -- the RX status that is kept has 16 bits
+  kept-status : waitOf (n .pending) .«rx_status» < 65536
+  kept-status = stands-typed (h .state) (h .flash) (k .stands) .received
+
   -- the four kinds of entries: a reply and a poll are calls ..
   pub reply-called : (clock slave bc errors status address : ℕ) (packet : List ℕ)
       → let e : Event = Event.Replied clock slave bc errors status address packet in
@@ -378,7 +383,7 @@ module _ {first : List ℕ} (h : Host) (k : Holds first h) (p : isPending (h .st
       by true d =
           done-called first e h k c d
           (reply-kept n clock slave bc (isSet errors) status address words buffer (words-of-below packet (c .6))
-          (omega (arith, length-words-of 2 packet, short)) (c .4) (c .5) (reply-below (h .buffer) (k .bytes)))
+          (omega (arith, length-words-of 2 packet, short)) (c .4) (c .5) kept-status (reply-below (h .buffer) (k .bytes)) (length-reply (h .buffer) (k .long)))
       by false u =
           refused-called k p (undone-same e h u)
           (refuses (wordOf e) h (replyCheck slave (length packet / 2) (h .state) (length (h .buffer) / 2))
@@ -406,7 +411,7 @@ module _ {first : List ℕ} (h : Host) (k : Holds first h) (p : isPending (h .st
       e = Event.Polled clock
 
       by : (t : Bool) → isDone (stepped entries e h .number) ≡ t → Called first (wordOf e) e h
-      by true d = done-called first e h k c d (poll-kept n clock buffer (reply-below (h .buffer) (k .bytes)))
+      by true d = done-called first e h k c d (poll-kept n clock buffer kept-status (reply-below (h .buffer) (k .bytes)) (length-reply (h .buffer) (k .long)))
       by false u =
           refused-called k p (undone-same e h u)
           (refuses (wordOf e) h (pollCheck (h .state) (length (h .buffer) / 2)) (pollVerdict n (length buffer)) (pollEffect n clock buffer)

@@ -1,29 +1,32 @@
 -- The entries of a group's host are the node's calls, one after another: by induction over the entries. So what is proved of the calls on
 -- words holds of the bytes. Assumes nothing.
 use Prim.Native.Nat.{ℕ, _+_, _/_, _%_, _≤_, _<_}
+use native.Mathlib.Nat.{zero-add}
 use native.Mathlib.Omega.{arith}
 use mathlib.Core.Path.{_≡_, refl, sym, ap, _∙_, subst}
-use mathlib.Core.Bool.{Bool, true, false}
+use mathlib.Core.Bool.{Bool, true, false, _||_, false≢true}
 use mathlib.Core.List.{List, [], _∷_, _++_}
 use lib.Dec.{ltb, eqb}
-use lib.ListN.{length, take, drop, length-append}
-use borrow.Author.Tests.{ltb-false, eq-eqb}
+use lib.ListN.{length, take}
+use borrow.Author.Tests.{ltb-false, le-ltb, eq-eqb}
 use Rattle.base.specs.Pick.{pick}
 use Rattle.base.specs.Words.{laid}
 use Rattle.memory.specs.Segment.{Memories}
-use Rattle.group.specs.Kind.{answer, Answer as SlaveAnswer}
+use Rattle.group.specs.Kind.{isPart, Answer as SlaveAnswer}
+use Rattle.group.specs.Fragment.{fragmentOf}
 use Rattle.group.specs.Time.{isLate}
 use Rattle.group.specs.Whole.{assembled}
 use Rattle.group.specs.declared.Reply.{Reply}
 use Rattle.node.specs.Effect.{lent, Further}
 use Rattle.node.specs.Refusals.{isPending as nodePending}
 use Rattle.node.specs.Settings.{statusIn}
-use Rattle.node.specs.Slaves.{heard, silent}
 use Rattle.node.specs.declared.Answer.{Answer}
 use Rattle.node.specs.declared.Asking.{Asking}
+use Rattle.node.specs.declared.Pending.{Pending}
 use Rattle.demands.specs.Machine.{logodwen}
-use Rattle.demands.specs.Events.{Event as Call, Host as NodeHost, stepped as nodeStepped, hosted as nodeHosted, Undropped, heards}
-use Rattle.demands.specs.Groups.{GroupRun as NodeRun, atLast as nodeLast, said as nodeSaid, Sends as NodeSends, EndsBy, ExactlyThose}
+use Rattle.demands.specs.Events.{Event as Call, Host as NodeHost, stepped as nodeStepped, hosted as nodeHosted, Undropped, Awaited, asked, sentNext, answeredBy, silentBy, Heards, endedBy, heards}
+use Rattle.demands.specs.Groups.{packetsStored, GroupRun as NodeRun, atLast as nodeLast, said as nodeSaid, Sends as NodeSends, EndsBy, ExactlyThose}
+use Rattle.demands.specs.Ends.{isTaken, unfinishedIn, receivedIn, settles, takenIn as nodeTaken, ComesAt as NodeComesAt, polledBy as nodePolledBy, Ticking as NodeTicking, askedTick as nodeAsked, Silent as NodeSilent}
 use Rattle.demands.proofs.Groups.{group-is-its-fragments as node-fragments, so-far as node-so-far, asked-in-order, each-asked-once}
 use Rattle.codec.specs.Bytes.{wordsOf, storeWords}
 use Rattle.codec.specs.StateBytes.{nodeIn}
@@ -33,55 +36,117 @@ use Rattle.border.specs.Exactly.{entries}
 use Rattle.border.specs.Host.{InC, isDone}
 use Rattle.border.specs.Answers.{Says}
 use Rattle.border.specs.Events.{Event, entryOf, callOf, callsOf, AllInC, Host, stepped, isPending, hosted}
-use Rattle.border.specs.Groups.{GroupRun, begun, atLast, slaves, set, said, Sends, GroupIsItsFragments}
-use Rattle.border.proofs.Runs.{words-of-below, laid-front}
+use Rattle.border.specs.Groups.{GroupRun, begun, atLast, slaves, set, said, underWay, fragments, stored, Sends, GroupIsItsFragments}
+use Rattle.border.specs.Ends.{takenBy, takenIn, ComesAt, polledBy, Ticking, askedTick, answersBy, Silent}
+use Rattle.border.proofs.Runs.{words-of-below}
 use Rattle.border.proofs.Steps.{Made, done-made}
 use Rattle.border.proofs.Stands.{hosted-stands}
 use Rattle.border.proofs.Answers.{nothing-cut}
 use Rattle.border.proofs.GroupBuffers.{asks-leaves}
-use Rattle.border.proofs.GroupSteps.{left, length-reply, kept-reply, laid-reply, pending-is, inWords, Holds, Told, Called, wordOf, does, done-called, Same, undone-same, same-words, same-holds, same-told, reply-called, long-undone, poll-called, request-called, erase-called}
+use Rattle.border.proofs.GroupSteps.{left, kept-reply, pending-is, inWords, Holds, Told, Called, wordOf, does, done-called, Same, undone-same, same-words, same-holds, same-told, reply-called, long-undone, poll-called, request-called, erase-called}
 
 -- a run of calls that hears the same after one call more does so before it
-heards-on : (w : Call) (cs ds : List Call) → ((at : ℕ) (ss : List ℕ) → heards at ss cs ≡ heards at ss ds)
-    → (at : ℕ) (ss : List ℕ) → heards at ss (w ∷ cs) ≡ heards at ss (w ∷ ds)
+heards-on : (c : Call) (cs ds : List Call) → ((x : Awaited) (ss : List ℕ) (w : ℕ) → heards x ss w cs ≡ heards x ss w ds)
+    → (x : Awaited) (ss : List ℕ) (w : ℕ) → heards x ss w (c ∷ cs) ≡ heards x ss w (c ∷ ds)
 unfolding heards
-heards-on w cs ds q at [] = refl
-heards-on (Call.Requested clock link bc errors packet m x) cs ds q at (s ∷ ss) = q at (s ∷ ss)
-heards-on (Call.Replied clock slave bc errors status address words) cs ds q at (s ∷ ss) =
-    λ i. pick (eqb s slave) (answer (heard (isLate clock at) errors status address bc) words ∷ q clock ss i) (q at (s ∷ ss) i)
-heards-on (Call.Polled clock) cs ds q at (s ∷ ss) =
-    λ i. pick (isLate clock at) (answer silent [] ∷ q clock ss i) (q at (s ∷ ss) i)
-heards-on (Call.Erased budget) cs ds q at (s ∷ ss) = q at (s ∷ ss)
+heards-on c cs ds q x [] w = refl
+heards-on (Call.Requested clock link bc errors packet m y) cs ds q x (s ∷ ss) w = q x (s ∷ ss) w
+heards-on (Call.Replied clock slave bc errors status address words) cs ds q x (s ∷ ss) w =
+    let a : SlaveAnswer = answeredBy x clock bc errors status address words in
+    λ i. pick (eqb s slave)
+    (pick (isPart a w (length ss)) (q (sentNext clock a) (s ∷ ss) w i)
+    (endedBy a (q (asked clock) ss (w + length (fragmentOf s a w (length ss))) i)))
+    (q x (s ∷ ss) w i)
+heards-on (Call.Polled clock) cs ds q x (s ∷ ss) w =
+    λ i. pick (isLate clock (x .at))
+    (endedBy (silentBy x) (q (asked clock) ss (w + length (fragmentOf s (silentBy x) w (length ss))) i)) (q x (s ∷ ss) w i)
+heards-on (Call.Erased budget) cs ds q x (s ∷ ss) w = q x (s ∷ ss) w
 
 -- what is nothing to the slaves
-Unheard : List Call → Type 0
-Unheard ws = (cs : List Call) (at : ℕ) (ss : List ℕ) → heards at ss cs ≡ heards at ss (ws ++ cs)
+pub Unheard : List Call → Type 0
+Unheard ws = (cs : List Call) (x : Awaited) (ss : List ℕ) (w : ℕ) → heards x ss w cs ≡ heards x ss w (ws ++ cs)
 
 unheard-none : Unheard []
 unfolding Unheard
-unheard-none cs at ss = refl
+unheard-none cs x ss w = refl
 
 unheard-request : (clock link bc : ℕ) (errors : Bool) (packet : List ℕ) (m : Memories) (x : Further)
     → Unheard (Call.Requested clock link bc errors packet m x ∷ [])
 unfolding Unheard heards
-unheard-request clock link bc errors packet m x cs at [] = refl
-unheard-request clock link bc errors packet m x cs at (s ∷ ss) = refl
+unheard-request clock link bc errors packet m x cs y [] w = refl
+unheard-request clock link bc errors packet m x cs y (s ∷ ss) w = refl
 
 unheard-erase : (budget : ℕ) → Unheard (Call.Erased budget ∷ [])
 unfolding Unheard heards
-unheard-erase budget cs at [] = refl
-unheard-erase budget cs at (s ∷ ss) = refl
+unheard-erase budget cs x [] w = refl
+unheard-erase budget cs x (s ∷ ss) w = refl
 
 undropped-both : (link : ℕ) (cs ds : List Call) → Undropped link (cs ++ ds) → Undropped link cs × Undropped link ds
 unfolding Undropped
 undropped-both link [] ds u = (tt, u)
 undropped-both link (c ∷ cs) ds u = let r = undropped-both link cs ds (u .1) in ((u .0, r .0), r .1)
 
+-- calls that come at some ticks; and, if something is then still pending, at which the ask or NEXT came that stands
+pub record Ticked (before polled : ℕ) (calls : List Call) (now : ℕ) (h : NodeHost) (still : Type 0) (asked : ℕ → ℕ) : Type 0 where
+  pub at : List ℕ
+  pub is : NodeTicking logodwen before polled at calls now h
+  pub settled : still → (tick : ℕ) → nodeAsked logodwen tick at calls h ≡ asked tick
+
+sooner : (early before polled : ℕ) (calls : List Call) (now : ℕ) (h : NodeHost) (still : Type 0) (asked : ℕ → ℕ) → early ≤ before
+    → Ticked before polled calls now h still asked → Ticked early polled calls now h still asked
+unfolding NodeTicking
+sooner early before polled calls now h still asked l t = record { at = t .at; is = go (t .at) calls (t .is); settled = t .settled }
+  where
+    go : (ts : List ℕ) (cs : List Call) → NodeTicking logodwen before polled ts cs now h → NodeTicking logodwen early polled ts cs now h
+    go [] [] k = λ p. let w = k p in (omega (arith, w .0), w .1)
+    go [] (c ∷ cs) k = k
+    go (t ∷ ts) [] k = k
+    go (t ∷ ts) (c ∷ cs) k = λ p. let w = k p in ((omega (arith, w .0 .0), w .0 .1), w .1)
+
+-- with nothing pending no tick matters, nor who answers
+ticked-none : (before polled : ℕ) (calls : List Call) (now : ℕ) (h : NodeHost) (still : Type 0) (asked : ℕ → ℕ)
+    → nodePending (h .turn .node .pending) ≡ false → (still → ⊥) → Ticked before polled calls now h still asked
+unfolding NodeTicking
+ticked-none before polled [] now h still asked f never =
+    record { at = []; is = λ p. absurd (false≢true (sym f ∙ p)); settled = λ s tick. absurd (never s) }
+ticked-none before polled (c ∷ cs) now h still asked f never =
+    record { at = 0 ∷ []; is = λ p. absurd (false≢true (sym f ∙ p)); settled = λ s tick. absurd (never s) }
+
+silent-none : (calls : List Call) (h : NodeHost) → nodePending (h .turn .node .pending) ≡ false → NodeSilent logodwen calls h
+unfolding NodeSilent
+silent-none [] h f = tt
+silent-none (c ∷ cs) h f = λ p. absurd (false≢true (sym f ∙ p))
+
+-- an entry's clock and poll are its call's
+comes-at : (tick : ℕ) (e : Event) → ComesAt tick e → NodeComesAt tick (wordOf e)
+comes-at tick (Event.Requested clock link bc errors packet m x) c = c
+comes-at tick (Event.Replied clock slave bc errors status address packet) c = c
+comes-at tick (Event.Polled clock) c = c
+comes-at tick (Event.Erased budget) c = c
+
+polled-by : (polled tick : ℕ) (e : Event) → polledBy polled tick e ≡ nodePolledBy polled tick (wordOf e)
+polled-by polled tick (Event.Requested clock link bc errors packet m x) = refl
+polled-by polled tick (Event.Replied clock slave bc errors status address packet) = refl
+polled-by polled tick (Event.Polled clock) = refl
+polled-by polled tick (Event.Erased budget) = refl
+
+-- what stays as it is settles nothing
+settles-none : (p : Pending) → settles p p ≡ false
+settles-none p = λ i. le-ltb (unfinishedIn p) (unfinishedIn p) (omega arith) i || le-ltb (receivedIn p) (receivedIn p) (omega arith) i
+
+-- something is pending after these entries
+abbrev pub Still : List Event → Host → Type 0
+Still es h = isPending (hosted entries es h .state) ≡ true
+
 -- where entries lead, calls lead: those that are done, and replies and polls that the node too refuses
 pub record Carried (link : ℕ) (first : List ℕ) (es : List Event) (h : Host) (a : Answer) : Type 0 where
   pub calls : List Call
   pub kept : Undropped link calls
-  pub hears : (at : ℕ) (ss : List ℕ) → heards at ss calls ≡ heards at ss (callsOf es)
+  pub hears : (x : Awaited) (ss : List ℕ) (w : ℕ) → heards x ss w calls ≡ heards x ss w (callsOf es)
+  pub takes : takenIn entries es h ≡ nodeTaken logodwen calls (inWords a h)
+  pub ticks : (before polled : ℕ) (ticks : List ℕ) (now : ℕ) → Ticking entries before polled ticks es now h
+      → Ticked before polled calls now (inWords a h) (Still es h) (λ tick. askedTick entries tick ticks es h)
+  pub silent : Silent entries es h → NodeSilent logodwen calls (inWords a h)
   pub last : Answer
   pub is : nodeHosted logodwen calls (inWords a h) ≡ inWords last (hosted entries es h)
   pub holds : Holds first (hosted entries es h)
@@ -110,6 +175,35 @@ node-stays [] a h p = refl
 node-stays (w ∷ ws) a h p =
     ap (λ (t : Bool). pick t (nodeHosted logodwen ws (nodeStepped logodwen w (inWords a h))) (inWords a h)) (pending-is (h .state) ∙ p)
 
+-- and so are the calls counted that are taken
+takes-on : (e : Event) (es : List Event) (h : Host) → isPending (h .state) ≡ true
+    → takenIn entries (e ∷ es) h ≡ takenBy (callOf e) (nodeIn (h .state) .pending) + takenIn entries es (stepped entries e h)
+unfolding takenIn
+takes-on e es h p = ap (λ (t : Bool). pick t (takenBy (callOf e) (nodeIn (h .state) .pending) + takenIn entries es (stepped entries e h)) 0) p
+
+node-takes-on : (w : Call) (ws : List Call) (a : Answer) (h : Host) → isPending (h .state) ≡ true
+    → nodeTaken logodwen (w ∷ ws) (inWords a h)
+    ≡ takenBy (w ∷ []) (nodeIn (h .state) .pending) + nodeTaken logodwen ws (nodeStepped logodwen w (inWords a h))
+unfolding nodeTaken
+node-takes-on w ws a h p =
+    ap (λ (t : Bool). pick t (pick (isTaken w (nodeIn (h .state) .pending)) 1 0 + nodeTaken logodwen ws (nodeStepped logodwen w (inWords a h))) 0)
+    (pending-is (h .state) ∙ p)
+
+takes-none : (es : List Event) (ws : List Call) (a : Answer) (h : Host) → isPending (h .state) ≡ false
+    → takenIn entries es h ≡ nodeTaken logodwen ws (inWords a h)
+unfolding takenIn nodeTaken
+takes-none es ws a h p = ours es ∙ sym (node ws)
+  where
+    ours : (es : List Event) → takenIn entries es h ≡ 0
+    ours [] = refl
+    ours (e ∷ es) = ap (λ (t : Bool). pick t (takenBy (callOf e) (nodeIn (h .state) .pending) + takenIn entries es (stepped entries e h)) 0) p
+
+    node : (ws : List Call) → nodeTaken logodwen ws (inWords a h) ≡ 0
+    node [] = refl
+    node (w ∷ ws) =
+        ap (λ (t : Bool). pick t (pick (isTaken w (nodeIn (h .state) .pending)) 1 0 + nodeTaken logodwen ws (nodeStepped logodwen w (inWords a h))) 0)
+        (pending-is (h .state) ∙ p)
+
 -- what the entries after one come to
 abbrev Rest : ℕ → List ℕ → Event → List Event → Host → Type 0
 Rest link first e es h =
@@ -121,94 +215,190 @@ module _ (link : ℕ) (first : List ℕ) (e : Event) (es : List Event) (h : Host
   after = stepped entries e h
 
   carried-to : (b : Answer) (calls : List Call) → Undropped link calls
-      → ((at : ℕ) (ss : List ℕ) → heards at ss calls ≡ heards at ss (callsOf (e ∷ es)))
+      → ((x : Awaited) (ss : List ℕ) (w : ℕ) → heards x ss w calls ≡ heards x ss w (callsOf (e ∷ es)))
       → (r : Carried link first es after b) → nodeHosted logodwen calls (inWords a h) ≡ nodeHosted logodwen (r .calls) (inWords b after)
+      → nodeTaken logodwen calls (inWords a h) ≡ takenBy (callOf e) (nodeIn (h .state) .pending) + nodeTaken logodwen (r .calls) (inWords b after)
+      → ((before polled : ℕ) (ticks : List ℕ) (now : ℕ) → Ticking entries before polled ticks (e ∷ es) now h
+      → Ticked before polled calls now (inWords a h) (Still (e ∷ es) h) (λ tick. askedTick entries tick ticks (e ∷ es) h))
+      → (Silent entries (e ∷ es) h → NodeSilent logodwen calls (inWords a h))
       → Carried link first (e ∷ es) h a
-  carried-to b calls kept hears r is =
+  carried-to b calls kept hears r is takes ticks silent =
       let on = sym (goes-on e es h p) in
       record {
         calls = calls;
         kept = kept;
         hears = hears;
+        takes = takes-on e es h p ∙ ap (λ (n : ℕ). takenBy (callOf e) (nodeIn (h .state) .pending) + n) (r .takes) ∙ sym takes;
+        ticks = ticks;
+        silent = silent;
         last = r .last;
         is = is ∙ r .is ∙ ap (inWords (r .last)) on;
         holds = subst (Holds first) on (r .holds);
         told = subst (λ (x : Host). Told x (r .last)) on (r .told);
       }
 
+  -- what is pending after them all is so after those that follow this one
+  still-on : Still (e ∷ es) h → Still es after
+  still-on s = ap (λ (x : Host). isPending (x .state)) (sym (goes-on e es h p)) ∙ s
+
+  -- a call comes when its entry does
+  ticks-call : (c : Called first (wordOf e) e h) (r : Carried link first es after (c .answer)) (before polled : ℕ) (ticks : List ℕ) (now : ℕ)
+      → Ticking entries before polled ticks (e ∷ es) now h
+      → Ticked before polled (wordOf e ∷ r .calls) now (inWords a h) (Still (e ∷ es) h) (λ tick. askedTick entries tick ticks (e ∷ es) h)
+  unfolding Ticking NodeTicking askedTick nodeAsked
+  ticks-call c r before polled [] now t = absurd t
+  ticks-call c r before polled (tick ∷ ticks) now t =
+      let w = t p in
+      let rest = r .ticks tick (polledBy polled tick e) ticks now (w .1 .1) in
+      let on : NodeTicking logodwen tick (nodePolledBy polled tick (wordOf e)) (rest .at) (r .calls) now (nodeStepped logodwen (wordOf e) (inWords a h)) =
+      subst (λ (n : ℕ). NodeTicking logodwen tick n (rest .at) (r .calls) now (nodeStepped logodwen (wordOf e) (inWords a h))) (polled-by polled tick e)
+      (subst (NodeTicking logodwen tick (polledBy polled tick e) (rest .at) (r .calls) now) (sym (c .is a)) (rest .is)) in
+      record {
+        at = tick ∷ rest .at;
+        is = λ _. (w .0, (comes-at tick e (w .1 .0), on));
+        settled = λ s first.
+            (λ i. nodeAsked logodwen (pick (settles (nodeIn (h .state) .pending) (c .is a i .turn .node .pending)) tick first) (rest .at) (r .calls) (c .is a i))
+            ∙ rest .settled (still-on s) (pick (settles (nodeIn (h .state) .pending) (nodeIn (after .state) .pending)) tick first);
+      }
+
   -- this one is a call
   carry-call : callOf e ≡ wordOf e ∷ [] → Called first (wordOf e) e h → Rest link first e es h → Carried link first (e ∷ es) h a
-  unfolding Undropped callsOf
+  unfolding Undropped callsOf Ticking NodeTicking Silent NodeSilent
   carry-call one c rest =
       let r = rest (c .answer) (c .holds) (c .told) in
       let drops = subst (λ (ws : List Call). Undropped link ws) one u in
       carried-to (c .answer) (wordOf e ∷ r .calls) (drops .0, r .kept)
-      (λ at ss. heards-on (wordOf e) (r .calls) (callsOf es) (r .hears) at ss ∙ ap (λ (ws : List Call). heards at ss (ws ++ callsOf es)) (sym one)) r
+      (λ x ss w. heards-on (wordOf e) (r .calls) (callsOf es) (r .hears) x ss w ∙ ap (λ (ws : List Call). heards x ss w (ws ++ callsOf es)) (sym one)) r
       (node-goes-on (wordOf e) (r .calls) a h p ∙ ap (nodeHosted logodwen (r .calls)) (c .is a))
+      (node-takes-on (wordOf e) (r .calls) a h p
+      ∙ (λ i. takenBy (sym one i) (nodeIn (h .state) .pending) + nodeTaken logodwen (r .calls) (c .is a i)))
+      (λ before polled ticks now. ticks-call c r before polled ticks now)
+      (λ z _. let w = z p in (
+        ap (λ (cs : List Call). answersBy cs (nodeIn (h .state) .pending)) (sym one) ∙ w .0,
+        subst (NodeSilent logodwen (r .calls)) (sym (c .is a)) (r .silent (w .1)),
+      ))
+
+  -- those that are left come as soon without it
+  ticks-none : Same e h → (r : Carried link first es after a) → ((polled tick : ℕ) → polledBy polled tick e ≡ polled)
+      → (before polled : ℕ) (ticks : List ℕ) (now : ℕ) → Ticking entries before polled ticks (e ∷ es) now h
+      → Ticked before polled (r .calls) now (inWords a h) (Still (e ∷ es) h) (λ tick. askedTick entries tick ticks (e ∷ es) h)
+  unfolding Ticking askedTick
+  ticks-none s r unpolled before polled [] now t = absurd t
+  ticks-none s r unpolled before polled (tick ∷ ticks) now t =
+      let w = t p in
+      let asked : ℕ → ℕ = λ first. askedTick entries first ticks es after in
+      let rest = r .ticks tick (polledBy polled tick e) ticks now (w .1 .1) in
+      let left : Ticked before polled (r .calls) now (inWords a h) (Still es after) asked =
+      sooner before tick polled (r .calls) now (inWords a h) (Still es after) asked (w .0 .0)
+      (subst (λ (n : ℕ). Ticked tick n (r .calls) now (inWords a h) (Still es after) asked) (unpolled polled tick)
+      (subst (λ (x : NodeHost). Ticked tick (polledBy polled tick e) (r .calls) now x (Still es after) asked) (same-words s a) rest)) in
+      let none : settles (nodeIn (h .state) .pending) (nodeIn (after .state) .pending) ≡ false =
+      ap (λ (bytes : List ℕ). settles (nodeIn (h .state) .pending) (nodeIn bytes .pending)) (s .state) ∙ settles-none (nodeIn (h .state) .pending) in
+      record {
+        at = left .at;
+        is = left .is;
+        settled = λ q first. left .settled (still-on q) first ∙ ap (λ (t : Bool). askedTick entries (pick t tick first) ticks es after) (sym none);
+      }
 
   -- this one is refused, and nothing to the group
-  carry-none : Unheard (callOf e) → Holds first h → Same e h → Rest link first e es h → Carried link first (e ∷ es) h a
-  unfolding callsOf Unheard
-  carry-none none k s rest =
+  carry-none : Unheard (callOf e) → takenBy (callOf e) (nodeIn (h .state) .pending) ≡ 0 → ((polled tick : ℕ) → polledBy polled tick e ≡ polled)
+      → Holds first h → Same e h → Rest link first e es h → Carried link first (e ∷ es) h a
+  unfolding callsOf Unheard Silent
+  carry-none none zero unpolled k s rest =
       let r = rest a (same-holds s k) (same-told s a p) in
-      carried-to a (r .calls) (r .kept) (λ at ss. r .hears at ss ∙ none (callsOf es) at ss) r
+      carried-to a (r .calls) (r .kept) (λ x ss w. r .hears x ss w ∙ none (callsOf es) x ss w) r
       (ap (nodeHosted logodwen (r .calls)) (sym (same-words s a)))
+      (ap (nodeTaken logodwen (r .calls)) (sym (same-words s a))
+      ∙ sym (zero-add (nodeTaken logodwen (r .calls) (inWords a after)))
+      ∙ ap (λ (n : ℕ). n + nodeTaken logodwen (r .calls) (inWords a after)) (sym zero))
+      (λ before polled ticks now. ticks-none s r unpolled before polled ticks now)
+      (λ z. subst (NodeSilent logodwen (r .calls)) (same-words s a) (r .silent (z p .1)))
 
--- one entry, by its kind
-carry : (link : ℕ) (first : List ℕ) (e : Event) (es : List Event) (h : Host) (a : Answer) → isPending (h .state) ≡ true
-    → Undropped link (callOf e) → Holds first h → InC (entryOf e []) → Rest link first e es h → Carried link first (e ∷ es) h a
-carry link first (Event.Requested clock l bc errors packet m x) es h a p u k c rest = by (isDone (stepped entries e h .number)) refl
+-- what an entry is: a call of the node, done or refused by the node too; or it is refused, and nothing to the group
+pub data Means (first : List ℕ) (e : Event) (h : Host) : Type 0 where
+  ACall : callOf e ≡ wordOf e ∷ [] → Called first (wordOf e) e h → Means first e h
+  Naught : Unheard (callOf e) → takenBy (callOf e) (nodeIn (h .state) .pending) ≡ 0 → ((polled tick : ℕ) → polledBy polled tick e ≡ polled) → Same e h
+      → Means first e h
+
+pub means : (first : List ℕ) (e : Event) (h : Host) → isPending (h .state) ≡ true → Holds first h → InC (entryOf e []) → Means first e h
+means first (Event.Requested clock l bc errors packet m x) h p k c = by (isDone (stepped entries e h .number)) refl
   where
     e : Event
     e = Event.Requested clock l bc errors packet m x
 
-    by : (t : Bool) → isDone (stepped entries e h .number) ≡ t → Carried link first (e ∷ es) h a
-    by true d = carry-call link first e es h a p u refl (request-called h k p clock l bc errors packet m x c d) rest
+    by : (t : Bool) → isDone (stepped entries e h .number) ≡ t → Means first e h
+    by true d = Means.ACall refl (request-called h k p clock l bc errors packet m x c d)
     by false d =
-        carry-none link first e es h a p u (unheard-request clock l bc (isSet errors) (wordsOf 2 packet) (memoryWords m) (furtherWords x)) k
-        (undone-same e h d) rest
-carry link first (Event.Erased budget) es h a p u k c rest = by (isDone (stepped entries e h .number)) refl
+        Means.Naught (unheard-request clock l bc (isSet errors) (wordsOf 2 packet) (memoryWords m) (furtherWords x)) refl (λ _ _. refl)
+        (undone-same e h d)
+means first (Event.Erased budget) h p k c = by (isDone (stepped entries e h .number)) refl
   where
     e : Event
     e = Event.Erased budget
 
-    by : (t : Bool) → isDone (stepped entries e h .number) ≡ t → Carried link first (e ∷ es) h a
-    by true d = carry-call link first e es h a p u refl (erase-called h k p budget c d) rest
-    by false d = carry-none link first e es h a p u (unheard-erase budget) k (undone-same e h d) rest
-carry link first (Event.Polled clock) es h a p u k c rest =
-    carry-call link first (Event.Polled clock) es h a p u refl (poll-called h k p clock c) rest
-carry link first (Event.Replied clock slave bc errors status address packet) es h a p u k c rest = by (ltb 32768 (length packet / 2)) refl
+    by : (t : Bool) → isDone (stepped entries e h .number) ≡ t → Means first e h
+    by true d = Means.ACall refl (erase-called h k p budget c d)
+    by false d = Means.Naught (unheard-erase budget) refl (λ _ _. refl) (undone-same e h d)
+means first (Event.Polled clock) h p k c = Means.ACall refl (poll-called h k p clock c)
+means first (Event.Replied clock slave bc errors status address packet) h p k c = by (ltb 32768 (length packet / 2)) refl
   where
     e : Event
     e = Event.Replied clock slave bc errors status address packet
 
-    by : (t : Bool) → ltb 32768 (length packet / 2) ≡ t → Carried link first (e ∷ es) h a
+    by : (t : Bool) → ltb 32768 (length packet / 2) ≡ t → Means first e h
     by true l =
         let none = ap (λ (t : Bool). pick t [] (wordOf e ∷ [])) l in
-        carry-none link first e es h a p u (subst Unheard (sym none) unheard-none) k
-        (undone-same e h (long-undone h k p clock slave bc errors status address packet l)) rest
+        Means.Naught (subst Unheard (sym none) unheard-none) (ap (λ (cs : List Call). takenBy cs (nodeIn (h .state) .pending)) none) (λ _ _. refl)
+        (undone-same e h (long-undone h k p clock slave bc errors status address packet l))
     by false l =
-        let one = ap (λ (t : Bool). pick t [] (wordOf e ∷ [])) l in
-        carry-call link first e es h a p u one
-        (reply-called h k p clock slave bc errors status address packet c (ltb-false 32768 (length packet / 2) l)) rest
+        Means.ACall (ap (λ (t : Bool). pick t [] (wordOf e ∷ [])) l)
+        (reply-called h k p clock slave bc errors status address packet c (ltb-false 32768 (length packet / 2) l))
+
+-- one entry
+carry : (link : ℕ) (first : List ℕ) (e : Event) (es : List Event) (h : Host) (a : Answer) → isPending (h .state) ≡ true
+    → Undropped link (callOf e) → Holds first h → Means first e h → Rest link first e es h → Carried link first (e ∷ es) h a
+carry link first e es h a p u k (Means.ACall one c) rest = carry-call link first e es h a p u one c rest
+carry link first e es h a p u k (Means.Naught none zero unpolled s) rest = carry-none link first e es h a p u none zero unpolled k s rest
 
 -- all of them
 carried : (link : ℕ) (first : List ℕ) (es : List Event) (h : Host) (a : Answer) → Holds first h → Told h a → AllInC es
     → Undropped link (callsOf es) → Carried link first es h a
-unfolding hosted nodeHosted callsOf Undropped AllInC
+unfolding hosted nodeHosted callsOf Undropped AllInC takenIn nodeTaken Ticking NodeTicking askedTick nodeAsked Silent NodeSilent
 carried link first [] h a k t c u =
-    record { calls = []; kept = tt; hears = λ at ss. refl; last = a; is = refl; holds = k; told = t }
+    record {
+      calls = [];
+      kept = tt;
+      hears = λ x ss w. refl;
+      takes = refl;
+      ticks = λ before polled ticks now. ticked-last before polled ticks now;
+      silent = λ _. tt;
+      last = a;
+      is = refl;
+      holds = k;
+      told = t;
+    }
+  where
+    ticked-last : (before polled : ℕ) (ticks : List ℕ) (now : ℕ) → Ticking entries before polled ticks [] now h
+        → Ticked before polled [] now (inWords a h) (Still [] h) (λ tick. askedTick entries tick ticks [] h)
+    ticked-last before polled [] now t = record { at = []; is = λ q. t (sym (pending-is (h .state)) ∙ q); settled = λ s tick. refl }
+    ticked-last before polled (tick ∷ ticks) now t = absurd t
 carried link first (e ∷ es) h a k t c u = by (isPending (h .state)) refl
     (λ b k′ t′. carried link first es (stepped entries e h) b k′ t′ (c .1) (undropped-both link (callOf e) (callsOf es) u .1))
   where
     by : (t : Bool) → isPending (h .state) ≡ t → Rest link first e es h → Carried link first (e ∷ es) h a
-    by true p rest = carry link first e es h a p (undropped-both link (callOf e) (callsOf es) u .0) k (c .0) rest
+    by true p rest =
+        carry link first e es h a p (undropped-both link (callOf e) (callsOf es) u .0) k (means first e h p k (c .0)) rest
     by false p rest =
         let over = sym (stays (e ∷ es) h p) in
         record {
           calls = callsOf (e ∷ es);
           kept = u;
-          hears = λ at ss. refl;
+          hears = λ x ss w. refl;
+          takes = takes-none (e ∷ es) (callsOf (e ∷ es)) a h p;
+          ticks = λ before polled ticks now _.
+              ticked-none before polled (callsOf (e ∷ es)) now (inWords a h) (Still (e ∷ es) h) (λ tick. askedTick entries tick ticks (e ∷ es) h)
+              (pending-is (h .state) ∙ p) (λ s. false≢true (sym p ∙ ap (λ (x : Host). isPending (x .state)) over ∙ s));
+          silent = λ _. silent-none (callsOf (e ∷ es)) (inWords a h) (pending-is (h .state) ∙ p);
           last = a;
           is = node-stays (callsOf (e ∷ es)) a h p ∙ ap (inWords a) over;
           holds = subst (Holds first) over k;
@@ -226,6 +416,7 @@ says-ask number (Answer.Refused r) s k = absurd s
 says-ask number Answer.Started s k = let z : ⊥ = omega (arith, s .kind, k) in absurd z
 says-ask number (Answer.Reply r) s k = let z : ⊥ = omega (arith, s .kind, k) in absurd z
 says-ask number (Answer.Ask a) s k = record { asking = a; is = refl }
+says-ask number (Answer.Next t) s k = let z : ⊥ = omega (arith, s .kind, k) in absurd z
 says-ask number Answer.Waiting s k = let z : ⊥ = omega (arith, s .kind, k) in absurd z
 says-ask number (Answer.Erased count) s k = let z : ⊥ = omega (arith, s .kind, k) in absurd z
 
@@ -305,31 +496,34 @@ module _ (r : GroupRun entries) where
   pub last-is : nodeLast nodes ≡ inWords (run .last) (atLast r)
   last-is = ap (nodeHosted logodwen (run .calls)) (called .is (called .answer)) ∙ run .is
 
-  pub said-is : nodeSaid nodes ≡ said r
-  said-is = run .hears (r .clock) (slaves r)
+  heard-is : heards (asked (r .clock)) (slaves r) 0 (run .calls) ≡ heards (asked (r .clock)) (slaves r) 0 (callsOf (r .events))
+  heard-is = run .hears (asked (r .clock)) (slaves r) 0
 
-  asked-is : nodeLast nodes .asked ≡ atLast r .asked
+  pub said-is : nodeSaid nodes ≡ said r
+  said-is = ap (λ (h : Heards). h .said) heard-is
+
+  pub asked-is : nodeLast nodes .asked ≡ atLast r .asked
   asked-is = ap (λ (h : NodeHost). h .asked) last-is
 
   pub in-order : atLast r .asked ≡ take (length (said r) + 1) (slaves r)
   in-order = sym asked-is ∙ asked-in-order nodes ∙ ap (λ (hs : List SlaveAnswer). take (length hs + 1) (slaves r)) said-is
 
-  -- words at the front of the node's reply buffer are bytes at the front of ours
-  in-bytes : (ws : List ℕ) → nodeLast nodes .buffer ≡ laid (replyWords (r .buffer)) 0 ws → atLast r .buffer ≡ storeWords 2 ws (r .buffer)
-  in-bytes ws e =
-      let words : replyWords (atLast r .buffer) ≡ laid (replyWords (r .buffer)) 0 ws = sym (ap (λ (h : NodeHost). h .buffer) last-is) ∙ e in
-      let rest : List ℕ = drop (0 + length ws) (replyWords (r .buffer)) in
-      let front = ap length (words ∙ laid-front (replyWords (r .buffer)) ws) ∙ length-append ws rest in
-      let fits : length ws ≤ 12288 = omega (arith, front, length-reply (atLast r .buffer) (run .holds .long)) in
-      run .holds .front
-      ∙ ap (λ (l : List ℕ). storeWords 2 l (r .buffer)) words
-      ∙ laid-reply ws (r .buffer) long (r .typed .9) fits
+  -- the words of the node's reply buffer are those of ours
+  in-bytes : (ws : List ℕ) → nodeLast nodes .buffer ≡ ws → atLast r .buffer ≡ storeWords 2 ws (r .buffer)
+  in-bytes ws e = run .holds .front ∙ ap (λ (l : List ℕ). storeWords 2 l (r .buffer)) (sym (ap (λ (h : NodeHost). h .buffer) last-is) ∙ e)
 
-  pub so-far : length (said r) < length (slaves r) → atLast r .buffer ≡ storeWords 2 (assembled (slaves r) (said r) 0) (r .buffer)
+  -- the words of the reply buffer while slaves are heard so
+  abbrev soFar : Heards → List ℕ
+  soFar h =
+      let all : List ℕ = assembled (slaves r) (h .said) 0 in
+      laid (laid (packetsStored (replyWords (r .buffer)) (slaves r) (h .said) 0) (length all + 1) (h .under)) 0 all
+
+  pub so-far : length (said r) < length (slaves r)
+      → atLast r .buffer ≡ storeWords 2 (laid (laid (stored r) (length (fragments r) + 1) (underWay r)) 0 (fragments r)) (r .buffer)
   so-far more =
       let few : length (nodeSaid nodes) < length (slaves r) = subst (λ (hs : List SlaveAnswer). length hs < length (slaves r)) (sym said-is) more in
-      in-bytes (assembled (slaves r) (nodeSaid nodes) 0) (node-so-far nodes few)
-      ∙ ap (λ (hs : List SlaveAnswer). storeWords 2 (assembled (slaves r) hs 0) (r .buffer)) said-is
+      in-bytes (soFar (heards (asked (r .clock)) (slaves r) 0 (run .calls))) (node-so-far nodes few)
+      ∙ ap (λ (h : Heards). storeWords 2 (soFar h) (r .buffer)) heard-is
 
   -- what the node sends is sent
   sends : (x : Reply) (ws : List ℕ) → NodeSends nodes x ws → Sends r x ws
@@ -341,7 +535,9 @@ module _ (r : GroupRun entries) where
       ∙ ap nodePending (s .nothing) in
       record {
         answer = subst (λ (a : Answer). Says (atLast r .number) a) answer (run .told nothing);
-        bytes = in-bytes ws (s .words);
+        bytes =
+            in-bytes (laid (packetsStored (replyWords (r .buffer)) (slaves r) (nodeSaid nodes) 0) 0 ws) (s .words)
+            ∙ ap (λ (hs : List SlaveAnswer). storeWords 2 (laid (packetsStored (replyWords (r .buffer)) (slaves r) hs 0) 0 ws) (r .buffer)) said-is;
         nothing = nothing;
       }
 
@@ -349,8 +545,8 @@ module _ (r : GroupRun entries) where
     pub all-heard : length (nodeSaid nodes) ≡ length (slaves r)
     all-heard = ap length said-is ∙ all
 
-    pub fragments : EndsBy (Sends r) (slaves r) (said r) (statusIn (nodeIn (r .state)))
-    fragments =
+    pub ends : EndsBy (Sends r) (slaves r) (said r) (statusIn (nodeIn (r .state)))
+    ends =
         subst (λ (hs : List SlaveAnswer). EndsBy (Sends r) (slaves r) hs (statusIn (nodeIn (r .state)))) said-is
         (ends-so sends (node-fragments nodes all-heard))
 
@@ -358,4 +554,4 @@ module _ (r : GroupRun entries) where
     once = subst (ExactlyThose (set r)) asked-is (each-asked-once nodes all-heard)
 
 pub group-is-its-fragments : GroupIsItsFragments entries
-group-is-its-fragments = record { in-order = in-order; so-far = so-far; fragments = fragments; once = once }
+group-is-its-fragments = record { in-order = in-order; so-far = so-far; at-last = ends; once = once }

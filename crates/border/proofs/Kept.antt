@@ -18,7 +18,7 @@ use Rattle.demands.specs.Requests.{handed}
 use Rattle.demands.proofs.NoStaleRecord.{no-stale-record as word-record, lengths-shown as word-lengths, summary-is-true as word-summary}
 use Rattle.codec.specs.Bytes.{valueOf, wordsIn, wordsOf, bytesOf}
 use Rattle.codec.specs.Places.{packed}
-use Rattle.codec.specs.StateBytes.{sizes, numbersOf, writeBytes, encodeOf, nodeIn}
+use Rattle.codec.specs.StateBytes.{sizes, numbersOf, tailBytes, encodeOf, nodeIn}
 use Rattle.codec.specs.Kept.{Typed}
 use Rattle.logodwen.specs.Entry.{memoryWords, furtherWords, replyWords}
 use Rattle.codec.proofs.Runs.{length-bytes}
@@ -42,8 +42,8 @@ directory-bytes n t =
     let masks = bytesOf 4 (n .masks) in
     let long : length (numbers ++ masks) ≡ 108 =
     length-append numbers masks ∙ omega (arith, length-numbers n, length-bytes 4 (n .masks), t .masks) in
-    ap (λ (x : List ℕ). part x 108 64) (sym (append-assoc numbers masks (bytesOf 2 (n .directory) ++ writeBytes (n .writing))))
-    ∙ part-append (numbers ++ masks) (bytesOf 2 (n .directory)) (writeBytes (n .writing)) 108 64 long (omega (arith, length-bytes 2 (n .directory), t .directory))
+    ap (λ (x : List ℕ). part x 108 64) (sym (append-assoc numbers masks (bytesOf 2 (n .directory) ++ tailBytes (n .writing) (n .pending))))
+    ∙ part-append (numbers ++ masks) (bytesOf 2 (n .directory)) (tailBytes (n .writing) (n .pending)) 108 64 long (omega (arith, length-bytes 2 (n .directory), t .directory))
 
 pub always-state : AlwaysState entries
 always-state state flash h = hosted-stands h .bytes

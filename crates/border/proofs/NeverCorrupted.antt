@@ -265,6 +265,7 @@ hands-out clock link bc errors header state flash m x reply code words c b whole
         hands done r (q .1 .1) e
         (words-never .hands-out (nodeIn state) clock link bc (isSet errors) packet (runWords (lent flash m x reply)) r (read-command bc header whole) e (omega arith))
     by done (Answer.Ask a) e q = absurd (omega (arith, n .kind, q .0 .kind))
+    by done (Answer.Next s) e q = absurd (omega (arith, n .kind, q .0 .kind))
     by done Answer.Waiting e q = absurd (omega (arith, n .kind, q .0 .kind))
     by done (Answer.Erased k) e q = absurd (omega (arith, n .kind, q .0 .kind))
 

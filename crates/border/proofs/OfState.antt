@@ -16,7 +16,7 @@ use Rattle.demands.proofs.Refusals.{state-tells}
 use Rattle.demands.proofs.Tests.{Tells}
 use Rattle.codec.specs.Bytes.{digitsOf, numberAt, bytesOf}
 use Rattle.codec.specs.Places.{packed}
-use Rattle.codec.specs.StateBytes.{waitOf, pendingOf, sizes, numbersOf, standingOf, writeSizes, writeNumbers, writeBytes, encodeOf, waitIn, nodeIn, areState}
+use Rattle.codec.specs.StateBytes.{waitOf, pendingOf, sizes, numbersOf, standingOf, tailSizes, tailNumbers, tailBytes, encodeOf, waitIn, nodeIn, areState}
 use Rattle.codec.specs.Kept.{Typed}
 use Rattle.codec.proofs.Runs.{length-words}
 use Rattle.codec.proofs.ThereAndBack.{decoded-encoded, encoded-decoded}
@@ -35,9 +35,9 @@ below-packed (k ∷ ks) (x ∷ xs) i = below-append (digitsOf k x) (packed ks xs
 pub below-encoded : (n : Node) → Below 256 (encodeOf n)
 unfolding encodeOf
 below-encoded n =
-    below-append (packed sizes (numbersOf n)) (bytesOf 4 (n .masks) ++ (bytesOf 2 (n .directory) ++ writeBytes (n .writing))) (below-packed sizes (numbersOf n))
-    (below-append (bytesOf 4 (n .masks)) (bytesOf 2 (n .directory) ++ writeBytes (n .writing)) (below-bytes 4 (n .masks))
-    (below-append (bytesOf 2 (n .directory)) (writeBytes (n .writing)) (below-bytes 2 (n .directory)) (below-packed writeSizes (writeNumbers (standingOf (n .writing))))))
+    below-append (packed sizes (numbersOf n)) (bytesOf 4 (n .masks) ++ (bytesOf 2 (n .directory) ++ tailBytes (n .writing) (n .pending))) (below-packed sizes (numbersOf n))
+    (below-append (bytesOf 4 (n .masks)) (bytesOf 2 (n .directory) ++ tailBytes (n .writing) (n .pending)) (below-bytes 4 (n .masks))
+    (below-append (bytesOf 2 (n .directory)) (tailBytes (n .writing) (n .pending)) (below-bytes 2 (n .directory)) (below-packed tailSizes (tailNumbers (standingOf (n .writing)) (waitOf (n .pending))))))
 
 -- what is read has the size of its bytes
 
@@ -49,6 +49,12 @@ asked-below bytes h =
     let P : Pending → Type 0 = λ p. waitOf p .at < 4294967296 in
     let at : numberAt 4 36 bytes < 4294967296 = number-below 4 36 bytes h in
     pick-case P (eqb (numberAt 1 15 bytes) 1) (λ _. at) (λ _. pick-case P (eqb (numberAt 1 15 bytes) 2) (λ _. at) (λ _. omega arith))
+
+status-below : (bytes : List ℕ) → Below 256 bytes → waitOf (pendingOf (waitIn bytes)) .«rx_status» < 65536
+status-below bytes h =
+    let P : Pending → Type 0 = λ p. waitOf p .«rx_status» < 65536 in
+    pick-case P (eqb (numberAt 1 15 bytes) 1) (λ _. omega arith)
+    (λ _. pick-case P (eqb (numberAt 1 15 bytes) 2) (λ _. number-below 2 184 bytes h) (λ _. omega arith))
 
 pub typed-in : (bytes : List ℕ) → Below 256 bytes → Typed (nodeIn bytes)
 unfolding nodeIn
@@ -64,6 +70,7 @@ typed-in bytes h =
       amswire = number-below 2 10 bytes h;
       flash = number-below 2 12 bytes h;
       asked = asked-below bytes h;
+      received = status-below bytes h;
     }
 
 -- both ways

@@ -58,7 +58,7 @@ refuses number c = let w = c .writes in let r = c .reads in omega arith
 first : (E : Entries) → started E ≡ started entries → Hosted E fresh blank
 first E e =
     subst (λ (x : List ℕ). Hosted E x blank) (ap (λ (a : Answered). a .state) e ∙ closed-run .begun)
-    (Hosted.First 2 4 0 0 0 0 0 (zeros 180) blank starts-in blank-bytes (ap (λ (a : Answered). a .number) e ∙ closed-run .begins))
+    (Hosted.First 2 4 0 0 0 0 0 (zeros 188) blank starts-in blank-bytes (ap (λ (a : Answered). a .number) e ∙ closed-run .begins))
 
 write-in : InC (sends (fileWrite file))
 unfolding allBelow

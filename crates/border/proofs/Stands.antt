@@ -80,7 +80,7 @@ areas (Entry.Erase budget) c = tt
 clocked : (e : Entry) → InC e → Clocked (onWords e)
 clocked (Entry.Start kind ports subdetector program version tests clock) c = (c .3, c .4, c .5, c .6)
 clocked (Entry.Request clock link bc errors packet m x reply) c = c .0
-clocked (Entry.Reply clock slave bc errors status address packet reply) c = c .0
+clocked (Entry.Reply clock slave bc errors status address packet reply) c = (c .0, c .4)
 clocked (Entry.Poll clock reply) c = c .0
 clocked (Entry.Erase budget) c = tt
 

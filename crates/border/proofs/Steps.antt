@@ -174,6 +174,7 @@ done-taken (Answer.Refused r) h = absurd (falseâ‰¢true (sym (refusal-undone r) â
 done-taken Answer.Started h = refl
 done-taken (Answer.Reply r) h = refl
 done-taken (Answer.Ask a) h = refl
+done-taken (Answer.Next s) h = refl
 done-taken Answer.Waiting h = refl
 done-taken (Answer.Erased count) h = refl
 

@@ -10,7 +10,7 @@ use lib.ListN.{length, length-set}
 use Rattle.base.specs.Words.{Below}
 use Rattle.base.proofs.Pick.{pick-case}
 use Rattle.flash.proofs.Entries.{length-directory}
-use Rattle.group.specs.Kind.{answer}
+use Rattle.group.specs.Kind.{partBy}
 use Rattle.group.specs.Slaves.{above, nextOf}
 use Rattle.group.specs.Fragment.{Assembly, assembly, taken}
 use Rattle.group.specs.Time.{isLate}
@@ -19,7 +19,7 @@ use Rattle.group.specs.declared.Next.{Next}
 use Rattle.report.specs.Status.{counted}
 use Rattle.node.specs.Refusals.{replyVerdict, pollVerdict, eraseVerdict, startVerdict}
 use Rattle.node.specs.Effect.{Effect, Lent, lent, nodeAfter, Setup, masksAfter}
-use Rattle.node.specs.Slaves.{heard, silent, goesOn, hears, askedAt, replyEffect, pollEffect}
+use Rattle.node.specs.Slaves.{heard, silent, goesOn, packetIn, yetToAsk, hears, askedAt, replyEffect, pollEffect}
 use Rattle.node.specs.Calls.{judged, lentReply, lentFlash, routed, given, startBy, startOf, requestOf, replyOf, pollOf, eraseEffect, eraseOf}
 use Rattle.node.specs.declared.Node.{Node}
 use Rattle.node.specs.declared.Pending.{Pending}
@@ -44,13 +44,14 @@ pub record Small (n : Node) : Type 0 where
   pub amswire : n .counts .amswire < 65536
   pub flash : n .counts .flash < 65536
   pub asked : waitOf (n .pending) .at < 4294967296
+  pub received : waitOf (n .pending) .«rx_status» < 65536
 
 -- what the C types say of a call's clock and words
 abbrev pub Clocked : Call → Type 0
 Clocked (Call.Start kind ports subdetector program version tests clock) =
     (program < 65536) × (version < 65536) × (tests < 65536) × (clock < 4294967296)
 Clocked (Call.Request clock link bc errors packet m x reply) = clock < 4294967296
-Clocked (Call.Reply clock slave bc errors status address words reply) = clock < 4294967296
+Clocked (Call.Reply clock slave bc errors status address words reply) = (clock < 4294967296) × (status < 65536)
 Clocked (Call.Poll clock reply) = clock < 4294967296
 Clocked (Call.Erase budget) = Unit {0}
 
@@ -63,7 +64,11 @@ masks-size Setup.Kept masks h = h
 masks-size (Setup.Mode mode) masks h = h
 masks-size (Setup.Mask i mask) masks h = length-set masks i mask ∙ h
 
-effect-small : (n : Node) (flash : List ℕ) (e : Effect) → Small n → waitOf (e .pending) .at < 4294967296 → Small (nodeAfter n flash e)
+-- when a slave was asked, and the RX status that is kept of it
+abbrev At : Pending → Type 0
+At p = (waitOf p .at < 4294967296) × (waitOf p .«rx_status» < 65536)
+
+effect-small : (n : Node) (flash : List ℕ) (e : Effect) → Small n → At (e .pending) → Small (nodeAfter n flash e)
 effect-small n flash e s h =
     record {
       masks = masks-size (e .setup) (n .masks) (s .masks);
@@ -73,44 +78,45 @@ effect-small n flash e s h =
       clock = s .clock;
       amswire = counted-small (e .amswire) (n .counts .amswire) (s .amswire);
       flash = counted-small (e .fault) (n .counts .flash) (s .flash);
-      asked = h;
+      asked = h .0;
+      received = h .1;
     }
 
--- when a slave was asked: at the clock of this call, or as before
-abbrev At : Pending → Type 0
-At p = waitOf p .at < 4294967296
+-- at the clock of this call and of its packet, or as before
 
 request-asked : (n : Node) (clock link bc : ℕ) (errors : Bool) (packet : List ℕ) (l : Lent) → clock < 4294967296 → At (n .pending)
     → At (requestEffect n clock link bc errors packet l .pending)
 request-asked n clock link bc errors packet l c h =
     route-case (λ r. At (routed r n clock link packet l .pending)) n link bc errors packet h h (λ _ _. h) (λ _ _. h)
-    (λ _ _. pick-case At (asks (n .pending) link) (λ _. omega arith) (λ _. h)) (λ from at _. h) (λ at _. h) (λ id _ _. h) (λ s _. c)
-    (λ set from s _ _. c)
+    (λ _ _. pick-case At (asks (n .pending) link) (λ _. (omega arith, omega arith)) (λ _. h)) (λ from at _. h) (λ at _. h) (λ id _ _. h)
+    (λ s _. (c, omega arith)) (λ set from s _ _. (c, omega arith))
 
-hears-asked : (p : Pending) (n : Node) (clock : ℕ) (h : Heard) (words reply : List ℕ) → clock < 4294967296
+hears-asked : (p : Pending) (n : Node) (clock : ℕ) (h : Heard) (words reply : List ℕ) → clock < 4294967296 → h .«rx_status» < 65536
     → At (hears p n clock h words reply .pending)
-hears-asked Pending.Nothing n clock h words reply c = omega arith
-hears-asked (Pending.Slave a) n clock h words reply c = omega arith
-hears-asked (Pending.Group a g) n clock h words reply c = by (nextOf (above (g .set) (a .slave)))
+hears-asked Pending.Nothing n clock h words reply c r = (omega arith, omega arith)
+hears-asked (Pending.Slave a) n clock h words reply c r = (omega arith, omega arith)
+hears-asked (Pending.Group a g) n clock h words reply c r =
+    pick-case (λ (e : Effect). At (e .pending)) (partBy h (g .received .words) (length words) (g .built .words) (yetToAsk a g)) (λ _. (c, r))
+    (λ _. by (nextOf (above (g .set) (a .slave))))
   where
     after : Assembly
-    after = taken (assembly reply (g .built)) (length (above (g .set) (a .slave))) (a .slave) (answer h words)
+    after = taken (assembly reply (g .built)) (yetToAsk a g) (a .slave) (packetIn g h words reply)
 
     by : (next : Next) → At (goesOn n a g clock after next .pending)
-    by Next.Nobody = omega arith
-    by (Next.Slave s) = c
+    by Next.Nobody = (omega arith, omega arith)
+    by (Next.Slave s) = (c, omega arith)
 
-reply-asked : (n : Node) (clock : ℕ) (errors : Bool) (status address bc : ℕ) (words reply : List ℕ) → clock < 4294967296
+reply-asked : (n : Node) (clock : ℕ) (errors : Bool) (status address bc : ℕ) (words reply : List ℕ) → clock < 4294967296 → status < 65536
     → At (replyEffect n clock errors status address bc words reply .pending)
 unfolding replyEffect
-reply-asked n clock errors status address bc words reply c =
-    hears-asked (n .pending) n clock (heard (isLate clock (askedAt (n .pending))) errors status address bc) words reply c
+reply-asked n clock errors status address bc words reply c r =
+    hears-asked (n .pending) n clock (heard (isLate clock (askedAt (n .pending))) errors status address bc) words reply c r
 
 poll-asked : (n : Node) (clock : ℕ) (reply : List ℕ) → clock < 4294967296 → At (n .pending) → At (pollEffect n clock reply .pending)
 unfolding pollEffect
 poll-asked n clock reply c h =
     pick-case (λ (e : Effect). At (e .pending)) (isLate clock (askedAt (n .pending)))
-    (λ _. hears-asked (n .pending) n clock silent [] reply c) (λ _. h)
+    (λ _. hears-asked (n .pending) n clock silent [] reply c (omega arith)) (λ _. h)
 
 judged-small : (v : Verdict) (n : Node) (l : Lent) (e : Effect) → Small n → At (e .pending) → Small (judged v n l e .turn .node)
 judged-small Verdict.Fine n l e s h = effect-small n (l .flash) e s h
@@ -133,6 +139,7 @@ start-small kind ports subdetector program version tests clock flash (p, v, t, c
           amswire = omega arith;
           flash = omega arith;
           asked = omega arith;
+          received = omega arith;
         }
     by (Verdict.No r) =
         record {
@@ -144,6 +151,7 @@ start-small kind ports subdetector program version tests clock flash (p, v, t, c
           amswire = omega arith;
           flash = omega arith;
           asked = omega arith;
+          received = omega arith;
         }
 
 pub call-small : (c : Call) (n : Node) (flash : List ℕ) → Clocked c → Small n → Small (stateAfter logodwen c n flash)
@@ -154,14 +162,14 @@ call-small (Call.Start kind ports subdetector program version tests clock) n fla
 call-small (Call.Request clock link bc errors packet m x reply) n flash c s =
     let l : Lent = lent flash m x reply in
     judged-small (verdictOn n link packet l) n l (requestEffect n clock link bc errors packet l) s
-    (request-asked n clock link bc errors packet l c (s .asked))
+    (request-asked n clock link bc errors packet l c (s .asked, s .received))
 call-small (Call.Reply clock slave bc errors status address words reply) n flash c s =
     judged-small (replyVerdict n slave (length reply)) n (lentReply reply) (replyEffect n clock errors status address bc words reply) s
-    (reply-asked n clock errors status address bc words reply c)
+    (reply-asked n clock errors status address bc words reply (c .0) (c .1))
 call-small (Call.Poll clock reply) n flash c s =
-    judged-small (pollVerdict n (length reply)) n (lentReply reply) (pollEffect n clock reply) s (poll-asked n clock reply c (s .asked))
+    judged-small (pollVerdict n (length reply)) n (lentReply reply) (pollEffect n clock reply) s (poll-asked n clock reply c (s .asked, s .received))
 call-small (Call.Erase budget) n flash c s =
-    judged-small (eraseVerdict n (length flash)) n (lentFlash flash) (eraseEffect n budget flash) s (s .asked)
+    judged-small (eraseVerdict n (length flash)) n (lentFlash flash) (eraseEffect n budget flash) s (s .asked, s .received)
 
 -- with a directory that is fresh, all of it
 pub small-typed : (n : Node) (flash : List ℕ) → Small n → Sound n flash → Below 65536 flash → Typed n
@@ -178,4 +186,5 @@ small-typed n flash s sound h =
       amswire = s .amswire;
       flash = s .flash;
       asked = s .asked;
+      received = s .received;
     }

@@ -27,13 +27,14 @@ pub record InBits (number k w f n : ℕ) : Type 0 where
   pub words : number / 4294967296 ≡ n
   pub most : n < 4294967296
 
--- The answer that a number says: a reply's BC and length; the slave to ask, and the word from which the request is sent on; waiting; the
--- words that an erase step set. A start says 0, and a refusal is not done.
+-- The answer that a number says: a reply's BC and length; the slave to ask, and the word from which the request is sent on; the slave to send
+-- NEXT to (02, request 8); waiting; the words that an erase step set. A start says 0, and a refusal is not done.
 abbrev pub Says : ℕ → Answer → Type 0
 Says number (Answer.Refused r) = ⊥
 Says number Answer.Started = InBits number 0 0 0 0
 Says number (Answer.Reply r) = InBits number 1 (r .bc) 0 (r .words)
 Says number (Answer.Ask a) = InBits number 2 (a .slave) (a .from) 0
+Says number (Answer.Next s) = InBits number 8 s 0 0
 Says number Answer.Waiting = InBits number 3 0 0 0
 Says number (Answer.Erased count) = InBits number 0 0 0 count
 
@@ -44,6 +45,7 @@ Bounds (Answer.Refused r) = ⊥
 Bounds Answer.Started = Unit {0}
 Bounds (Answer.Reply r) = (r .bc < 4) × (r .words ≤ 12288)
 Bounds (Answer.Ask a) = (a .slave ≤ 23) × ((a .from ≡ 1) ⊎ (a .from ≡ 2))
+Bounds (Answer.Next s) = s ≤ 23
 Bounds Answer.Waiting = Unit {0}
 Bounds (Answer.Erased count) = count ≤ 4096
 

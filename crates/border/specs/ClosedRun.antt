@@ -38,7 +38,7 @@ abbrev pub stateWith : List ℕ → List ℕ
 stateWith third =
     2 ∷ 4
     ∷ (zeros 19 ++ (0x80 ∷ zeros 22) ++ (0xFF ∷ 0xFF ∷ 0xFF ∷ zeros 61)
-    ++ third ++ empty 0x04 ++ empty 0x08 ++ empty 0x0C ++ empty 0x10 ++ empty 0x14 ++ empty 0x18 ++ empty 0x1C ++ zeros 8)
+    ++ third ++ empty 0x04 ++ empty 0x08 ++ empty 0x0C ++ empty 0x10 ++ empty 0x14 ++ empty 0x18 ++ empty 0x1C ++ zeros 16)
 
 -- After the start, and after the File Write.
 abbrev pub fresh : List ℕ
@@ -52,7 +52,7 @@ abbrev pub sends : List ℕ → Entry
 sends packet = Entry.Request 0 0 3 0 packet (memories [] [] []) (further (zeros 65536)) (zeros 24576)
 
 abbrev pub started : Entries → Answered
-started E = answerOf E (Entry.Start 2 4 0 0 0 0 0) (zeros 180) blank
+started E = answerOf E (Entry.Start 2 4 0 0 0 0 0) (zeros 188) blank
 
 abbrev pub written : Entries → Answered
 written E = answerOf E (sends (fileWrite file)) fresh blank

@@ -10,6 +10,7 @@ use Rattle.border.specs.ReadsBack.{ReadsBack}
 use Rattle.border.specs.NeverCorrupted.{NeverCorrupted}
 use Rattle.border.specs.Erasing.{ErasureFollows, Erases, FlashFollows}
 use Rattle.border.specs.Groups.{GroupIsAsked, GroupIsItsFragments}
+use Rattle.border.specs.Ends.{EachLowersOrStores, AlwaysEnds, NeverAskedTwice, SettledInTime, DeadEndInTime, AllEndInTime}
 use Rattle.border.specs.Captures.{DataIsAccepted}
 use Rattle.border.specs.Flash.{OneSector, NoBitRises}
 use Rattle.border.specs.ClosedRun.{ClosedRun}
@@ -29,11 +30,19 @@ pub record Demands (E : Entries) : Type 0 where
   pub never-corrupted : NeverCorrupted E
   -- An erasure sets the words that its progress is given, from the low end, and counts them, whatever entries come between.
   pub erases : Erases E
-  -- A group reply is its slaves' fragments in order, each slave of the set asked once; meanwhile no byte is stored past those built.
+  -- A group reply is its slaves' fragments in order, each slave of the set asked once, and answering in one packet or in several; meanwhile no
+  -- byte is stored past those built but those of packets.
   pub group-is-asked : GroupIsAsked E
   pub group-is-its-fragments : GroupIsItsFragments E
   -- Its data are accepted by the reader of captured replies.
   pub data-is-accepted : DataIsAccepted E
+  -- It always comes to an end, and no slave is sent the request twice; and polled in every 60 ticks it ends in a bounded time, dead slaves or not.
+  pub each-lowers-or-stores : EachLowersOrStores E
+  pub always-ends : AlwaysEnds E
+  pub never-asked-twice : NeverAskedTwice E
+  pub settled-in-time : SettledInTime E
+  pub dead-end-in-time : DeadEndInTime E
+  pub all-end-in-time : AllEndInTime E
   -- One run, worked out: start, File Write, File Read.
   pub closed-run : ClosedRun E
   -- 3 No stale record. After any sequence of entries, refused ones and half-done erasures included, the directory kept in the state bytes is

@@ -50,9 +50,9 @@ Pends state = (numberAt 1 15 state ≡ 1) ⊎ (numberAt 1 15 state ≡ 2)
 abbrev pub Asks : List ℕ → ℕ → Type 0
 Asks state slave = Pends state × (numberAt 1 29 state ≡ slave)
 
--- The rows that more than one entry has: 1, with the size used at start as bytes 20-23 keep it where the state bytes are 180; 2 and 5.
+-- The rows that more than one entry has: 1, with the size used at start as bytes 20-23 keep it where the state bytes are 188; 2 and 5.
 abbrev pub flashCause : List ℕ → List ℕ → Cause
-flashCause state flash = cause 1 ((BenchSize flash → ⊥) ⊎ ((length state ≡ 180) × (length flash / 2 ≡ sizeIn state → ⊥)))
+flashCause state flash = cause 1 ((BenchSize flash → ⊥) ⊎ ((length state ≡ 188) × (length flash / 2 ≡ sizeIn state → ⊥)))
 
 abbrev pub replyCause : List ℕ → Cause
 replyCause reply = cause 2 (length reply < 2 * 12288)
@@ -60,22 +60,22 @@ replyCause reply = cause 2 (length reply < 2 * 12288)
 abbrev pub stateCause : List ℕ → Cause
 stateCause state = cause 5 (OfState state → ⊥)
 
--- The table, each row where the entry has that input. At start what stands in the state bytes isn't looked at, but there must be 180.
+-- The table, each row where the entry has that input. At start what stands in the state bytes isn't looked at, but there must be 188.
 abbrev pub startCauses : ℕ → ℕ → ℕ → List ℕ → List ℕ → List Cause
 startCauses kind ports subdetector flash state =
     cause 1 (BenchSize flash → ⊥)
     ∷ cause 4 ((((1 ≤ ports) × (ports ≤ 4) → ⊥) ⊎ ((kind ≡ 1) ⊎ (kind ≡ 2) → ⊥)) ⊎ (7 < subdetector))
-    ∷ cause 5 (length state ≡ 180 → ⊥)
+    ∷ cause 5 (length state ≡ 188 → ⊥)
     ∷ []
 
--- Row 4 takes the port count from byte 1, where the state bytes are 180.
+-- Row 4 takes the port count from byte 1, where the state bytes are 188.
 abbrev pub requestCauses : ℕ → List ℕ → List ℕ → Lent → List Cause
 requestCauses link packet state runs =
     flashCause state (runs .flash)
     ∷ replyCause (runs .reply)
     ∷ cause 3 ((Above 4 8192 (runs .memories .pm) ⊎ Above 2 8192 (runs .memories .dm)) ⊎ Above 2 4096 (runs .memories .io))
     ∷ cause 8 (length (runs .further .area) < 2 * 32768)
-    ∷ cause 4 ((length state ≡ 180) × (link < portsIn state → ⊥))
+    ∷ cause 4 ((length state ≡ 188) × (link < portsIn state → ⊥))
     ∷ stateCause state
     ∷ cause 6 (Pends state × (2 ≤ length packet))
     ∷ []

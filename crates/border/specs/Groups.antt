@@ -1,10 +1,11 @@
 -- Demand 2 over bytes, of groups: a group's reply is its slaves' fragments in slave order, in the bytes of the reply buffer, and each slave
--- is asked once. 01 'Requests' step 4 and 'Group assembly'. Assumes nothing.
+-- is asked once. 01 'Requests' step 4 and 'Group assembly', and 02, request 8. Assumes nothing.
 use Prim.Native.Nat.{ℕ, _+_, _%_, _≤_, _<_}
 use mathlib.Core.Path.{_≡_}
 use mathlib.Core.Bool.{true, false}
 use mathlib.Core.List.{List, [], _∷_}
 use lib.ListN.{length, take}
+use Rattle.base.specs.Words.{laid}
 use Rattle.memory.specs.Segment.{Memories}
 use Rattle.group.specs.Kind.{Answer as SlaveAnswer}
 use Rattle.group.specs.Slaves.{slavesOf}
@@ -13,10 +14,11 @@ use Rattle.group.specs.declared.Reply.{Reply}
 use Rattle.node.specs.Effect.{Further}
 use Rattle.node.specs.Settings.{statusIn}
 use Rattle.node.specs.declared.Answer.{Answer}
-use Rattle.demands.specs.Events.{Undropped, heards}
-use Rattle.demands.specs.Groups.{isGroup, setAsked, stripped, knowsMask, EndsBy, ExactlyThose}
+use Rattle.demands.specs.Events.{Undropped, asked, heards}
+use Rattle.demands.specs.Groups.{isGroup, setAsked, stripped, knowsMask, packetsStored, EndsBy, ExactlyThose}
 use Rattle.codec.specs.Bytes.{numberAt, wordsOf, storeWords}
 use Rattle.codec.specs.StateBytes.{nodeIn}
+use Rattle.logodwen.specs.Entry.{replyWords}
 use Rattle.border.specs.Exactly.{Entries}
 use Rattle.border.specs.Host.{Entry, InC, numberAfter, isDone, Hosted}
 use Rattle.border.specs.Answers.{InBits, Says}
@@ -75,21 +77,32 @@ module _ {E : Entries} (r : GroupRun E) where
   slaves = slavesOf set
 
   abbrev pub said : List SlaveAnswer
-  said = heards (r .clock) slaves (callsOf (r .events))
+  said = heards (asked (r .clock)) slaves 0 (callsOf (r .events)) .said
 
-  -- The number says this reply; the reply buffer is as it was lent at first but for the bytes of these words, laid at its front, so an odd
-  -- last byte and the bytes past 24,576 stay; and nothing is pending.
+  -- The words received of a reply that is under way, and the fragments so far.
+  abbrev pub underWay : List ℕ
+  underWay = heards (asked (r .clock)) slaves 0 (callsOf (r .events)) .under
+
+  abbrev pub fragments : List ℕ
+  fragments = assembled slaves said 0
+
+  -- The words of the reply buffer as it was lent at first, with the packets stored that came before each slave's last.
+  abbrev pub stored : List ℕ
+  stored = packetsStored (replyWords (r .buffer)) slaves said 0
+
+  -- The number says this reply; the reply buffer is as it was lent at first but for its words, which are those with the packets stored and these
+  -- words at their front, so an odd last byte and the bytes past 24,576 stay; and nothing is pending.
   pub record Sends (reply : Reply) (ws : List ℕ) : Type 0 where
     pub answer : Says (atLast .number) (Answer.Reply reply)
-    pub bytes : atLast .buffer ≡ storeWords 2 ws (r .buffer)
+    pub bytes : atLast .buffer ≡ storeWords 2 (laid stored 0 ws) (r .buffer)
     pub nothing : isPending (atLast .state) ≡ false
 
 -- So far those heard have been asked, in slave order, and the next one; and with more to come, the reply buffer is as it was lent at first
--- but for the fragments so far at its front. When every slave has been heard, the reply is the slaves' fragments, and the slaves asked are
--- those of the set, ascending, each once.
+-- but for the packets stored, the words received of the reply under way, and the fragments so far at its front. When every slave has been
+-- heard, the reply is the slaves' fragments, and the slaves asked are those of the set, ascending, each once.
 pub record GroupIsItsFragments (E : Entries) : Type 0 where
   pub in-order : (r : GroupRun E) → atLast r .asked ≡ take (length (said r) + 1) (slaves r)
   pub so-far : (r : GroupRun E) → length (said r) < length (slaves r)
-      → atLast r .buffer ≡ storeWords 2 (assembled (slaves r) (said r) 0) (r .buffer)
-  pub fragments : (r : GroupRun E) → length (said r) ≡ length (slaves r) → EndsBy (Sends r) (slaves r) (said r) (statusIn (nodeIn (r .state)))
+      → atLast r .buffer ≡ storeWords 2 (laid (laid (stored r) (length (fragments r) + 1) (underWay r)) 0 (fragments r)) (r .buffer)
+  pub at-last : (r : GroupRun E) → length (said r) ≡ length (slaves r) → EndsBy (Sends r) (slaves r) (said r) (statusIn (nodeIn (r .state)))
   pub once : (r : GroupRun E) → length (said r) ≡ length (slaves r) → ExactlyThose (set r) (atLast r .asked)

@@ -1,4 +1,4 @@
--- A host in C, as it keeps a node: 180 state bytes and the flash's bytes, lent to entry after entry. What an entry is given, what the
+-- A host in C, as it keeps a node: 188 state bytes and the flash's bytes, lent to entry after entry. What an entry is given, what the
 -- C types say of it, the bytes that it leaves, and all bytes that a host can come to have. As the demands, these are of any five
 -- entries, so that wrong ones can be seen to be shut out. 01 'Covered' and 'Call refusals'. Assumes nothing.
 use Prim.Native.Nat.{ℕ, _%_, _<_}

@@ -11,6 +11,7 @@ pub mod NeverCorrupted
 pub mod Writes
 pub mod Events
 pub mod Groups
+pub mod Ends
 pub mod Captures
 pub mod ClosedRun
 pub mod Demands

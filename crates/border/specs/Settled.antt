@@ -7,13 +7,13 @@ use Rattle.lines.proofs as Lines
 
 -- The five entries, the check sequence, and the reader of captured replies.
 pub record EntriesSettled : Type 0 where
-  pub start : Settles Logodwen.logodwen2_start.Kinds.ps Logodwen.logodwen2_start.Kinds.r Logodwen.logodwen2_start.Reads.Learnt
-  pub request : Settles Logodwen.logodwen2_request.Kinds.ps Logodwen.logodwen2_request.Kinds.r Logodwen.logodwen2_request.Reads.Learnt
-  pub reply : Settles Logodwen.logodwen2_reply.Kinds.ps Logodwen.logodwen2_reply.Kinds.r Logodwen.logodwen2_reply.Reads.Learnt
-  pub poll : Settles Logodwen.logodwen2_poll.Kinds.ps Logodwen.logodwen2_poll.Kinds.r Logodwen.logodwen2_poll.Reads.Learnt
-  pub erase : Settles Logodwen.logodwen2_erase.Kinds.ps Logodwen.logodwen2_erase.Kinds.r Logodwen.logodwen2_erase.Reads.Learnt
-  pub fcs : Settles Logodwen.sequence.logodwen2_fcs.Kinds.ps Logodwen.sequence.logodwen2_fcs.Kinds.r Logodwen.sequence.logodwen2_fcs.Reads.Learnt
-  pub capture : Settles Logodwen.captured.logodwen2_capture.Kinds.ps Logodwen.captured.logodwen2_capture.Kinds.r Logodwen.captured.logodwen2_capture.Reads.Learnt
+  pub start : Settles Logodwen.logodwen3_start.Kinds.ps Logodwen.logodwen3_start.Kinds.r Logodwen.logodwen3_start.Reads.Learnt
+  pub request : Settles Logodwen.logodwen3_request.Kinds.ps Logodwen.logodwen3_request.Kinds.r Logodwen.logodwen3_request.Reads.Learnt
+  pub reply : Settles Logodwen.logodwen3_reply.Kinds.ps Logodwen.logodwen3_reply.Kinds.r Logodwen.logodwen3_reply.Reads.Learnt
+  pub poll : Settles Logodwen.logodwen3_poll.Kinds.ps Logodwen.logodwen3_poll.Kinds.r Logodwen.logodwen3_poll.Reads.Learnt
+  pub erase : Settles Logodwen.logodwen3_erase.Kinds.ps Logodwen.logodwen3_erase.Kinds.r Logodwen.logodwen3_erase.Reads.Learnt
+  pub fcs : Settles Logodwen.sequence.logodwen3_fcs.Kinds.ps Logodwen.sequence.logodwen3_fcs.Kinds.r Logodwen.sequence.logodwen3_fcs.Reads.Learnt
+  pub capture : Settles Logodwen.captured.logodwen3_capture.Kinds.ps Logodwen.captured.logodwen3_capture.Kinds.r Logodwen.captured.logodwen3_capture.Reads.Learnt
 
 -- The readers of lines, the bench's and captures: what a line says, and each word of the buffer.
 pub record LinesSettled : Type 0 where

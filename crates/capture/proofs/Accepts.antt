@@ -15,12 +15,13 @@ use Rattle.base.proofs.Pick.{pick-second, pick-first, and-left}
 use Rattle.base.proofs.Part.{length-part, getD-part, below-drop, below-take, drop-two}
 use Rattle.fcs.specs.Fcs.{fcsOf}
 use Rattle.report.specs.Status.{ownStatus}
-use Rattle.group.specs.Kind.{Answer, datOf, codeOf, hasRoom, keptFree, kindOf}
+use Rattle.group.specs.Kind.{Answer, joinedOf, datOf, codeOf, hasRoom, keptFree, kindOf}
+use Rattle.group.specs.Packets.{Ends}
 use Rattle.group.specs.Tally.{tallied, tallyFrom}
 use Rattle.group.specs.Slaves.{slavesOf}
 use Rattle.group.specs.Fragment.{statusWord, bitsOf, framed, fragmentBy, fragmentOf, built}
 use Rattle.group.specs.Ending.{sent, replied, trailer}
-use Rattle.group.specs.Whole.{fragmentsOf, kindsOf, joined, assembled, dataReply, groupSent}
+use Rattle.group.specs.Whole.{fragmentsOf, kindsOf, AllEnd, joined, assembled, dataReply, groupSent}
 use Rattle.group.specs.declared.Built.{Built}
 use Rattle.group.specs.declared.Kind.{Kind}
 use Rattle.group.specs.declared.Tally.{Tally}
@@ -65,6 +66,7 @@ end-tells ws b h =
 pub record Fragment (ws : List ℕ) (s : ℕ) (ss : List ℕ) (b b′ : Built) : Type 0 where
   pub said : Answer
   pub wire : OnWire said
+  pub ends : Ends said (b .words) (length ss)
   pub words : drop (b .words) ws ≡ fragmentOf s said (b .words) (length ss) ++ drop (b′ .words) ws
   pub size : b .words + length (fragmentOf s said (b .words) (length ss)) ≡ b′ .words
   pub tally : b′ .tally ≡ tallied (b .tally) (kindOf said (b .words) (length ss))
@@ -112,7 +114,7 @@ fragment-tells ws s ss b b′ below h =
     let status : st ≡ statusWord (datOf kind) (codeOf kind) bits s = status-is kind st s (shown-tells (st / 2048) kind (r .shown)) (f .slave) in
     let frag : fragmentBy (kindOf (m .said) w (length ss)) s (m .said) ≡ l ∷ (ds ++ (st ∷ [])) =
     ap (λ (x : Kind). fragmentBy x s (m .said)) (m .is)
-    ∙ ap (λ (x : List ℕ). framed x (statusWord (datOf kind) (codeOf kind) (bitsOf kind (m .said .words)) s)) (m .carries)
+    ∙ ap (λ (x : List ℕ). framed x (statusWord (datOf kind) (codeOf kind) (bitsOf kind (joinedOf (m .said))) s)) (m .carries)
     ∙ ap (λ (x : ℕ). framed ds (statusWord (datOf kind) (codeOf kind) x s)) (m .shows)
     ∙ ap (framed ds) (sym status)
     ∙ ap (λ (n : ℕ). n ∷ (ds ++ (st ∷ []))) le in
@@ -120,6 +122,7 @@ fragment-tells ws s ss b b′ below h =
     record {
       said = m .said;
       wire = m .wire;
+      ends = m .ends;
       words = frame ws w l one last
           ∙ ap (λ (x : List ℕ). x ++ drop (w + l + 1) ws) (sym frag)
           ∙ ap (λ (c : Built). fragmentBy (kindOf (m .said) w (length ss)) s (m .said) ++ drop (c .words) ws) (sym (r .after));
@@ -134,6 +137,7 @@ pub record Yields (ws ss : List ℕ) (b : Built) : Type 0 where
   pub said : List Answer
   pub each : length said ≡ length ss
   pub wire : AllOnWire said
+  pub ends : AllEnd ss said (b .words)
   pub status : ℕ
   pub words : drop (b .words) ws
       ≡ assembled ss said (b .words) ++ (status ∷ fcsOf (take (b .words + length (assembled ss said (b .words)) + 1) ws) ∷ [])
@@ -141,7 +145,7 @@ pub record Yields (ws ss : List ℕ) (b : Built) : Type 0 where
   pub no-common : isCommon (tallyFrom (b .tally) (kindsOf ss said (b .words))) ≡ false
 
 yields-end : (ws : List ℕ) (b : Built) → Open [] (b .tally) → readEnd ws b ≡ Capture.Accepted → Yields ws [] b
-unfolding fragmentsOf kindsOf joined tallyFrom AllOnWire
+unfolding fragmentsOf kindsOf AllEnd joined tallyFrom AllOnWire
 yields-end ws b o h =
     let e = end-tells ws b h in
     let w : ℕ = b .words in
@@ -150,6 +154,7 @@ yields-end ws b o h =
       said = [];
       each = refl;
       wire = tt;
+      ends = tt;
       status = getD ws w 0;
       words = drop-two ws w (omega arith)
           ∙ ap (λ (x : List ℕ). getD ws w 0 ∷ getD ws (w + 1) 0 ∷ x) (drop-of-length-le ws l)
@@ -160,7 +165,7 @@ yields-end ws b o h =
     }
 
 yields-more : (ws : List ℕ) (s : ℕ) (ss : List ℕ) (b b′ : Built) → Fragment ws s ss b b′ → Yields ws ss b′ → Yields ws (s ∷ ss) b
-unfolding fragmentsOf kindsOf joined tallyFrom AllOnWire
+unfolding fragmentsOf kindsOf AllEnd joined tallyFrom AllOnWire
 yields-more ws s ss b b′ f y′ =
     let w : ℕ = b .words in
     let a : Answer = f .said in
@@ -174,6 +179,7 @@ yields-more ws s ss b b′ f y′ =
       said = a ∷ y .said;
       each = ap suc (y .each);
       wire = (f .wire, y .wire);
+      ends = (f .ends, y .ends);
       status = y .status;
       words = f .words
           ∙ ap (λ (m : ℕ). frag ++ drop m ws) (sym (f .size))
@@ -233,6 +239,7 @@ accepted-acceptable mask ws below h =
       said = y .said;
       each = y .each;
       wire = y .wire;
+      ends = y .ends;
       tests = tests;
       mode = mode;
       buffer = buffer;

@@ -1,36 +1,36 @@
 -- What our node assembles is read to its end: each fragment by its kind, one behind the other, then status word and FCS. Assumes nothing.
-use Prim.Native.Nat.{ℕ, zero, suc, min, _+_, _-_, _*_, _/_, _%_, _≤_, _<_}
+use Prim.Native.Nat.{ℕ, zero, suc, _+_, _-_, _*_, _/_, _%_, _≤_, _<_}
 use mathlib.Core.Path.{_≡_, refl, sym, ap, _∙_}
 use mathlib.Core.Bool.{Bool, true, false, _&&_, not}
 use mathlib.Core.List.{List, [], _∷_, _++_, append-assoc}
 use native.Mathlib.Numerals.{add-one}
 use native.Mathlib.Nat.{add-zero}
 use native.Mathlib.Omega.{arith}
-use borrow.Author.Tests.{eq-eqb, ne-eqb, eqb-true, eqb-false, le-leb, lt-leb, le-ltb, leb-false, not-true}
+use borrow.Author.Tests.{eq-eqb, ne-eqb, le-leb, lt-leb, le-ltb}
 use lib.Dec.{eqb}
 use lib.ListN.{length, getD, take, length-append, length-take, List·getD-append}
 use lib.Seq.{take-at, getD-at, getD-append-add}
-use Rattle.base.specs.Pick.{pick}
 use Rattle.base.specs.Words.{laid}
-use Rattle.base.proofs.Pick.{yes, no, pick-first, pick-second, pick-case, and-yes}
+use Rattle.base.proofs.Pick.{yes, no, pick-case, and-yes}
 use Rattle.base.proofs.Laid.{part-laid}
 use Rattle.fcs.specs.Fcs.{fcsOf}
 use Rattle.report.specs.Status.{ownStatus}
-use Rattle.group.specs.Kind.{Answer, datOf, codeOf, hasRoom, keptFree, fcsRight, dataKind, kindOf}
+use Rattle.group.specs.Kind.{Answer, joinedOf, datOf, codeOf, kindOf}
+use Rattle.group.specs.Packets.{Ends}
 use Rattle.group.specs.Tally.{tallied, tallyFrom}
-use Rattle.group.specs.Fragment.{faultBits, bitsOf, statusOf, dataOf, framed, fragmentOf, built}
+use Rattle.group.specs.Fragment.{faultBits, bitsOf, statusOf, receivedOf, dataOf, framed, fragmentOf, built}
 use Rattle.group.specs.Slaves.{hasSlave, slavesFrom, slavesOf}
 use Rattle.group.specs.Ending.{Sent, sent, replied, trailer, groupStatus}
-use Rattle.group.specs.Whole.{fragmentsOf, kindsOf, joined, assembled, dataReply, groupSent}
+use Rattle.group.specs.Whole.{fragmentsOf, kindsOf, AllEnd, joined, assembled, dataReply, groupSent}
 use Rattle.group.specs.declared.Fault.{Fault}
 use Rattle.group.specs.declared.Kind.{Kind}
 use Rattle.group.specs.declared.Tally.{Tally}
-use Rattle.group.proofs.Answers.{data-tells, whole-tells}
+use Rattle.group.proofs.Answers.{whole-tells}
 use Rattle.group.proofs.Groups.{group-sent}
 use Rattle.group.proofs.Rooms.{room-kept}
 use Rattle.group.proofs.Status.{status-slave, status-bits}
 use Rattle.capture.specs.Acceptable.{Acceptable}
-use Rattle.capture.specs.Reader.{shownBy, countFits, faultBitsFit, kindFits, isCommon, statusFits, hasPlace, readStatus, isNodeStatus, readFragment, readEnd, ended, readFrom, readOf}
+use Rattle.capture.specs.Reader.{shownBy, faultBitsFit, kindFits, isCommon, statusFits, hasPlace, readStatus, isNodeStatus, readFragment, readEnd, ended, readFrom, readOf}
 use Rattle.capture.specs.declared.Capture.{Capture}
 use Rattle.capture.specs.declared.Shown.{Shown}
 use Rattle.capture.specs.declared.Step.{Step}
@@ -38,63 +38,29 @@ use Rattle.capture.proofs.Shows.{shown-kind, number-of-status}
 use Rattle.capture.proofs.Steps.{by-status}
 use Rattle.capture.proofs.NodeStatus.{node-passes}
 use Rattle.capture.proofs.Views.{Open, counts}
+use Rattle.capture.proofs.Counted.{Counts, counted}
 use Rattle.capture.proofs.Accepts.{five-each}
 
--- what is known of a faulty reply from its fault: how many words it can have had
+-- what is known of an answer's fragment from its kind
 module _ (a : Answer) (w k : ℕ) where
-  abbrev n : ℕ
-  n = length (a .words)
-
-  abbrev bc : ℕ
-  bc = a .heard .bc
-
-  no-one-word : (t u : Bool) → pick t (Kind.Faulty Fault.WrongFcs) (pick u (Kind.Faulty Fault.NoRoom) Kind.Whole) ≡ Kind.Faulty Fault.OneWord → ⊥
-  no-one-word true u e = omega (arith, ap codeOf e)
-  no-one-word false true e = omega (arith, ap codeOf e)
-  no-one-word false false e = omega (arith, ap codeOf e)
-
-  counted : (f : Fault) → kindOf a w k ≡ Kind.Faulty f → countFits f (min n 65535) w k ≡ true
-  unfolding dataKind
-  counted Fault.NotFirst e = let d = data-tells a w k (ap datOf e) in le-leb 1 (min n 65535) (omega (arith, d .0))
-  counted Fault.NotLast e = let d = data-tells a w k (ap datOf e) in le-leb 1 (min n 65535) (omega (arith, d .0))
-  counted Fault.OneWord e =
-      let d = data-tells a w k (ap datOf e) in
-      let p1 = pick-second (eqb (bc / 2 % 2) 0) (λ z. omega (arith, ap codeOf z)) (sym (d .1) ∙ e) in
-      let p2 = pick-second (eqb (bc % 4) 2) (λ z. omega (arith, ap codeOf z)) (p1 .1) in
-      let p3 = pick-first (eqb n 1) (no-one-word (not (fcsRight (a .words))) (not (hasRoom keptFree w n k))) (p2 .1) in
-      let one = eqb-true n 1 (p3 .0) in
-      eq-eqb (min n 65535) 1 (omega arith)
-  counted Fault.WrongFcs e =
-      let d = data-tells a w k (ap datOf e) in
-      let p1 = pick-second (eqb (bc / 2 % 2) 0) (λ z. omega (arith, ap codeOf z)) (sym (d .1) ∙ e) in
-      let p2 = pick-second (eqb (bc % 4) 2) (λ z. omega (arith, ap codeOf z)) (p1 .1) in
-      let p3 = pick-second (eqb n 1) (λ z. omega (arith, ap codeOf z)) (p2 .1) in
-      let one = eqb-false n 1 (p3 .0) in
-      le-leb 2 (min n 65535) (omega (arith, d .0, one))
-  counted Fault.NoRoom e =
-      let d = data-tells a w k (ap datOf e) in
-      let p1 = pick-second (eqb (bc / 2 % 2) 0) (λ z. omega (arith, ap codeOf z)) (sym (d .1) ∙ e) in
-      let p2 = pick-second (eqb (bc % 4) 2) (λ z. omega (arith, ap codeOf z)) (p1 .1) in
-      let p3 = pick-second (eqb n 1) (λ z. omega (arith, ap codeOf z)) (p2 .1) in
-      let p4 = pick-second (not (fcsRight (a .words))) (λ z. omega (arith, ap codeOf z)) (p3 .1) in
-      let p5 = pick-first (not (hasRoom keptFree w n k)) (λ z. omega (arith, ap codeOf z)) (p4 .1) in
-      let more = leb-false (w + n + 5 * k + 2) 12288 (not-true (hasRoom keptFree w n k) (p5 .0)) in
-      ap not (lt-leb (w + min n 65535 + 5 * k + 2) 12288 (omega arith))
-
-  bits-fit : (f : Fault) → faultBitsFit f (faultBits f (a .words) % 64) ≡ true
+  bits-fit : (f : Fault) → faultBitsFit f (faultBits f (joinedOf a) % 64) ≡ true
   bits-fit Fault.NotFirst = refl
-  bits-fit Fault.NotLast = refl
+  bits-fit Fault.NoRoom = refl
   bits-fit Fault.OneWord = refl
   bits-fit Fault.WrongFcs = refl
-  bits-fit Fault.NoRoom = refl
+  bits-fit Fault.NextLate = refl
+  bits-fit Fault.NextEmpty = refl
+  bits-fit Fault.NextFirst = refl
+  bits-fit Fault.PacketNoRoom = refl
+  bits-fit Fault.JoinedFcs = refl
 
   -- a fragment of our node's fits what its kind asks
-  fragment-fits : (kind : Kind) → kindOf a w k ≡ kind
-      → kindFits kind (length (dataOf kind a) + 1) (getD (dataOf kind a) 1 0) (bitsOf kind (a .words) % 64) w k ≡ true
+  fragment-fits : (kind : Kind) → Counts (length (receivedOf a)) w k kind
+      → kindFits kind (length (dataOf kind a) + 1) (getD (dataOf kind a) 1 0) (bitsOf kind (joinedOf a) % 64) w k ≡ true
   fragment-fits Kind.Late e = refl
   fragment-fits Kind.Errors e = refl
   fragment-fits (Kind.Zero z) e = refl
-  fragment-fits (Kind.Faulty f) e = sym (and-yes (counted f e) (sym (bits-fit f)))
+  fragment-fits (Kind.Faulty f) e = sym (and-yes e (sym (bits-fit f)))
   fragment-fits Kind.Whole e = refl
 
   -- and has its place
@@ -105,9 +71,10 @@ module _ (a : Answer) (w k : ℕ) where
   fragment-place (Kind.Faulty f) e h = le-leb (w + 5 + 5 * k + 2) 12288 (omega arith)
   fragment-place Kind.Whole e h =
       let t = whole-tells a w k e in
-      let l = length-take (n - 2) (a .words) in
-      let m : ℕ = length (take (n - 2) (a .words)) in
-      let lm : m + 2 ≡ n = omega (arith, l, t .two) in
+      let ws = joinedOf a in
+      let l = length-take (length ws - 2) ws in
+      let m : ℕ = length (take (length ws - 2) ws) in
+      let lm : m + 2 ≡ length ws = omega (arith, l, t .two) in
       sym (and-yes (le-leb 1 (m + 1) (omega arith)) (sym (le-leb (w + (m + 1 + 1) + 5 * k + 2) 12288 (omega (arith, lm, t .room)))))
 
 open-told : (ss : List ℕ) (t : Tally) → Open ss t → not (eqb (length ss) 0 && isCommon t) ≡ true
@@ -126,7 +93,7 @@ module _ (p rest : List ℕ) (w : ℕ) (e : length p ≡ w) (s : ℕ) (ss : List
   ds = dataOf kind a
 
   abbrev st : ℕ
-  st = statusOf kind (a .words) s
+  st = statusOf kind (joinedOf a) s
 
   abbrev all : List ℕ
   all = p ++ (framed ds st ++ rest)
@@ -153,25 +120,25 @@ module _ (p rest : List ℕ) (w : ℕ) (e : length p ≡ w) (s : ℕ) (ss : List
   size : length all ≡ w + (length ds + 2) + length rest
   size = simp length-append (omega (arith, e))
 
-  pub fragment-read : w + 5 * (k + 1) + 2 ≤ 12288 → Open ss (tallied t kind)
+  pub fragment-read : Ends a w k → w + 5 * (k + 1) + 2 ≤ 12288 → Open ss (tallied t kind)
       → readFragment all s k (built w t) ≡ Step.On (built (w + length (framed ds st)) (tallied t kind))
-  fragment-read room goes-on =
+  fragment-read ends room goes-on =
       let l : ℕ = length ds + 1 in
       let first : w < length all = omega (arith, size) in
       let last : w + l < length all = omega (arith, size) in
-      let bits : st / 32 % 64 ≡ bitsOf kind (a .words) % 64 = status-bits (datOf kind) (codeOf kind) (bitsOf kind (a .words)) s in
-      let id : st % 32 ≡ s = status-slave (datOf kind) (codeOf kind) (bitsOf kind (a .words)) s ∙ (omega arith) in
+      let bits : st / 32 % 64 ≡ bitsOf kind (joinedOf a) % 64 = status-bits (datOf kind) (codeOf kind) (bitsOf kind (joinedOf a)) s in
+      let id : st % 32 ≡ s = status-slave (datOf kind) (codeOf kind) (bitsOf kind (joinedOf a)) s ∙ (omega arith) in
       let fits : kindFits kind l (getD all (w + 2) 0) (st / 32 % 64) w k ≡ true =
       ap (λ (x : ℕ). kindFits kind l (getD all (w + 2) 0) x w k) bits
-      ∙ counts kind l (getD all (w + 2) 0) (getD ds 1 0) (bitsOf kind (a .words) % 64) w k at-count
-      ∙ fragment-fits a w k kind refl in
+      ∙ counts kind l (getD all (w + 2) 0) (getD ds 1 0) (bitsOf kind (joinedOf a) % 64) w k at-count
+      ∙ fragment-fits a w k kind (counted a w k ends) in
       let passes : statusFits kind s k (built w t) l (getD all (w + 2) 0) st ≡ true =
       sym (and-yes (eq-eqb (st % 32) s id) (and-yes fits (sym (open-told ss (tallied t kind) goes-on)))) in
       let n : w + l + 1 ≡ w + length (framed ds st) = simp length-append (omega arith) in
       sym (by-status all s k (built w t) first l (sym at-first) (fragment-place a w k kind refl room) last)
       ∙ ap (λ (x : ℕ). readStatus (shownBy (x / 2048)) s k (built w t) l (getD all (w + 2) 0) x (w + l)) at-status
       ∙ ap (λ (x : Shown). readStatus x s k (built w t) l (getD all (w + 2) 0) st (w + l))
-      (ap shownBy (number-of-status kind (bitsOf kind (a .words)) s) ∙ shown-kind kind)
+      (ap shownBy (number-of-status kind (bitsOf kind (joinedOf a)) s) ∙ shown-kind kind)
       ∙ sym (yes _ passes refl)
       ∙ ap (λ (x : ℕ). Step.On (built x (tallied t kind))) n
 
@@ -197,15 +164,15 @@ open-from (s ∷ ss) said w t h = tt
 
 -- the fragments of all slaves are read, and the end is left
 pub all-read : (ss : List ℕ) (said : List Answer) (p rest : List ℕ) (w : ℕ) (t : Tally) → length p ≡ w → length said ≡ length ss → Small ss
-    → w + 5 * length ss + 2 ≤ 12288 → isCommon (tallyFrom t (kindsOf ss said w)) ≡ false
+    → AllEnd ss said w → w + 5 * length ss + 2 ≤ 12288 → isCommon (tallyFrom t (kindsOf ss said w)) ≡ false
     → readFrom ss (p ++ (assembled ss said w ++ rest)) (built w t)
     ≡ readEnd (p ++ (assembled ss said w ++ rest)) (built (w + length (assembled ss said w)) (tallyFrom t (kindsOf ss said w)))
-unfolding readFrom fragmentsOf kindsOf joined tallyFrom fragmentOf
-all-read [] said p rest w t e h small room c = ap (λ (n : ℕ). readEnd (p ++ rest) (built n t)) (sym (add-zero w))
-all-read (s ∷ ss) [] p rest w t e h small room c = absurd (omega arith)
-all-read (s ∷ ss) (a ∷ said) p rest w t e h small room c =
+unfolding readFrom fragmentsOf kindsOf AllEnd joined tallyFrom fragmentOf
+all-read [] said p rest w t e h small ends room c = ap (λ (n : ℕ). readEnd (p ++ rest) (built n t)) (sym (add-zero w))
+all-read (s ∷ ss) [] p rest w t e h small ends room c = absurd (omega arith)
+all-read (s ∷ ss) (a ∷ said) p rest w t e h small ends room c =
     let kind : Kind = kindOf a w (length ss) in
-    let f : List ℕ = framed (dataOf kind a) (statusOf kind (a .words) s) in
+    let f : List ℕ = framed (dataOf kind a) (statusOf kind (joinedOf a) s) in
     let t′ : Tally = tallied t kind in
     let r : List ℕ = assembled ss said (w + length f) in
     let u : Tally = tallyFrom t′ (kindsOf ss said (w + length f)) in
@@ -216,10 +183,10 @@ all-read (s ∷ ss) (a ∷ said) p rest w t e h small room c =
     let e′ : length (p ++ f) ≡ w + length f = length-append p f ∙ ap (λ (n : ℕ). n + length f) e in
     let l : length (f ++ r) ≡ length f + length r = length-append f r in
     let n : w + length f + length r ≡ w + length (f ++ r) = omega arith in
-    let ih = all-read ss said (p ++ f) rest (w + length f) t′ e′ (omega arith) (small .1) kept c in
+    let ih = all-read ss said (p ++ f) rest (w + length f) t′ e′ (omega arith) (small .1) (ends .1) kept c in
     ap (λ (x : List ℕ). ended (readFragment x s (length ss) (built w t)) (readFrom ss x)) one
     ∙ ap (λ (x : Step). ended x (readFrom ss (p ++ (f ++ (r ++ rest)))))
-    (fragment-read p (r ++ rest) w e s ss a t (small .0) room′ (open-from ss said (w + length f) t′ c))
+    (fragment-read p (r ++ rest) w e s ss a t (small .0) (ends .0) room′ (open-from ss said (w + length f) t′ c))
     ∙ ap (λ (x : List ℕ). readFrom ss x (built (w + length f) t′)) two
     ∙ ih
     ∙ ap (λ (x : List ℕ). readEnd x (built (w + length f + length r) u)) (sym (one ∙ two))
@@ -288,5 +255,5 @@ acceptable-accepted mask ws x =
     let status : ℕ = groupStatus t (ownStatus (x .tests) (x .mode)) in
     sym (yes _ (x .slaves) refl)
     ∙ ap (λ (l : List ℕ). readFrom ss l (built 0 Tally.Nothing)) (y .words)
-    ∙ all-read ss (x .said) [] (trailer a status) 0 Tally.Nothing refl (x .each) (small-slaves mask) (let f = five-each mask in omega arith) (y .no-common)
+    ∙ all-read ss (x .said) [] (trailer a status) 0 Tally.Nothing refl (x .each) (small-slaves mask) (x .ends) (let f = five-each mask in omega arith) (y .no-common)
     ∙ end-read a (0 + length a) status t (omega arith) (node-passes t (x .tests) (x .mode))

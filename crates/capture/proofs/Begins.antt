@@ -16,7 +16,7 @@ use Rattle.base.proofs.Part.{length-part, below-take, below-drop, below-append,
 use Rattle.fcs.specs.Fcs.{fcsOf}
 use Rattle.fcs.proofs.Bounds.{fcs-below}
 use Rattle.report.specs.Status.{ownStatus}
-use Rattle.group.specs.Kind.{hasRoom, keptFree, kindOf}
+use Rattle.group.specs.Kind.{joinedOf, hasRoom, keptFree, kindOf}
 use Rattle.group.specs.Tally.{tallied, wholeTallied}
 use Rattle.group.specs.Fragment.{statusWord, bitsOf, dataOf, statusOf, framed, built}
 use Rattle.group.specs.Ending.{trailer, groupStatus}
@@ -73,16 +73,16 @@ module _ (p : List ℕ) (w : ℕ) (e : length p ≡ w) (s : ℕ) (ss : List ℕ)
   abbrev kind : Kind
   kind = kindOf (made .said) w (length ss)
 
-  fragment-is : framed (dataOf kind (made .said)) (statusOf kind (made .said .words) s) ≡ fragment
+  fragment-is : framed (dataOf kind (made .said)) (statusOf kind (joinedOf (made .said)) s) ≡ fragment
   fragment-is =
-      ap (λ (x : Kind). framed (dataOf x (made .said)) (statusOf x (made .said .words) s)) (made .is)
-      ∙ ap (λ (x : List ℕ). framed x (statusWord 1 0 (bitsOf Kind.Whole (made .said .words)) s)) (made .carries)
+      ap (λ (x : Kind). framed (dataOf x (made .said)) (statusOf x (joinedOf (made .said)) s)) (made .is)
+      ∙ ap (λ (x : List ℕ). framed x (statusWord 1 0 (bitsOf Kind.Whole (joinedOf (made .said))) s)) (made .carries)
       ∙ ap (λ (x : ℕ). framed ds (statusWord 1 0 x s)) (made .shows)
 
   is-read : (rest : List ℕ) → readFragment (p ++ (fragment ++ rest)) s (length ss) (built w t) ≡ Step.On (built (w + length fragment) (wholeTallied t))
   is-read rest =
       ap (λ (f : List ℕ). readFragment (p ++ (f ++ rest)) s (length ss) (built w t)) (sym fragment-is)
-      ∙ fragment-read p rest w e s ss (made .said) t slave room (subst (λ (x : Kind). Open ss (tallied t x)) (sym (made .is)) (whole-open ss t))
+      ∙ fragment-read p rest w e s ss (made .said) t slave (made .ends) room (subst (λ (x : Kind). Open ss (tallied t x)) (sym (made .is)) (whole-open ss t))
       ∙ ap (λ (f : List ℕ). Step.On (built (w + length f) (tallied t kind))) fragment-is
       ∙ ap (λ (x : Kind). Step.On (built (w + length fragment) (tallied t x))) (made .is)
 

@@ -24,10 +24,14 @@ shown-kind (Kind.Zero ZeroLength.Abort) = refl
 shown-kind (Kind.Zero ZeroLength.Error) = refl
 shown-kind (Kind.Zero ZeroLength.End) = refl
 shown-kind (Kind.Faulty Fault.NotFirst) = refl
-shown-kind (Kind.Faulty Fault.NotLast) = refl
+shown-kind (Kind.Faulty Fault.NoRoom) = refl
 shown-kind (Kind.Faulty Fault.OneWord) = refl
 shown-kind (Kind.Faulty Fault.WrongFcs) = refl
-shown-kind (Kind.Faulty Fault.NoRoom) = refl
+shown-kind (Kind.Faulty Fault.NextLate) = refl
+shown-kind (Kind.Faulty Fault.NextEmpty) = refl
+shown-kind (Kind.Faulty Fault.NextFirst) = refl
+shown-kind (Kind.Faulty Fault.PacketNoRoom) = refl
+shown-kind (Kind.Faulty Fault.JoinedFcs) = refl
 shown-kind Kind.Whole = refl
 
 -- and no other number shows it
@@ -56,10 +60,14 @@ fields (Kind.Zero ZeroLength.Abort) = record { dat = omega arith; code = omega a
 fields (Kind.Zero ZeroLength.Error) = record { dat = omega arith; code = omega arith }
 fields (Kind.Zero ZeroLength.End) = record { dat = omega arith; code = omega arith }
 fields (Kind.Faulty Fault.NotFirst) = record { dat = omega arith; code = omega arith }
-fields (Kind.Faulty Fault.NotLast) = record { dat = omega arith; code = omega arith }
+fields (Kind.Faulty Fault.NoRoom) = record { dat = omega arith; code = omega arith }
 fields (Kind.Faulty Fault.OneWord) = record { dat = omega arith; code = omega arith }
 fields (Kind.Faulty Fault.WrongFcs) = record { dat = omega arith; code = omega arith }
-fields (Kind.Faulty Fault.NoRoom) = record { dat = omega arith; code = omega arith }
+fields (Kind.Faulty Fault.NextLate) = record { dat = omega arith; code = omega arith }
+fields (Kind.Faulty Fault.NextEmpty) = record { dat = omega arith; code = omega arith }
+fields (Kind.Faulty Fault.NextFirst) = record { dat = omega arith; code = omega arith }
+fields (Kind.Faulty Fault.PacketNoRoom) = record { dat = omega arith; code = omega arith }
+fields (Kind.Faulty Fault.JoinedFcs) = record { dat = omega arith; code = omega arith }
 fields Kind.Whole = record { dat = omega arith; code = omega arith }
 
 -- the number of a kind stands in bits 15-11 of its status word

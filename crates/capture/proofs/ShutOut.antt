@@ -14,7 +14,7 @@ use Rattle.group.specs.Fragment.{built}
 use Rattle.group.specs.declared.Tally.{Tally}
 use Rattle.group.proofs.Sets.{from-taken}
 use Rattle.capture.specs.Reader.{readFragment, readFrom, readOf}
-use Rattle.capture.specs.ShutOut.{Reader, Right, roomy, aborts, ShutOut}
+use Rattle.capture.specs.ShutOut.{Reader, Right, roomy, aborts, ninth, crowded, ShutOut}
 use Rattle.capture.specs.declared.Capture.{Capture}
 use Rattle.capture.proofs.Masks.{none-from}
 use Rattle.capture.proofs.Says.{reads, reads-once}
@@ -42,6 +42,14 @@ aborts-below : Below 65536 aborts
 unfolding fcsFrom fcsWord fcsBits fcsBit all-below
 aborts-below = below aborts refl
 
+ninth-below : Below 65536 ninth
+unfolding fcsFrom fcsWord fcsBits fcsBit all-below
+ninth-below = below ninth refl
+
+crowded-below : Below 65536 crowded
+unfolding fcsFrom fcsWord fcsBits fcsBit all-below
+crowded-below = below crowded refl
+
 -- the slaves of two small masks
 
 slave-zero : slavesOf 1 ≡ 0 ∷ []
@@ -60,10 +68,20 @@ aborts-broken : readOf 3 aborts ≡ Capture.Broken 3
 unfolding readOf readFrom readFragment
 aborts-broken = ap (λ (ss : List ℕ). readFrom ss aborts (built 0 Tally.Nothing)) slaves-two
 
+ninth-broken : readOf 1 ninth ≡ Capture.Broken 4
+unfolding readOf readFrom readFragment
+ninth-broken = ap (λ (ss : List ℕ). readFrom ss ninth (built 0 Tally.Nothing)) slave-zero
+
+crowded-broken : readOf 1 crowded ≡ Capture.Broken 4
+unfolding readOf readFrom readFragment
+crowded-broken = ap (λ (ss : List ℕ). readFrom ss crowded (built 0 Tally.Nothing)) slave-zero
+
 pub shut-out : ShutOut
 shut-out =
     record {
       trusting = λ read p r. let q = agrees read r 1 roomy roomy-below ∙ roomy-broken in let z : _≡_ {A = ℕ} 0 1 = cc in omega arith;
       early = λ read p r. let q = agrees read r 1 roomy roomy-below ∙ roomy-broken in let z : _≡_ {A = ℕ} 0 4 = cc in omega arith;
       common = λ read p r. let q = agrees read r 3 aborts aborts-below ∙ aborts-broken in let z : _≡_ {A = ℕ} 0 1 = cc in omega arith;
+      outdated = λ read p r. let q = agrees read r 1 ninth ninth-below ∙ ninth-broken in let z : _≡_ {A = ℕ} 0 1 = cc in omega arith;
+      unbounded = λ read p r. let q = agrees read r 1 crowded crowded-below ∙ crowded-broken in let z : _≡_ {A = ℕ} 0 1 = cc in omega arith;
     }

@@ -7,7 +7,7 @@ use native.Mathlib.Omega.{arith}
 use lib.ListN.{length, getD, take, drop}
 use lib.Seq.{take-at, drop-at}
 use Rattle.report.specs.Status.{ownStatus}
-use Rattle.group.specs.Kind.{Answer, datOf, codeOf, kindOf}
+use Rattle.group.specs.Kind.{Answer, joinedOf, datOf, codeOf, kindOf}
 use Rattle.group.specs.Tally.{tallyFrom}
 use Rattle.group.specs.Slaves.{slavesOf}
 use Rattle.group.specs.Fragment.{bitsOf, statusOf, dataOf, fragmentOf}
@@ -31,9 +31,9 @@ fragments-for (s ∷ ss) (a ∷ said) w h small =
     let kind : Kind = kindOf a w (length ss) in (
       record {
         carried = dataOf kind a;
-        status = statusOf kind (a .words) s;
+        status = statusOf kind (joinedOf a) s;
         words = refl;
-        slave = status-slave (datOf kind) (codeOf kind) (bitsOf kind (a .words)) s ∙ (let n = small .0 in omega arith);
+        slave = status-slave (datOf kind) (codeOf kind) (bitsOf kind (joinedOf a)) s ∙ (let n = small .0 in omega arith);
       },
       fragments-for ss said (w + length (fragmentOf s a w (length ss))) (omega arith) (small .1),
     )

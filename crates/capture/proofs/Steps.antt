@@ -1,11 +1,11 @@
 -- How the code comes to what a fragment is read as, one test after another, and to the slaves of a mask, one number after another. Assumes
 -- nothing.
-use Prim.Native.Nat.{ℕ, _+_, _*_, _/_, _≤_, _<_}
+use Prim.Native.Nat.{ℕ, _+_, _*_, _/_, _%_, _^_, _≤_, _<_}
 use mathlib.Core.Path.{_≡_, refl, sym, ap, _∙_}
 use mathlib.Core.Bool.{Bool, true, false, not}
 use mathlib.Core.List.{List, _∷_}
 use native.Mathlib.Omega.{arith}
-use borrow.Author.Tests.{le-leb, lt-leb, leb-true}
+use borrow.Author.Tests.{eq-eqb, ne-eqb, le-leb, lt-leb, leb-true}
 use lib.Dec.{leb}
 use lib.ListN.{length, getD}
 use Rattle.base.specs.Pick.{pick}
@@ -14,7 +14,7 @@ use Rattle.group.specs.Kind.{hasRoom, keptFree}
 use Rattle.group.specs.Slaves.{hasSlave, slavesUp, above}
 use Rattle.group.specs.declared.Built.{Built}
 use Rattle.group.proofs.Sets.{from-none, from-turn}
-use Rattle.capture.specs.Reader.{shownBy, hasPlace, readStatus, readFragment, readSlave, readEnd, ended, readFrom}
+use Rattle.capture.specs.Reader.{shownBy, hasPlace, readStatus, readFragment, readEnd, ended, readFrom}
 use Rattle.capture.specs.declared.Step.{Step}
 
 -- a fragment whose first word is there
@@ -39,23 +39,30 @@ module _ (ws : List ℕ) (s k : ℕ) (b : Built) (h : b .words < length ws) (l :
       (no _ (ap (λ (x : ℕ). leb (length ws) (b .words + x)) (sym e) ∙ lt-leb _ _ m)
       (ap (λ (x : ℕ). readStatus (shownBy (getD ws (b .words + x) 0 / 2048)) s k b x (getD ws (b .words + 2) 0) (getD ws (b .words + x) 0) (b .words + x)) e)))
 
--- number s, with what has been read before it: the slaves from there on are it, if it is one, and those above
-pub slave-turn : (ws : List ℕ) (mask s : ℕ) (x : Step) → s < 24
-    → ended x (readFrom (slavesUp mask s) ws) ≡ ended (readSlave ws mask s x) (readFrom (slavesUp mask (s + 1)) ws)
-unfolding readFrom
-slave-turn ws mask s (Step.Broken i) h = refl
-slave-turn ws mask s (Step.On b) h = ap (λ (ss : List ℕ). readFrom ss ws b) (from-turn s mask h) ∙ go (hasSlave mask s)
-  where
-    go : (t : Bool) → readFrom (pick t (s ∷ slavesUp mask (s + 1)) (slavesUp mask (s + 1))) ws b
-        ≡ ended (pick t (readFragment ws s (length (above mask s)) b) (Step.On b)) (readFrom (slavesUp mask (s + 1)) ws)
-    go true = refl
-    go false = refl
+-- number s, whose bit in the mask is x: the slaves from there on are it, if it is one, and those above
+module _ (ws : List ℕ) (mask s : ℕ) (b : Built) (h : s < 24) (x : ℕ) (bit : (x ≡ mask / 2 ^ s % 2) × (x < 2)) where
+  from-here : (t : Bool) → hasSlave mask s ≡ t → slavesUp mask s ≡ pick t (s ∷ slavesUp mask (s + 1)) (slavesUp mask (s + 1))
+  from-here t e = from-turn s mask h ∙ ap (λ (u : Bool). pick u (s ∷ slavesUp mask (s + 1)) (slavesUp mask (s + 1))) e
+
+  pub slave-none : x ≡ 0 → readFrom (slavesUp mask s) ws b ≡ readFrom (slavesUp mask (s + 1)) ws b
+  slave-none n =
+      let e = bit .0 in
+      ap (λ (ss : List ℕ). readFrom ss ws b) (from-here false (ne-eqb (mask / 2 ^ s % 2) 1 (λ y. omega arith)))
+
+  pub slave-read : {step : Step} → (x ≡ 0 → ⊥) → readFragment ws s (length (above mask s)) b ≡ step
+      → readFrom (slavesUp mask s) ws b ≡ ended step (readFrom (slavesUp mask (s + 1)) ws)
+  unfolding readFrom
+  slave-read n r =
+      let e = bit .0 in
+      let l = bit .1 in
+      let one : mask / 2 ^ s % 2 ≡ 1 = omega (arith, n) in
+      ap (λ (ss : List ℕ). readFrom ss ws b) (from-here true (eq-eqb (mask / 2 ^ s % 2) 1 one))
+      ∙ ap (λ (z : Step). ended z (readFrom (slavesUp mask (s + 1)) ws)) r
 
 -- behind number 23 there is only the end
-pub slaves-over : (ws : List ℕ) (mask s : ℕ) (x : Step) → 24 ≤ s → ended x (readFrom (slavesUp mask s) ws) ≡ ended x (readEnd ws)
+pub slaves-over : (ws : List ℕ) (mask s : ℕ) (b : Built) → 24 ≤ s → readFrom (slavesUp mask s) ws b ≡ readEnd ws b
 unfolding readFrom
-slaves-over ws mask s (Step.Broken i) h = refl
-slaves-over ws mask s (Step.On b) h = ap (λ (ss : List ℕ). readFrom ss ws b) (from-none s mask h)
+slaves-over ws mask s b h = ap (λ (ss : List ℕ). readFrom ss ws b) (from-none s mask h)
 
 -- a first word that has its place keeps its fragment within the reply
 pub place-below : (l w k : ℕ) → hasPlace l w k ≡ true → w + l < 12288

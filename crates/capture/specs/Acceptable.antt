@@ -1,4 +1,4 @@
--- Which captured group replies our node could have assembled, and which word breaks one that it could not: 02, request 3. Assumes nothing.
+-- Which captured group replies our node could have assembled, and which word breaks one that it could not: 02, requests 3 and 8. Assumes nothing.
 use Prim.Native.Nat.{ℕ, _+_, _≤_, _<_}
 use mathlib.Core.Path.{_≡_}
 use mathlib.Core.Bool.{Bool, true, false, _&&_}
@@ -10,31 +10,34 @@ use Rattle.report.specs.Status.{ownStatus}
 use Rattle.group.specs.Kind.{Answer}
 use Rattle.group.specs.Slaves.{slavesOf}
 use Rattle.group.specs.Ending.{sent, replied}
-use Rattle.group.specs.Whole.{groupOf}
+use Rattle.group.specs.Whole.{AllEnd, groupOf}
 use Rattle.capture.specs.declared.Capture.{Capture}
 
 -- A mask of slaves: 24 bits, one of them at least set.
 abbrev pub isMask : ℕ → Bool
 isMask mask = ltb 0 mask && ltb mask 16777216
 
--- A slave's answer as it comes over the wire: the words of its reply, and those of its receiver, have 16 bits.
+-- A slave's answer as it comes over the wire: the words of its packets, and those of its receiver, have 16 bits.
 pub record OnWire (a : Answer) : Type 0 where
   pub status : a .heard .«rx_status» < 65536
   pub address : a .heard .«rx_address» < 65536
   pub words : Below 65536 (a .words)
+  pub earlier : Below 65536 (a .earlier)
+  pub kept : a .kept < 65536
 
 unfoldable pub AllOnWire : List Answer → Type 0
 AllOnWire [] = Unit {0}
 AllOnWire (a ∷ said) = OnWire a × AllOnWire said
 
--- A captured reply is acceptable if some answers of the mask's slaves, one each, and the status of some node, whatever its start tests and
--- its mode, make our node's own assembly end in just these words as a data reply: they stand at the front of its buffer, and are sent
--- with BC 11. A reply of no words is no data.
+-- A captured reply is acceptable if some answers of the mask's slaves, one each, in one packet or in several, and the status of some node,
+-- whatever its start tests and its mode, make our node's own assembly end in just these words as a data reply: they stand at the front of its
+-- buffer, and are sent with BC 11. A reply of no words is no data.
 pub record Acceptable (mask : ℕ) (words : List ℕ) : Type 0 where
   pub slaves : isMask mask ≡ true
   pub said : List Answer
   pub each : length said ≡ length (slavesOf mask)
   pub wire : AllOnWire said
+  pub ends : AllEnd (slavesOf mask) said 0
   pub tests : ℕ
   pub mode : ℕ
   pub buffer : List ℕ

@@ -9,7 +9,7 @@ use Rattle.base.specs.Pick.{pick}
 use Rattle.fcs.specs.Fcs.{fcsOf}
 use Rattle.group.specs.Kind.{datOf, codeOf, hasRoom, keptFree}
 use Rattle.group.specs.Tally.{tallied}
-use Rattle.group.specs.Slaves.{hasSlave, slavesOf, above}
+use Rattle.group.specs.Slaves.{slavesOf}
 use Rattle.group.specs.Fragment.{built}
 use Rattle.group.specs.Ending.{groupStatus}
 use Rattle.group.specs.declared.Built.{Built}
@@ -36,7 +36,11 @@ kinds =
     ∷ Kind.Faulty Fault.NoRoom
     ∷ Kind.Faulty Fault.OneWord
     ∷ Kind.Faulty Fault.WrongFcs
-    ∷ Kind.Faulty Fault.NotLast
+    ∷ Kind.Faulty Fault.NextLate
+    ∷ Kind.Faulty Fault.NextEmpty
+    ∷ Kind.Faulty Fault.NextFirst
+    ∷ Kind.Faulty Fault.PacketNoRoom
+    ∷ Kind.Faulty Fault.JoinedFcs
     ∷ []
 
 -- DAT and code of a kind as they stand in bits 15-11 of its status word.
@@ -51,21 +55,30 @@ shownAmong (kind ∷ rest) number = pick (eqb number (kindNumber kind)) (Shown.A
 abbrev pub shownBy : ℕ → Shown
 shownBy number = shownAmong kinds number
 
--- How many words a faulty reply can have had, behind w words built, with k slaves yet to ask; FFFF stands for more, too.
+-- How many words of a faulty reply can have been received, behind w words built, with k slaves yet to ask; FFFF stands for more, too. What
+-- was stored of a reply in packets had room (02, request 8).
 abbrev pub countFits : Fault → ℕ → ℕ → ℕ → Bool
 countFits Fault.NotFirst count w k = leb 1 count
-countFits Fault.NotLast count w k = leb 1 count
+countFits Fault.NoRoom count w k = not (hasRoom keptFree w count k)
 countFits Fault.OneWord count w k = eqb count 1
 countFits Fault.WrongFcs count w k = leb 2 count
-countFits Fault.NoRoom count w k = not (hasRoom keptFree w count k)
+countFits Fault.NextLate count w k = leb 1 count && hasRoom keptFree w count k
+countFits Fault.NextEmpty count w k = leb 1 count && hasRoom keptFree w count k
+countFits Fault.NextFirst count w k = leb 2 count
+countFits Fault.PacketNoRoom count w k = not (hasRoom keptFree w count k)
+countFits Fault.JoinedFcs count w k = leb 2 count && hasRoom keptFree w count k
 
 -- Bits 10-5 of a faulty reply's status word: the slave's for code 2, otherwise 0.
 abbrev pub faultBitsFit : Fault → ℕ → Bool
 faultBitsFit Fault.NotFirst bits = eqb bits 0
-faultBitsFit Fault.NotLast bits = eqb bits 0
+faultBitsFit Fault.NoRoom bits = true
 faultBitsFit Fault.OneWord bits = eqb bits 0
 faultBitsFit Fault.WrongFcs bits = eqb bits 0
-faultBitsFit Fault.NoRoom bits = true
+faultBitsFit Fault.NextLate bits = eqb bits 0
+faultBitsFit Fault.NextEmpty bits = eqb bits 0
+faultBitsFit Fault.NextFirst bits = eqb bits 0
+faultBitsFit Fault.PacketNoRoom bits = eqb bits 0
+faultBitsFit Fault.JoinedFcs bits = eqb bits 0
 
 -- A fragment of a kind has this many words behind its first one, the reply that it tells of this count of words, and bits 10-5 so.
 abbrev pub kindFits : Kind → ℕ → ℕ → ℕ → ℕ → ℕ → Bool
@@ -99,29 +112,43 @@ readStatus Shown.Nothing s k b length count status place = Step.Broken place
 readStatus (Shown.As kind) s k b length count status place =
     pick (statusFits kind s k b length count status) (Step.On (built (place + 1) (tallied (b .tally) kind))) (Step.Broken place)
 
--- The fragment of slave s behind those read: its first word is judged at itself, then its status word; what stands between can be anything.
--- Where the words end before that, they are cut short.
+-- The fragment of slave s behind those read, in a run of n words: its first word is judged at itself, then its status word, with the word two
+-- places behind the first; what else stands between can be anything. Where the words end before that, they are cut short.
+abbrev pub judgeFragment : ℕ → ℕ → ℕ → Built → ℕ → ℕ → ℕ → Step
+judgeFragment n s k b length count status =
+    pick (not (hasPlace length (b .words) k)) (Step.Broken (b .words))
+    (pick (leb n (b .words + length)) (Step.Broken n)
+    (readStatus (shownBy (status / 2048)) s k b length count status (b .words + length)))
+
+-- The same by the words themselves.
 unfoldable pub readFragment : List ℕ → ℕ → ℕ → Built → Step
 readFragment ws s k b =
     pick (leb (length ws) (b .words)) (Step.Broken (length ws))
-    (pick (not (hasPlace (getD ws (b .words) 0) (b .words) k)) (Step.Broken (b .words))
-    (pick (leb (length ws) (b .words + getD ws (b .words) 0)) (Step.Broken (length ws))
-    (readStatus (shownBy (getD ws (b .words + getD ws (b .words) 0) 0 / 2048)) s k b (getD ws (b .words) 0) (getD ws (b .words + 2) 0)
-    (getD ws (b .words + getD ws (b .words) 0) 0) (b .words + getD ws (b .words) 0))))
+    (judgeFragment (length ws) s k b (getD ws (b .words) 0) (getD ws (b .words + 2) 0) (getD ws (b .words + getD ws (b .words) 0) 0))
 
 -- The group's status word: bits 8, 7 and 6 are the node's, bit 9 is by the codes, all others are 0.
 abbrev pub isNodeStatus : ℕ → Tally → Bool
 isNodeStatus status t = eqb status (groupStatus t (status / 64 % 8 * 64))
 
+-- Behind the fragments, in a run of n words: the group's status word, and a word behind it, of which something else is to be said.
+abbrev pub judgeEnd : ℕ → Built → ℕ → Capture → Capture
+judgeEnd n b status next =
+    pick (leb n (b .words)) (Capture.Broken n)
+    (pick (not (isNodeStatus status (b .tally))) (Capture.Broken (b .words))
+    (pick (leb n (b .words + 1)) (Capture.Broken n)
+    next))
+
+-- What is to be said: that word is the FCS of the w + 1 words before it, and nothing more follows.
+abbrev pub judgeFcs : ℕ → ℕ → ℕ → ℕ → Capture
+judgeFcs n w word fcs =
+    pick (not (eqb word fcs)) (Capture.Broken (w + 1))
+    (pick (ltb (w + 2) n) (Capture.Broken (w + 2))
+    Capture.Accepted)
+
 -- Behind the fragments: the group's status word, the FCS, and nothing more.
 unfoldable pub readEnd : List ℕ → Built → Capture
 readEnd ws b =
-    pick (leb (length ws) (b .words)) (Capture.Broken (length ws))
-    (pick (not (isNodeStatus (getD ws (b .words) 0) (b .tally))) (Capture.Broken (b .words))
-    (pick (leb (length ws) (b .words + 1)) (Capture.Broken (length ws))
-    (pick (not (eqb (getD ws (b .words + 1) 0) (fcsOf (take (b .words + 1) ws)))) (Capture.Broken (b .words + 1))
-    (pick (ltb (b .words + 2) (length ws)) (Capture.Broken (b .words + 2))
-    Capture.Accepted))))
+    judgeEnd (length ws) b (getD ws (b .words) 0) (judgeFcs (length ws) (b .words) (getD ws (b .words + 1) 0) (fcsOf (take (b .words + 1) ws)))
 
 -- What comes of a step: what follows it, or the word that broke.
 abbrev pub ended : Step → (Built → Capture) → Capture
@@ -132,11 +159,6 @@ ended (Step.Broken i) f = Capture.Broken i
 unfoldable pub readFrom : List ℕ → List ℕ → Built → Capture
 readFrom [] ws b = readEnd ws b
 readFrom (s ∷ ss) ws b = ended (readFragment ws s (length ss) b) (readFrom ss ws)
-
--- The same by a number that may be a slave's.
-abbrev pub readSlave : List ℕ → ℕ → ℕ → Step → Step
-readSlave ws mask s (Step.On b) = pick (hasSlave mask s) (readFragment ws s (length (above mask s)) b) (Step.On b)
-readSlave ws mask s (Step.Broken i) = Step.Broken i
 
 -- A captured reply, with its mask of slaves.
 unfoldable pub readOf : ℕ → List ℕ → Capture

@@ -1,4 +1,5 @@
--- Wrong readers, each by an answer that it gives to a captured reply: what is asked of a reader shuts them out. 02, request 3. Assumes nothing.
+-- Wrong readers, each by an answer that it gives to a captured reply: what is asked of a reader shuts them out. 02, requests 3 and 8.
+-- Assumes nothing.
 use Prim.Native.Nat.{ℕ}
 use mathlib.Core.Path.{_≡_}
 use mathlib.Core.List.{List, [], _∷_, _++_}
@@ -26,6 +27,14 @@ roomy = closed (0x0004 ∷ 0x0000 ∷ 0x0003 ∷ 0xAAAA ∷ 0x9000 ∷ [])
 abbrev pub aborts : List ℕ
 aborts = closed (0x0001 ∷ 0x1000 ∷ 0x0001 ∷ 0x1001 ∷ [])
 
+-- Slave 0: a reply of three words, with DAT and code 9, which no answer has any more.
+abbrev pub ninth : List ℕ
+ninth = closed (0x0004 ∷ 0x0000 ∷ 0x0003 ∷ 0xAAAA ∷ 0xC800 ∷ [])
+
+-- Slave 0: a timeout after NEXT (code 6) behind 12,287 words, where 12,286 words have room and no more can have been stored.
+abbrev pub crowded : List ℕ
+crowded = closed (0x0004 ∷ 0x0000 ∷ 0x2FFF ∷ 0xAAAA ∷ 0xB000 ∷ [])
+
 pub record ShutOut : Type 0 where
   -- it accepts a code 2 with room
   pub trusting : (read : Reader) → read 1 roomy ≡ Capture.Accepted → Right read → ⊥
@@ -33,3 +42,7 @@ pub record ShutOut : Type 0 where
   pub early : (read : Reader) → read 1 roomy ≡ Capture.Broken 0 → Right read → ⊥
   -- it takes the same 0-length reply of all slaves for data
   pub common : (read : Reader) → read 3 aborts ≡ Capture.Accepted → Right read → ⊥
+  -- it accepts a code 9, as a reader from before request 8 does
+  pub outdated : (read : Reader) → read 1 ninth ≡ Capture.Accepted → Right read → ⊥
+  -- it accepts a code 6 with more words than have room
+  pub unbounded : (read : Reader) → read 1 crowded ≡ Capture.Accepted → Right read → ⊥

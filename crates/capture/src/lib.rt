@@ -1,10 +1,11 @@
 // Captured group replies: whether our node could have assembled one, and if not the first word that breaks it. 02, request 3. One pass
-// over the words; nothing is stored.
+// over the words; nothing is stored. What judges takes numbers, for readers of words and of bytes both.
 ghost use mathlib.Core.Path.{_≡_};
-ghost use Prim.Native.Nat.{_<_};
+ghost use Prim.Native.Nat.{_+_, _<_};
 ghost use lib.ListN.{getD};
 ghost use Rattle.capture.specs.Acceptable.{isMask};
-ghost use Rattle.capture.specs.Reader.{shownBy, countFits, faultBitsFit, kindFits, isCommon, statusFits, hasPlace, readStatus, readFragment, readSlave, isNodeStatus, readEnd, readOf};
+ghost use Rattle.capture.specs.Reader.{shownBy, countFits, faultBitsFit, kindFits, isCommon, statusFits, hasPlace, readStatus, judgeFragment, readFragment, isNodeStatus, judgeEnd, judgeFcs, readEnd, readOf};
+ghost use Rattle.capture.specs.declared.Capture.{Capture};
 use group::Built;
 use group::Fault;
 use group::Kind;
@@ -30,7 +31,7 @@ pub enum Step {
 }
 
 // A mask of slaves has 24 bits, and one of them at least is set.
-fn is_mask(mask: u32) -> bool
+pub fn is_mask(mask: u32) -> bool
     ensures { λ r. ⌜ r ≡ isMask mask ⌝ }
 {
     (0 < mask) & (mask < 16777216)
@@ -52,17 +53,21 @@ fn kind_shown(number: usize) -> Shown
         18 => Shown::As(Kind::Faulty(Fault::NoRoom)),
         19 => Shown::As(Kind::Faulty(Fault::OneWord)),
         21 => Shown::As(Kind::Faulty(Fault::WrongFcs)),
-        25 => Shown::As(Kind::Faulty(Fault::NotLast)),
+        22 => Shown::As(Kind::Faulty(Fault::NextLate)),
+        23 => Shown::As(Kind::Faulty(Fault::NextEmpty)),
+        24 => Shown::As(Kind::Faulty(Fault::NextFirst)),
+        26 => Shown::As(Kind::Faulty(Fault::PacketNoRoom)),
+        28 => Shown::As(Kind::Faulty(Fault::JoinedFcs)),
         _ => Shown::Nothing,
     }
 }
 
 // The word at a place; 0 past the end.
-fn word_at(words: &[u16], i: usize) -> usize
-    ensures { λ r. ⌜ (r ≡ getD (now (words .entry)) i 0) × (r < 65536) ⌝ }
+fn word_at(words: &[u16], i: usize) -> u16
+    ensures { λ r. ⌜ r ≡ getD (now (words .entry)) i 0 ⌝ }
 {
     if i < words.len() {
-        return words[i] as usize;
+        return words[i];
     }
     0
 }
@@ -73,10 +78,14 @@ fn count_fits(fault: Fault, count: usize, w: usize, k: usize) -> bool
 {
     match fault {
         Fault::NotFirst => 1 <= count,
-        Fault::NotLast => 1 <= count,
+        Fault::NoRoom => !group::judge::has_room(2, w, count, k),
         Fault::OneWord => count == 1,
         Fault::WrongFcs => 2 <= count,
-        Fault::NoRoom => !group::judge::has_room(2, w, count, k),
+        Fault::NextLate => (1 <= count) & group::judge::has_room(2, w, count, k),
+        Fault::NextEmpty => (1 <= count) & group::judge::has_room(2, w, count, k),
+        Fault::NextFirst => 2 <= count,
+        Fault::PacketNoRoom => !group::judge::has_room(2, w, count, k),
+        Fault::JoinedFcs => (2 <= count) & group::judge::has_room(2, w, count, k),
     }
 }
 
@@ -86,10 +95,14 @@ fn fault_bits_fit(fault: Fault, bits: usize) -> bool
 {
     match fault {
         Fault::NotFirst => bits == 0,
-        Fault::NotLast => bits == 0,
+        Fault::NoRoom => true,
         Fault::OneWord => bits == 0,
         Fault::WrongFcs => bits == 0,
-        Fault::NoRoom => true,
+        Fault::NextLate => bits == 0,
+        Fault::NextEmpty => bits == 0,
+        Fault::NextFirst => bits == 0,
+        Fault::PacketNoRoom => bits == 0,
+        Fault::JoinedFcs => bits == 0,
     }
 }
 
@@ -176,7 +189,42 @@ fn read_status(
     }
 }
 
-// The fragment of slave s behind those read, with k slaves yet to ask.
+// The fragment of slave s behind those read, with k slaves yet to ask, in a run of n words: by its first word, its third, which counts words
+// in a fragment of five, and its last, the status word.
+pub fn judge_fragment(
+    n: usize,
+    s: u32,
+    k: usize,
+    built: Built,
+    first: u16,
+    third: u16,
+    last: u16,
+) -> Step
+    ensures { λ r. ⌜ r ≡ judgeFragment n s k built first third last ⌝ }
+{
+    let w = built.words;
+    let length = first as usize;
+    if !has_place(length, w, k) {
+        return Step::Broken(w);
+    }
+    let place = w + length;
+    if n <= place {
+        return Step::Broken(n);
+    }
+    let status = last as usize;
+    read_status(
+        kind_shown(status / 2048),
+        s,
+        k,
+        built,
+        length,
+        third as usize,
+        status,
+        place,
+    )
+}
+
+// The same by the words themselves.
 fn read_fragment(words: &[u16], s: u32, k: usize, built: Built) -> Step
     ensures { λ r. ⌜ r ≡ readFragment (now (words .entry)) s k built ⌝ }
 {
@@ -184,40 +232,10 @@ fn read_fragment(words: &[u16], s: u32, k: usize, built: Built) -> Step
     if words.len() <= w {
         return Step::Broken(words.len());
     }
-    let length = word_at(words, w);
-    if !has_place(length, w, k) {
-        return Step::Broken(w);
-    }
-    let place = w + length;
-    if words.len() <= place {
-        return Step::Broken(words.len());
-    }
-    let status = word_at(words, place);
-    read_status(
-        kind_shown(status / 2048),
-        s,
-        k,
-        built,
-        length,
-        word_at(words, w + 2),
-        status,
-        place,
-    )
-}
-
-// The same by a number that may be a slave's.
-fn read_slave(words: &[u16], mask: u32, s: u32, step: Step) -> Step
-    ensures { λ r. ⌜ r ≡ readSlave (now (words .entry)) mask s step ⌝ }
-{
-    match step {
-        Step::Broken(i) => Step::Broken(i),
-        Step::On(built) => {
-            if group::slaves::bit(mask, s) == 1 {
-                return read_fragment(words, s, group::slaves::slaves_above(mask, s), built);
-            }
-            Step::On(built)
-        }
-    }
+    let first = word_at(words, w);
+    let third = word_at(words, w + 2);
+    let last = word_at(words, w + base::wide(first));
+    judge_fragment(words.len(), s, k, built, first, third, last)
 }
 
 // The group's status word can be this.
@@ -227,28 +245,50 @@ fn is_node_status(status: u16, tally: Tally) -> bool
     status == group::ending::group_status(tally, status / 64 % 8 * 64)
 }
 
+// Behind the fragments, in a run of n words: the group's status word, and a word behind it. So far the run is accepted or broken.
+pub fn judge_end(n: usize, built: Built, status: u16) -> Capture
+    ensures { λ r. ⌜ r ≡ judgeEnd n built status Capture.Accepted ⌝ }
+{
+    let w = built.words;
+    let tally = built.tally;
+    if n <= w {
+        return Capture::Broken(n);
+    }
+    if !is_node_status(status, tally) {
+        return Capture::Broken(w);
+    }
+    if n <= w + 1 {
+        return Capture::Broken(n);
+    }
+    Capture::Accepted
+}
+
+// That word is the FCS of the w + 1 words before it, and nothing more follows.
+pub fn judge_fcs(n: usize, w: usize, word: u16, fcs: u16) -> Capture
+    requires { ⌜ w + 1 < n ⌝ }
+    ensures { λ r. ⌜ r ≡ judgeFcs n w word fcs ⌝ }
+{
+    if word != fcs {
+        return Capture::Broken(w + 1);
+    }
+    if w + 2 < n {
+        return Capture::Broken(w + 2);
+    }
+    Capture::Accepted
+}
+
 // Behind the fragments: the group's status word, the FCS, and nothing more.
 fn read_end(words: &[u16], built: Built) -> Capture
     ensures { λ r. ⌜ r ≡ readEnd (now (words .entry)) built ⌝ }
 {
     let w = built.words;
-    let tally = built.tally;
-    if words.len() <= w {
-        return Capture::Broken(words.len());
+    match judge_end(words.len(), built, word_at(words, w)) {
+        Capture::Broken(i) => Capture::Broken(i),
+        Capture::Accepted => {
+            let fcs = fcs::fcs(&words[0..w + 1]);
+            judge_fcs(words.len(), w, word_at(words, w + 1), fcs)
+        }
     }
-    if !is_node_status(words[w], tally) {
-        return Capture::Broken(w);
-    }
-    if words.len() <= w + 1 {
-        return Capture::Broken(words.len());
-    }
-    if words[w + 1] != fcs::fcs(&words[0..w + 1]) {
-        return Capture::Broken(w + 1);
-    }
-    if w + 2 < words.len() {
-        return Capture::Broken(w + 2);
-    }
-    Capture::Accepted
 }
 
 // A captured group reply, with the mask of the slaves that were asked: accepted, or the first word that breaks it.
@@ -258,17 +298,26 @@ pub fn read_group(mask: u32, words: &[u16]) -> Capture
     if !is_mask(mask) {
         return Capture::Broken(0);
     }
-    let mut step = Step::On(Built {
+    let mut built = Built {
         words: 0,
         tally: Tally::Nothing,
-    });
+    };
     let mut s = 0;
     while s < 24 {
-        step = read_slave(words, mask, s, step);
+        let slave = s;
         s += 1;
+        if group::slaves::bit(mask, slave) == 0 {
+            continue;
+        }
+        let k = group::slaves::slaves_above(mask, slave);
+        match read_fragment(words, slave, k, built) {
+            Step::On(next) => {
+                built = next;
+            }
+            Step::Broken(i) => {
+                return Capture::Broken(i);
+            }
+        }
     }
-    match step {
-        Step::On(built) => read_end(words, built),
-        Step::Broken(i) => Capture::Broken(i),
-    }
+    read_end(words, built)
 }

@@ -1,15 +1,13 @@
 -- The numbers of a state are small enough for their places in the state bytes. Assumes nothing.
-use Prim.Native.Nat.{ℕ, _+_, _*_, _/_, _≤_, _<_}
+use Prim.Native.Nat.{ℕ, _*_, _/_, _≤_, _<_}
 use native.Mathlib.Omega.{arith}
 use mathlib.Core.Path.{_≡_, refl}
 use mathlib.Core.Bool.{Bool, true, false, _&&_, _||_, false≢true}
-use lib.ListN.{length}
 use lib.Dec.{ltb, leb, eqb}
 use borrow.Author.Tests.{eqb-true, leb-true, ltb-true}
 use Rattle.base.proofs.Pick.{pick-case, and-left, and-right}
 use Rattle.flash.specs.Geometry.{isSector, bySector, sizeOf}
 use Rattle.flash.specs.declared.Erasing.{Erasing}
-use Rattle.group.specs.Slaves.{hasSlave, above}
 use Rattle.group.specs.Tally.{tallyNumber}
 use Rattle.group.specs.declared.Tally.{Tally}
 use Rattle.group.specs.declared.ZeroLength.{ZeroLength}
@@ -18,6 +16,7 @@ use Rattle.node.specs.declared.Ask.{Ask}
 use Rattle.node.specs.declared.Given.{Given}
 use Rattle.node.specs.declared.Pending.{Pending}
 use Rattle.node.specs.declared.Writing.{Writing}
+use Rattle.node.proofs.Ranges.{gathered-tells}
 use Rattle.codec.specs.StateBytes.{progressOf, waitOf, standingOf}
 
 -- one of two numbers is at most what both are
@@ -84,6 +83,7 @@ pub record WaitSmall (p : Pending) : Type 0 where
   pub tally : waitOf p .tally ≤ 6
   pub set : waitOf p .set < 16777216
   pub words : waitOf p .words ≤ 12288
+  pub received : waitOf p .received ≤ 12288
 
 ask-small : (ports : ℕ) (a : Ask) → ports ≤ 4 → askOk ports a ≡ true → (a .link ≤ 4) × (a .slave ≤ 23)
 ask-small ports a b h =
@@ -92,28 +92,22 @@ ask-small ports a b h =
 
 pub wait-small : (ports : ℕ) (p : Pending) → ports ≤ 4 → pendingOk ports p ≡ true → WaitSmall p
 wait-small ports Pending.Nothing b h =
-    record { pending = omega arith; link = omega arith; slave = omega arith; from = omega arith; tally = omega arith; set = omega arith; words = omega arith }
+    record { pending = omega arith; link = omega arith; slave = omega arith; from = omega arith; tally = omega arith; set = omega arith; words = omega arith; received = omega arith }
 wait-small ports (Pending.Slave a) b h =
     let s = ask-small ports a b h in
-    record { pending = omega arith; link = s .0; slave = s .1; from = omega arith; tally = omega arith; set = omega arith; words = omega arith }
+    record { pending = omega arith; link = s .0; slave = s .1; from = omega arith; tally = omega arith; set = omega arith; words = omega arith; received = omega arith }
 wait-small ports (Pending.Group a g) b h =
     let s = ask-small ports a b (and-left (askOk ports a) (gatheringOk (a .slave) g) h) in
-    let more = and-right (askOk ports a) (gatheringOk (a .slave) g) h in
-    let member = hasSlave (g .set) (a .slave) in
-    let short = ltb (g .set) 16777216 in
-    let total = g .built .words + 5 * (length (above (g .set) (a .slave)) + 1) + 2 in
-    let room = leb total 12288 in
-    let sent = eqb (g .from) 1 || eqb (g .from) 2 in
-    let three = and-left (member && short && room) sent more in
-    let most : total ≤ 12288 = leb-true total 12288 (and-right (member && short) room three) in
+    let r = gathered-tells (a .slave) g (and-right (askOk ports a) (gatheringOk (a .slave) g) h) in
     record {
       pending = omega arith;
       link = s .0;
       slave = s .1;
-      from = one-of (g .from) 1 2 2 (omega arith) (omega arith) (and-right (member && short && room) sent more);
+      from = one-of (g .from) 1 2 2 (omega arith) (omega arith) (r .from);
       tally = tally-small (g .built .tally);
-      set = ltb-true (g .set) 16777216 (and-right member short (and-left (member && short) room three));
-      words = omega arith;
+      set = ltb-true (g .set) 16777216 (r .short);
+      words = omega (arith, r .room);
+      received = omega (arith, r .stored);
     }
 
 pub record WriteSmall (w : Writing) : Type 0 where

@@ -1,5 +1,5 @@
--- The state bytes: the 180 bytes by which a host keeps a node's state. Numbers stand low byte first, and what a case does not use
--- is 0. 01 'Covered' and 'Call refusals', row 5; the last eight are 02's, request 1. Assumes nothing.
+-- The state bytes: the 188 bytes by which a host keeps a node's state. Numbers stand low byte first, and what a case does not use
+-- is 0. 01 'Covered' and 'Call refusals', row 5; from 172 on they are 02's, requests 1 and 8. Assumes nothing.
 use Prim.Native.Nat.{ℕ}
 use mathlib.Core.Bool.{Bool, true, false, _&&_}
 use mathlib.Core.List.{List, [], _∷_, _++_}
@@ -14,7 +14,7 @@ use Rattle.group.specs.Tally.{tallyNumber}
 use Rattle.group.specs.declared.Tally.{Tally}
 use Rattle.group.specs.declared.ZeroLength.{ZeroLength}
 use Rattle.node.specs.State.{node, counts, joining}
-use Rattle.node.specs.Slaves.{ask, gathering}
+use Rattle.node.specs.Slaves.{ask, received, gathering}
 use Rattle.node.specs.Valid.{stateOk}
 use Rattle.node.specs.declared.Counts.{Counts}
 use Rattle.node.specs.declared.Given.{Given}
@@ -45,20 +45,23 @@ abbrev pub erasingOf : Progress → Erasing
 erasingOf p = pick (eqb (p .sector) 0) Erasing.Nothing (Erasing.Sector p)
 
 -- What is pending: 0 nothing, 1 one slave, 2 a group; and the numbers of the case.
-abbrev pub wait : ℕ → ℕ → ℕ → ℕ → ℕ → ℕ → ℕ → ℕ → Wait
-wait pending link slave from tally set at words =
-    record { pending = pending; link = link; slave = slave; from = from; tally = tally; set = set; at = at; words = words }
+abbrev pub wait : ℕ → ℕ → ℕ → ℕ → ℕ → ℕ → ℕ → ℕ → ℕ → ℕ → Wait
+wait pending link slave from tally set at words received status =
+    record { pending = pending; link = link; slave = slave; from = from; tally = tally; set = set; at = at; words = words; received = received; «rx_status» = status }
 
 abbrev pub waitOf : Pending → Wait
-waitOf Pending.Nothing = wait 0 0 0 0 0 0 0 0
-waitOf (Pending.Slave a) = wait 1 (a .link) (a .slave) 0 0 0 (a .at) 0
-waitOf (Pending.Group a g) = wait 2 (a .link) (a .slave) (g .from) (tallyNumber (g .built .tally)) (g .set) (a .at) (g .built .words)
+waitOf Pending.Nothing = wait 0 0 0 0 0 0 0 0 0 0
+waitOf (Pending.Slave a) = wait 1 (a .link) (a .slave) 0 0 0 (a .at) 0 0 0
+waitOf (Pending.Group a g) =
+    wait 2 (a .link) (a .slave) (g .from) (tallyNumber (g .built .tally)) (g .set) (a .at) (g .built .words) (g .received .words)
+    (g .received .«rx_status»)
 
 abbrev pub pendingOf : Wait → Pending
 pendingOf w =
     pick (eqb (w .pending) 1) (Pending.Slave (ask (w .link) (w .slave) (w .at)))
     (pick (eqb (w .pending) 2)
-    (Pending.Group (ask (w .link) (w .slave) (w .at)) (gathering (w .set) (w .from) (built (w .words) (tallyOf (w .tally)))))
+    (Pending.Group (ask (w .link) (w .slave) (w .at))
+    (gathering (w .set) (w .from) (built (w .words) (tallyOf (w .tally))) (received (w .received) (w .«rx_status»))))
     Pending.Nothing)
 
 -- The write that stands: 0 none, 1 one; its link, and its words joined.
@@ -104,19 +107,21 @@ numbersOf n =
     firstNumbers (n .given) (n .mode) (n .counts)
     ++ (middleNumbers (n .given) (progressOf (n .erasing)) (waitOf (n .pending)) ++ lastNumbers (waitOf (n .pending)))
 
--- At 172, whether a write stands, its link, two bytes that are always 0, and its words joined.
-abbrev pub writeSizes : List ℕ
-writeSizes = 1 ∷ 1 ∷ 2 ∷ 4 ∷ []
+-- What 02 adds: at 172, whether a write stands, its link, two bytes that are always 0, and its words joined (request 1); at 180, of a group, the
+-- words received of a reply in packets, the RX status of the last packet, and two bytes that are always 0 (request 8).
+abbrev pub tailSizes : List ℕ
+tailSizes = 1 ∷ 1 ∷ 2 ∷ 4 ∷ 4 ∷ 2 ∷ 2 ∷ []
 
-abbrev pub writeNumbers : Standing → List ℕ
-writeNumbers s = s .write ∷ s .link ∷ 0 ∷ s .words ∷ []
+abbrev pub tailNumbers : Standing → Wait → List ℕ
+tailNumbers s w = s .write ∷ s .link ∷ 0 ∷ s .words ∷ w .received ∷ w .«rx_status» ∷ 0 ∷ []
 
-abbrev pub writeBytes : Writing → List ℕ
-writeBytes w = packed writeSizes (writeNumbers (standingOf w))
+abbrev pub tailBytes : Writing → Pending → List ℕ
+tailBytes w p = packed tailSizes (tailNumbers (standingOf w) (waitOf p))
 
--- The bytes of a state: its numbers; at 44 the masks, four bytes each; at 108 the directory's words; at 172 the write that stands.
+-- The bytes of a state: its numbers; at 44 the masks, four bytes each; at 108 the directory's words; at 172 what 02 adds.
 unfoldable pub encodeOf : Node → List ℕ
-encodeOf n = packed sizes (numbersOf n) ++ (bytesOf 4 (n .masks) ++ (bytesOf 2 (n .directory) ++ writeBytes (n .writing)))
+encodeOf n =
+    packed sizes (numbersOf n) ++ (bytesOf 4 (n .masks) ++ (bytesOf 2 (n .directory) ++ tailBytes (n .writing) (n .pending)))
 
 -- The node that bytes stand for.
 abbrev pub portsIn : List ℕ → ℕ
@@ -144,7 +149,7 @@ progressIn bytes = progress (numberAt 1 14 bytes) (numberAt 4 24 bytes)
 abbrev pub waitIn : List ℕ → Wait
 waitIn bytes =
     wait (numberAt 1 15 bytes) (numberAt 1 28 bytes) (numberAt 1 29 bytes) (numberAt 1 30 bytes) (numberAt 1 31 bytes) (numberAt 4 32 bytes)
-    (numberAt 4 36 bytes) (numberAt 4 40 bytes)
+    (numberAt 4 36 bytes) (numberAt 4 40 bytes) (numberAt 4 180 bytes) (numberAt 2 184 bytes)
 
 abbrev pub standingIn : List ℕ → Standing
 standingIn bytes = standing (numberAt 1 172 bytes) (numberAt 1 173 bytes) (numberAt 4 176 bytes)
@@ -162,6 +167,6 @@ alike [] (y ∷ ys) = false
 alike (x ∷ xs) [] = false
 alike (x ∷ xs) (y ∷ ys) = eqb x y && alike xs ys
 
--- Bytes are those of a state: they are 180, they are the very bytes of the node that they stand for, and its state is one of 01's and 02's.
+-- Bytes are those of a state: they are 188, they are the very bytes of the node that they stand for, and its state is one of 01's and 02's.
 unfoldable pub areState : List ℕ → Bool
-areState bytes = eqb (length bytes) 180 && (alike (encodeOf (nodeIn bytes)) bytes && stateOk (nodeIn bytes))
+areState bytes = eqb (length bytes) 188 && (alike (encodeOf (nodeIn bytes)) bytes && stateOk (nodeIn bytes))

@@ -13,6 +13,8 @@ pub struct Wait {
     pub set: u32,
     pub at: u32,
     pub words: usize,
+    pub received: usize,
+    pub rx_status: u16,
 }
 
 // The write that stands, as the numbers in the state bytes: 0 none, 1 one; what the case does not use is 0.

@@ -1,10 +1,10 @@
-// The state bytes: a node's state to its 180 bytes and back.
+// The state bytes: a node's state to its 188 bytes and back.
 ghost use mathlib.Core.Path.{_≡_};
 ghost use lib.ListN.{length, drop};
 ghost use Rattle.codec.specs.Bytes.{wordsIn};
 ghost use Rattle.codec.specs.Places.{putAll, packed};
 ghost use Rattle.base.specs.Words.{laid};
-ghost use Rattle.codec.specs.StateBytes.{tallyOf, progressOf, erasingOf, waitOf, pendingOf, standingOf, writingOf, firstSizes, firstNumbers, middleSizes, middleNumbers, lastSizes, lastNumbers, sizes, numbersOf, writeBytes, encodeOf, givenIn, progressIn, waitIn, standingIn, nodeIn, alike, areState};
+ghost use Rattle.codec.specs.StateBytes.{tallyOf, progressOf, erasingOf, waitOf, pendingOf, standingOf, writingOf, firstSizes, firstNumbers, middleSizes, middleNumbers, lastSizes, lastNumbers, sizes, numbersOf, tailBytes, encodeOf, givenIn, progressIn, waitIn, standingIn, nodeIn, alike, areState};
 use crate::Standing;
 use crate::Wait;
 use crate::words::byte;
@@ -20,6 +20,7 @@ use crate::words::word32;
 use flash::Erasing;
 use flash::Progress;
 use group::Built;
+use group::Received;
 use group::Tally;
 use group::ZeroLength;
 use group::judge::tally_number;
@@ -77,6 +78,8 @@ fn wait_of(pending: Pending) -> Wait
             set: 0,
             at: 0,
             words: 0,
+            received: 0,
+            rx_status: 0,
         },
         Pending::Slave(ask) => Wait {
             pending: 1,
@@ -87,9 +90,12 @@ fn wait_of(pending: Pending) -> Wait
             set: 0,
             at: ask.at,
             words: 0,
+            received: 0,
+            rx_status: 0,
         },
         Pending::Group(ask, gathering) => {
             let built = gathering.built;
+            let received = gathering.received;
             let built_tally = built.tally;
             let tally = tally_number(built_tally);
             Wait {
@@ -101,6 +107,8 @@ fn wait_of(pending: Pending) -> Wait
                 set: gathering.set,
                 at: ask.at,
                 words: built.words,
+                received: received.words,
+                rx_status: received.rx_status,
             }
         }
     }
@@ -126,6 +134,10 @@ fn pending_of(wait: Wait) -> Pending
             set: wait.set,
             from: wait.from,
             built,
+            received: Received {
+                words: wait.received,
+                rx_status: wait.rx_status,
+            },
         };
         return Pending::Group(ask, gathering);
     }
@@ -162,7 +174,7 @@ fn writing_of(standing: Standing) -> Writing
 }
 
 fn put_first(given: Given, mode: u16, counts: Counts, bytes: &mut [u8])
-    requires { ⌜ length (now bytes) ≡ 180 ⌝ }
+    requires { ⌜ length (now bytes) ≡ 188 ⌝ }
     ensures { λ _. ⌜ now (bytes .exit) ≡ putAll 0 firstSizes (firstNumbers given mode counts) (now (bytes .entry)) ⌝ }
 {
     put8(bytes, 0, given.kind as u64);
@@ -177,7 +189,7 @@ fn put_first(given: Given, mode: u16, counts: Counts, bytes: &mut [u8])
 }
 
 fn put_middle(given: Given, progress: Progress, wait: Wait, bytes: &mut [u8])
-    requires { ⌜ length (now bytes) ≡ 180 ⌝ }
+    requires { ⌜ length (now bytes) ≡ 188 ⌝ }
     ensures { λ _. ⌜ now (bytes .exit) ≡ putAll 14 middleSizes (middleNumbers given progress wait) (now (bytes .entry)) ⌝ }
 {
     put8(bytes, 14, progress.sector as u64);
@@ -192,7 +204,7 @@ fn put_middle(given: Given, progress: Progress, wait: Wait, bytes: &mut [u8])
 }
 
 fn put_last(wait: Wait, bytes: &mut [u8])
-    requires { ⌜ length (now bytes) ≡ 180 ⌝ }
+    requires { ⌜ length (now bytes) ≡ 188 ⌝ }
     ensures { λ _. ⌜ now (bytes .exit) ≡ putAll 32 lastSizes (lastNumbers wait) (now (bytes .entry)) ⌝ }
 {
     put32(bytes, 32, wait.set as u64);
@@ -202,7 +214,7 @@ fn put_last(wait: Wait, bytes: &mut [u8])
 
 // Stores a state's numbers.
 fn put_numbers(node: Node, bytes: &mut [u8])
-    requires { ⌜ length (now bytes) ≡ 180 ⌝ }
+    requires { ⌜ length (now bytes) ≡ 188 ⌝ }
     ensures { λ _. ⌜ now (bytes .exit) ≡ laid (now (bytes .entry)) 0 (packed sizes (numbersOf node)) ⌝ }
 {
     let given = node.given;
@@ -216,21 +228,25 @@ fn put_numbers(node: Node, bytes: &mut [u8])
     put_last(wait, bytes);
 }
 
-// Stores the write that stands.
-fn put_writing(writing: Writing, bytes: &mut [u8])
-    requires { ⌜ length (now bytes) ≡ 180 ⌝ }
-    ensures { λ _. ⌜ now (bytes .exit) ≡ laid (now (bytes .entry)) 172 (writeBytes writing) ⌝ }
+// Stores what 02 adds: the write that stands, and what is received of a reply in packets.
+fn put_tail(writing: Writing, pending: Pending, bytes: &mut [u8])
+    requires { ⌜ length (now bytes) ≡ 188 ⌝ }
+    ensures { λ _. ⌜ now (bytes .exit) ≡ laid (now (bytes .entry)) 172 (tailBytes writing pending) ⌝ }
 {
     let standing = standing_of(writing);
+    let wait = wait_of(pending);
     put8(bytes, 172, standing.write as u64);
     put8(bytes, 173, standing.link as u64);
     put16(bytes, 174, 0);
     put32(bytes, 176, standing.words as u64);
+    put32(bytes, 180, wait.received as u64);
+    put16(bytes, 184, wait.rx_status as u64);
+    put16(bytes, 186, 0);
 }
 
 // Stores a state's bytes.
 pub fn encode(node: Node, bytes: &mut [u8])
-    requires { ⌜ length (now bytes) ≡ 180 ⌝ }
+    requires { ⌜ length (now bytes) ≡ 188 ⌝ }
     ensures { λ _. ⌜ now (bytes .exit) ≡ encodeOf node ⌝ }
 {
     put_numbers(node, bytes);
@@ -239,11 +255,12 @@ pub fn encode(node: Node, bytes: &mut [u8])
     let directory = node.directory;
     store16(&directory, &mut bytes[108..172]);
     let writing = node.writing;
-    put_writing(writing, bytes);
+    let pending = node.pending;
+    put_tail(writing, pending, bytes);
 }
 
 fn masks_in(bytes: &[u8]) -> [u32; 16]
-    requires { ⌜ length (now bytes) ≡ 180 ⌝ }
+    requires { ⌜ length (now bytes) ≡ 188 ⌝ }
     ensures { λ r. ⌜ r ≡ wordsIn 4 16 (drop 44 (now (bytes .entry))) ⌝ }
 {
     let mut words = [0u32; 16];
@@ -252,7 +269,7 @@ fn masks_in(bytes: &[u8]) -> [u32; 16]
 }
 
 fn directory_in(bytes: &[u8]) -> [u16; 32]
-    requires { ⌜ length (now bytes) ≡ 180 ⌝ }
+    requires { ⌜ length (now bytes) ≡ 188 ⌝ }
     ensures { λ r. ⌜ r ≡ wordsIn 2 32 (drop 108 (now (bytes .entry))) ⌝ }
 {
     let mut words = [0u16; 32];
@@ -261,7 +278,7 @@ fn directory_in(bytes: &[u8]) -> [u16; 32]
 }
 
 fn given_in(bytes: &[u8]) -> Given
-    requires { ⌜ length (now bytes) ≡ 180 ⌝ }
+    requires { ⌜ length (now bytes) ≡ 188 ⌝ }
     ensures { λ r. ⌜ r ≡ givenIn (now (bytes .entry)) ⌝ }
 {
     Given {
@@ -277,7 +294,7 @@ fn given_in(bytes: &[u8]) -> Given
 }
 
 fn progress_in(bytes: &[u8]) -> Progress
-    requires { ⌜ length (now bytes) ≡ 180 ⌝ }
+    requires { ⌜ length (now bytes) ≡ 188 ⌝ }
     ensures { λ r. ⌜ r ≡ progressIn (now (bytes .entry)) ⌝ }
 {
     Progress {
@@ -287,7 +304,7 @@ fn progress_in(bytes: &[u8]) -> Progress
 }
 
 fn wait_in(bytes: &[u8]) -> Wait
-    requires { ⌜ length (now bytes) ≡ 180 ⌝ }
+    requires { ⌜ length (now bytes) ≡ 188 ⌝ }
     ensures { λ r. ⌜ r ≡ waitIn (now (bytes .entry)) ⌝ }
 {
     Wait {
@@ -299,11 +316,13 @@ fn wait_in(bytes: &[u8]) -> Wait
         set: word32(bytes, 32),
         at: word32(bytes, 36),
         words: word32(bytes, 40) as usize,
+        received: word32(bytes, 180) as usize,
+        rx_status: word16(bytes, 184),
     }
 }
 
 fn standing_in(bytes: &[u8]) -> Standing
-    requires { ⌜ length (now bytes) ≡ 180 ⌝ }
+    requires { ⌜ length (now bytes) ≡ 188 ⌝ }
     ensures { λ r. ⌜ r ≡ standingIn (now (bytes .entry)) ⌝ }
 {
     Standing {
@@ -315,7 +334,7 @@ fn standing_in(bytes: &[u8]) -> Standing
 
 // The node that bytes stand for.
 pub fn node_in(bytes: &[u8]) -> Node
-    requires { ⌜ length (now bytes) ≡ 180 ⌝ }
+    requires { ⌜ length (now bytes) ≡ 188 ⌝ }
     ensures { λ r. ⌜ r ≡ nodeIn (now (bytes .entry)) ⌝ }
 {
     let masks = masks_in(bytes);
@@ -359,15 +378,16 @@ fn same(a: &[u8], b: &[u8]) -> bool
 pub fn is_state(bytes: &[u8]) -> bool
     ensures { λ r. ⌜ r ≡ areState (now (bytes .entry)) ⌝ }
 {
-    if bytes.len() != 180 {
+    if bytes.len() != 188 {
         return false;
     }
     let node = node_in(bytes);
-    let mut again = [0u8; 180];
+    let mut again = [0u8; 188];
     let writing = node.writing;
+    let pending = node.pending;
     put_numbers(node, &mut again);
-    put_writing(writing, &mut again);
+    put_tail(writing, pending, &mut again);
     same(&again[..44], &bytes[..44])
-        & same(&again[172..180], &bytes[172..180])
+        & same(&again[172..188], &bytes[172..188])
         & node::valid::state_ok(node)
 }

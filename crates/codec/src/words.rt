@@ -147,9 +147,8 @@ pub fn blank16(bytes: &mut [u8], at: usize, n: usize)
     }
 }
 
-// A word of a packet; 0 where it has none.
+// A word of a packet, or of another run; 0 where it has none.
 pub fn packet_word(packet: &[u8], at: usize) -> u16
-    requires { ⌜ at < 8193 ⌝ }
     ensures { λ r. ⌜ r ≡ getD (wordsOf 2 (now (packet .entry))) at 0 ⌝ }
 {
     if packet.len() / 2 <= at {

@@ -1,47 +1,41 @@
--- The data of a group's reply are acceptable: they are our node's own assembly, of answers that came over the wire. Assumes nothing.
+-- The data of a group's reply are acceptable: they are our node's own assembly, of answers that came over the wire and each ended what its slave
+-- had to say. Assumes nothing.
 use Prim.Native.Nat.{ℕ, _+_, _*_, _≤_, _<_}
 use mathlib.Core.Path.{_≡_, sym, ap, subst, _∙_}
-use mathlib.Core.Bool.{Bool, true, _&&_, _||_}
+use mathlib.Core.Bool.{true}
 use mathlib.Core.List.{List}
 use native.Mathlib.Omega.{arith}
 use borrow.Author.Tests.{ltb-true}
-use lib.Dec.{ltb, leb, eqb}
 use lib.ListN.{length, take, length-append}
 use Rattle.base.specs.Words.{laid}
-use Rattle.base.proofs.Pick.{and-left, and-right}
+use Rattle.base.proofs.Pick.{and-right}
 use Rattle.base.proofs.Laid.{part-laid}
 use Rattle.group.specs.Kind.{Answer as SlaveAnswer}
 use Rattle.group.specs.Tally.{tallyFrom}
-use Rattle.group.specs.Slaves.{hasSlave, above}
 use Rattle.group.specs.Fragment.{built}
 use Rattle.group.specs.Ending.{Sent, sent, replied, trailer, groupStatus}
 use Rattle.group.specs.Whole.{kindsOf, assembled, dataReply, groupSent, groupOf}
-use Rattle.group.specs.declared.Built.{Built}
 use Rattle.group.specs.declared.Reply.{Reply}
 use Rattle.group.specs.declared.Tally.{Tally}
 use Rattle.group.proofs.Groups.{group-sent}
 use Rattle.capture.specs.Acceptable.{AllOnWire, Acceptable}
 use Rattle.capture.proofs.Masks.{is-mask}
 use Rattle.capture.proofs.Accepts.{five-each}
-use Rattle.node.specs.Valid.{askOk, pendingOk}
+use Rattle.node.specs.Valid.{askOk, gatheringOk, pendingOk}
 use Rattle.node.specs.Settings.{statusIn}
-use Rattle.node.specs.Slaves.{ask, gathering}
+use Rattle.node.specs.Slaves.{ask, nothingReceived, gathering}
 use Rattle.node.specs.declared.Answer.{Answer}
+use Rattle.node.specs.declared.Ask.{Ask}
+use Rattle.node.specs.declared.Gathering.{Gathering}
 use Rattle.node.specs.declared.Pending.{Pending}
-use Rattle.node.proofs.Ranges.{ranges-tell}
+use Rattle.node.proofs.Ranges.{ranges-tell, gathered-tells}
 use Rattle.demands.specs.Machine.{logodwen}
 use Rattle.demands.specs.Groups.{setAsked, GroupRun, AllHeard, begun, atLast, slaves, said, DataIsAcceptable}
-use Rattle.demands.proofs.Groups.{Over, begins, stands}
+use Rattle.demands.proofs.Groups.{Over, begins, stands, withPackets, long}
 
 -- the set of a pending group has 24 bits
-set-below : (ports link s at set from : ℕ) (b : Built) → pendingOk ports (Pending.Group (ask link s at) (gathering set from b)) ≡ true → set < 16777216
-set-below ports link s at set from b h =
-    let t : Bool = hasSlave set s in
-    let u : Bool = ltb set 16777216 in
-    let v : Bool = leb (b .words + 5 * (length (above set s) + 1) + 2) 12288 in
-    let x : Bool = eqb from 1 || eqb from 2 in
-    let g = and-right (askOk ports (ask link s at)) (t && u && v && x) h in
-    ltb-true set 16777216 (and-right t u (and-left (t && u) v (and-left (t && u && v) x g)))
+set-below : (ports : ℕ) (a : Ask) (g : Gathering) → pendingOk ports (Pending.Group a g) ≡ true → g .set < 16777216
+set-below ports a g h = ltb-true (g .set) 16777216 (gathered-tells (a .slave) g (and-right (askOk ports a) (gatheringOk (a .slave) g) h) .short)
 
 -- a whole group that sends words sends data: they stand at the front of the buffer
 
@@ -80,24 +74,25 @@ sent-data r all wire reply e n =
     let set : ℕ = setAsked (r .node) (r .packet) in
     let s = stands r in
     let b = begins r in
-    let x : Sent = groupOf (r .lent .reply) (slaves r) (said r) (statusIn (r .node)) in
+    let x : Sent = groupOf (withPackets r) (slaves r) (said r) (statusIn (r .node)) in
     let o : Over (atLast r) x = s .ended all in
     let same : x .reply ≡ reply = same-reply (sym (o .reply) ∙ e) in
     let pending = ranges-tell (begun r .turn .node) (b .going .ok) .pending in
     let ok = subst (λ (p : Pending). pendingOk (begun r .turn .node .given .ports) p ≡ true) (b .going .pending) pending in
-    let below : set < 16777216 = set-below (begun r .turn .node .given .ports) (r .link) (b .first) (r .clock) set (b .from) (built 0 Tally.Nothing) ok in
+    let below : set < 16777216 = set-below (begun r .turn .node .given .ports) (ask (r .link) (b .first) (r .clock)) (gathering set (b .from) (built 0 Tally.Nothing) nothingReceived) ok in
     let some : 0 < x .reply .words = subst (λ (y : Reply). 0 < y .words) (sym same) n in
-    let sends = sends-front (r .lent .reply) (slaves r) (said r) (statusIn (r .node)) (five-each set) (s .space) some in
+    let sends = sends-front (withPackets r) (slaves r) (said r) (statusIn (r .node)) (five-each set) (long r) some in
     let acceptable : Acceptable set (front x) =
     record {
       slaves = is-mask set (s .some) below;
       said = said r;
       each = all;
       wire = wire;
+      ends = s .ends;
       tests = r .node .given .«start_tests»;
       mode = r .node .mode;
-      buffer = r .lent .reply;
-      room = s .space;
+      buffer = withPackets r;
+      room = long r;
       some = subst (λ (y : Sent). 0 < y .reply .words) sends some;
       sends = sends;
     } in

@@ -68,6 +68,7 @@ replyIn (Answer.Refused x) r = r
 replyIn Answer.Started r = r
 replyIn (Answer.Reply x) r = x
 replyIn (Answer.Ask a) r = r
+replyIn (Answer.Next s) r = r
 replyIn Answer.Waiting r = r
 replyIn (Answer.Erased count) r = r
 

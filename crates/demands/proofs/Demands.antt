@@ -15,7 +15,9 @@ use Rattle.demands.proofs.Packets.{any-division, left-alone}
 use Rattle.demands.proofs.Asks.{group-is-asked}
 use Rattle.demands.proofs.Starts.{starts-full}
 use Rattle.demands.proofs.Groups.{group-is-its-fragments, asked-in-order, each-asked-once, fragments-stand, nothing-past-the-words}
+use Rattle.demands.proofs.PacketsStore.{packets-store}
 use Rattle.demands.proofs.Captures.{data-is-acceptable}
+use Rattle.demands.proofs.Ends.{each-lowers-or-stores, always-ends, never-asked-twice, settled-in-time, dead-end-in-time, all-end-in-time}
 use Rattle.demands.proofs.ClosedRun.{closed-run}
 
 pub demands : Demands logodwen
@@ -40,7 +42,14 @@ demands =
       each-asked-once = each-asked-once;
       fragments-stand = fragments-stand;
       nothing-past-the-words = nothing-past-the-words;
+      packets-store = packets-store;
       data-is-acceptable = data-is-acceptable;
+      each-lowers-or-stores = each-lowers-or-stores;
+      always-ends = always-ends;
+      never-asked-twice = never-asked-twice;
+      settled-in-time = settled-in-time;
+      dead-end-in-time = dead-end-in-time;
+      all-end-in-time = all-end-in-time;
       closed-run = closed-run;
       no-stale-record = no-stale-record;
       lengths-shown = lengths-shown;

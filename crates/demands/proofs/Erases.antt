@@ -103,7 +103,7 @@ module _ (n : Node) (flash : List ℕ) (erases : isErasing (n .erasing) ≡ true
       record { erasing = erasure-follows .reply n clock slave bc errors status address words reply; words = refl; count = count (replyVerdict n slave (length reply)) }
     where
       count : (v : Verdict) → countOf (judged v n (lentReply reply) (replyEffect n clock errors status address bc words reply) .turn .answer) ≡ 0
-      count Verdict.Fine = reply-answer CountsNone (λ _. refl) (λ _. refl) refl n clock errors status address bc words reply
+      count Verdict.Fine = reply-answer CountsNone (λ _. refl) (λ _. refl) (λ _. refl) refl n clock errors status address bc words reply
       count (Verdict.No r) = refl
 
   poll-leaves : (clock : ℕ) (reply : List ℕ) → Leaves (Call.Poll clock reply) n flash
@@ -111,7 +111,7 @@ module _ (n : Node) (flash : List ℕ) (erases : isErasing (n .erasing) ≡ true
   poll-leaves clock reply = record { erasing = erasure-follows .poll n clock reply; words = refl; count = count (pollVerdict n (length reply)) }
     where
       count : (v : Verdict) → countOf (judged v n (lentReply reply) (pollEffect n clock reply) .turn .answer) ≡ 0
-      count Verdict.Fine = poll-answer CountsNone (λ _. refl) (λ _. refl) refl n clock reply
+      count Verdict.Fine = poll-answer CountsNone (λ _. refl) (λ _. refl) (λ _. refl) refl n clock reply
       count (Verdict.No r) = refl
 
 -- the erasure of a sector just begun

@@ -1,51 +1,60 @@
--- One call of a group's host: it is nothing to the group, or a slave is heard and the next one asked, or the last one is heard and the
--- group ends. By walking what refuses the call and what it does. Assumes nothing.
-use Prim.Native.Nat.{ℕ, suc, _+_, _≤_}
+-- One call of a group's host: it is nothing to the group, or a packet of the asked slave is stored, or a slave's answer ends and the next one is
+-- asked, or the last one's ends and with it the group. By walking what refuses the call and what it does. Assumes nothing.
+use Prim.Native.Nat.{ℕ, suc, _+_, _*_, _≤_}
 use mathlib.Core.Path.{_≡_, refl, sym, ap, _∙_, subst}
-use mathlib.Core.Bool.{Bool, true, false, _&&_, _||_, not, false≢true}
-use mathlib.Core.List.{List, [], _∷_, append-nil}
+use mathlib.Core.Bool.{Bool, true, false, _&&_, _||_, not}
+use mathlib.Core.List.{List, [], _∷_, _++_, append-nil}
 use native.Mathlib.Omega.{arith}
 use lib.Dec.{eqb, leb, ltb}
-use lib.ListN.{length}
+use lib.ListN.{length, length-append}
 use borrow.Author.Tests.{eq-eqb, eqb-true, leb-false, le-ltb, leb-true}
 use Rattle.base.specs.Pick.{pick}
+use Rattle.base.specs.Words.{part, laid}
 use Rattle.base.proofs.Pick.{yes, no, pick-case, and-left, and-right}
+use Rattle.base.proofs.Laid.{laid-none}
 use Rattle.memory.specs.Segment.{Memories}
 use Rattle.group.specs.Time.{isLate}
-use Rattle.group.specs.Kind.{answer, Answer as SlaveAnswer}
+use Rattle.group.specs.Kind.{packet, kindOf, partBy, isPart, Answer as SlaveAnswer}
+use Rattle.group.specs.Tally.{tallied}
 use Rattle.group.specs.Slaves.{above, nextOf}
-use Rattle.group.specs.Fragment.{Assembly, assembly, taken}
-use Rattle.group.specs.declared.Built.{Built}
+use Rattle.group.specs.Fragment.{fragmentOf, Assembly, assembly, built, taken}
 use Rattle.group.specs.declared.Heard.{Heard}
 use Rattle.group.specs.declared.Next.{Next}
+use Rattle.group.specs.declared.Tally.{Tally}
 use Rattle.group.proofs.Sets.{up-tells}
-use Rattle.group.proofs.Takes.{taken-changes}
+use Rattle.group.proofs.Takes.{taken-fits}
 use Rattle.node.specs.State.{turn}
 use Rattle.node.specs.Valid.{pendingOk, writingOk, stateOk, askOk, gatheringOk}
 use Rattle.node.specs.Refusals.{isPending, isAsked, requestVerdict, replyVerdict, pollVerdict, eraseVerdict}
 use Rattle.node.specs.Route.{bcOf, asks, writes, drops, routeOf}
 use Rattle.node.specs.Settings.{statusIn}
 use Rattle.node.specs.Effect.{Effect, only, Further, Lent, lent, Outcome, nodeAfter, Join, writingAfter}
-use Rattle.node.specs.Slaves.{ask, gathering, heard, silent, goesOn, hears, askedAt, withAmswire, errorIn, replyEffect, pollEffect}
+use Rattle.node.specs.Slaves.{ask, received, nothingReceived, gathering, heard, silent, goesOn, awaits, hears, askedAt, withAmswire, errorIn, replyEffect, pollEffect}
 use Rattle.node.specs.Calls.{judged, lentReply, lentFlash, pendingWithout, routed, requestOf, replyOf, pollOf, eraseEffect, eraseOf}
 use Rattle.node.specs.declared.Answer.{Answer}
+use Rattle.node.specs.declared.Ask.{Ask}
+use Rattle.node.specs.declared.Gathering.{Gathering}
 use Rattle.node.specs.declared.Node.{Node}
 use Rattle.node.specs.declared.Pending.{Pending}
 use Rattle.node.specs.declared.Refusal.{Refusal}
 use Rattle.node.specs.declared.Route.{Route}
 use Rattle.node.specs.declared.Verdict.{Verdict}
-use Rattle.node.proofs.Ranges.{ranges-tell, ranges-told, gathers-pending}
+use Rattle.node.proofs.Ranges.{ranges-tell, ranges-told, Gathered, gathered-tells, gathers-pending}
 use Rattle.node.proofs.Verdicts.{erase-fine, request-fine}
 use Rattle.demands.specs.Machine.{logodwen}
-use Rattle.demands.specs.Events.{Event, Host, host, stepped, dropsGroup}
+use Rattle.demands.specs.Events.{Event, Host, host, stepped, dropsGroup, Awaited, asked, sentNext}
 use Rattle.demands.proofs.Sound.{step-valid}
+use Rattle.demands.proofs.Stored.{laid-longer, stored-part, stored-more, stored-under}
 
--- a group in progress: slave s asked at a clock for a link, those of ss to follow, so much built in the buffer
-pub record Going (link from set own at s : ℕ) (ss : List ℕ) (b : Built) (h : Host) : Type 0 where
-  pub pending : h .turn .node .pending ≡ Pending.Group (ask link s at) (gathering set from b)
+-- a group in progress: slave s awaited so for a link, those of ss to follow, w words built at the front of the buffer; and what was stored of its
+-- reply stands one word behind them
+pub record Going (link from set own : ℕ) (x : Awaited) (s : ℕ) (ss base front : List ℕ) (w : ℕ) (t : Tally) (h : Host) : Type 0 where
+  pub pending : h .turn .node .pending ≡ Pending.Group (ask link s (x .at)) (gathering set from (built w t) (received (length (x .earlier)) (x .kept)))
   pub rest : above set s ≡ ss
   pub ok : stateOk (h .turn .node) ≡ true
-  pub space : 12288 ≤ length (h .buffer)
+  pub long : 12288 ≤ length base
+  pub words : length front ≡ w
+  pub buffer : h .buffer ≡ laid (laid base 0 front) (w + 1) (x .earlier)
   pub status : statusIn (h .turn .node) ≡ own
 
 -- a call that is nothing to the group
@@ -79,11 +88,11 @@ erase-quiet h budget = go (eraseVerdict n (length flash)) refl
     go (Verdict.No r) e = record { pending = refl; ok = λ v. v; buffer = refl; status = refl; asked = append-nil (h .asked) }
 
 -- a request that does not drop the group is refused, or has 0 words
-pub request-quiet : {link from set own at s : ℕ} {ss : List ℕ} {b : Built} {h : Host} → Going link from set own at s ss b h
-    → (clock l bc : ℕ) (errors : Bool) (packet : List ℕ) (m : Memories) (x : Further) → dropsGroup link (Event.Requested clock l bc errors packet m x) ≡ false
-    → Quiet h (stepped logodwen (Event.Requested clock l bc errors packet m x) h)
+pub request-quiet : {link from set own : ℕ} {x : Awaited} {s : ℕ} {ss base front : List ℕ} {w : ℕ} {t : Tally} {h : Host} → Going link from set own x s ss base front w t h
+    → (clock l bc : ℕ) (errors : Bool) (packet : List ℕ) (m : Memories) (y : Further) → dropsGroup link (Event.Requested clock l bc errors packet m y) ≡ false
+    → Quiet h (stepped logodwen (Event.Requested clock l bc errors packet m y) h)
 unfolding requestOf routeOf stateOk
-request-quiet {link} {from} {set} {own} {at} {s} {ss} {b} {h} k clock l bc errors packet m x d = go verdict refl
+request-quiet {link = link} {h = h} k clock l bc errors packet m x d = go verdict refl
   where
     n : Node
     n = h .turn .node
@@ -149,104 +158,229 @@ request-quiet {link} {from} {set} {own} {at} {s} {ss} {b} {h} k clock l bc error
 abbrev pub becomes : Host → Effect → Host
 becomes h e = host (h .asked) (turn (nodeAfter (h .turn .node) [] e) (e .answer)) (h .flash) (e .reply)
 
--- what it does when slave s is heard with those of ss to follow
-abbrev pub hearing : Host → (link from set at s : ℕ) → List ℕ → Built → ℕ → Bool → SlaveAnswer → Effect
-hearing h link from set at s ss b clock errors a =
-    withAmswire errors
-    (goesOn (h .turn .node) (ask link s at) (gathering set from b) clock (taken (assembly (h .buffer) b) (length ss) s a) (nextOf ss))
+module _ {link from set own : ℕ} {x : Awaited} {s : ℕ} {ss base front : List ℕ} {w : ℕ} {t : Tally} {h : Host} (k : Going link from set own x s ss base front w t h) where
+  abbrev n : Node
+  n = h .turn .node
 
-module _ {link from set own at s : ℕ} {ss : List ℕ} {b : Built} {h : Host} (k : Going link from set own at s ss b h) (clock : ℕ) where
-  pub group-ok : pendingOk (h .turn .node .given .ports) (Pending.Group (ask link s at) (gathering set from b)) ≡ true
-  group-ok = ap (pendingOk (h .turn .node .given .ports)) (sym (k .pending)) ∙ ranges-tell (h .turn .node) (k .ok) .pending
+  abbrev asks′ : Ask
+  asks′ = ask link s (x .at)
+
+  abbrev group : Gathering
+  group = gathering set from (built w t) (received (length (x .earlier)) (x .kept))
+
+  group-ok : pendingOk (n .given .ports) (Pending.Group asks′ group) ≡ true
+  group-ok = ap (pendingOk (n .given .ports)) (sym (k .pending)) ∙ ranges-tell n (k .ok) .pending
 
   slave-most : s ≤ 23
   slave-most =
-      let ports : ℕ = h .turn .node .given .ports in
-      leb-true s 23 (and-right (ltb link ports) (leb s 23) (and-left (askOk ports (ask link s at)) (gatheringOk s (gathering set from b)) group-ok))
+      let ports : ℕ = n .given .ports in
+      leb-true s 23 (and-right (ltb link ports) (leb s 23) (and-left (askOk ports asks′) (gatheringOk s group) group-ok))
 
-  module _ (slave bc : ℕ) (errors : Bool) (status address : ℕ) (words : List ℕ) where
-    abbrev reply : Event
-    reply = Event.Replied clock slave bc errors status address words
+  gathered : Gathered s group
+  gathered = gathered-tells s group (and-right (askOk (n .given .ports) asks′) (gatheringOk s group) group-ok)
 
-    abbrev hears′ : Heard
-    hears′ = heard (isLate clock at) errors status address bc
+  -- the room of one more fragment, and that of the words received
+  pub room : w + 5 * (length ss + 1) + 2 ≤ 12288
+  room = subst (λ (y : List ℕ). w + 5 * (length y + 1) + 2 ≤ 12288) (k .rest) (gathered .room)
 
-    -- the asked slave's reply is taken
-    reply-fine : eqb s slave ≡ true → replyVerdict (h .turn .node) slave (length (h .buffer)) ≡ Verdict.Fine
-    unfolding replyVerdict
-    reply-fine e =
-        let q : s ≡ slave = eqb-true s slave e in
-        sym (no _ (le-ltb (length (h .buffer)) 12288 (k .space)) (no _ (le-ltb 23 slave (omega (arith, q, slave-most))) (no _ (ap not (k .ok))
-        (no _ (ap not (ap (λ (x : Pending). isAsked x slave) (k .pending) ∙ e)) refl))))
+  pub stored : w + length (x .earlier) + 5 * length ss + 2 ≤ 12288
+  stored = subst (λ (y : List ℕ). w + length (x .earlier) + 5 * length y + 2 ≤ 12288) (k .rest) (gathered .stored)
 
-    pub reply-heard : eqb s slave ≡ true → stepped logodwen reply h ≡ becomes h (hearing h link from set at s ss b clock (errorIn hears′) (answer hears′ words))
-    unfolding replyOf replyEffect
-    reply-heard e =
-        ap (λ (v : Verdict). let o : Outcome = judged v (h .turn .node) (lentReply (h .buffer)) (replyEffect (h .turn .node) clock errors status address bc words (h .buffer)) in host (h .asked) (o .turn) (h .flash) (o .after .reply)) (reply-fine e)
-        ∙ ap (λ (p : Pending). becomes h (withAmswire (errorIn (heard (isLate clock (askedAt p)) errors status address bc)) (hears p (h .turn .node) clock (heard (isLate clock (askedAt p)) errors status address bc) words (h .buffer)))) (k .pending)
-        ∙ ap (λ (x : List ℕ). becomes h (hearing h link from set at s x b clock (errorIn hears′) (answer hears′ words))) (k .rest)
+  pub place : w + 1 + length (x .earlier) ≤ length base
+  place = omega (arith, stored, k .long)
 
-    -- any other slave's is refused
-    pub stray-quiet : eqb s slave ≡ false → Quiet h (stepped logodwen reply h)
-    unfolding replyOf replyVerdict
-    stray-quiet e =
-        let v : replyVerdict (h .turn .node) slave (length (h .buffer)) ≡ pick (ltb 23 slave) (Verdict.No Refusal.Number) (Verdict.No Refusal.Unasked) =
-        sym (no _ (le-ltb (length (h .buffer)) 12288 (k .space)) (ap (pick (ltb 23 slave) (Verdict.No Refusal.Number))
-        (no _ (ap not (k .ok)) (yes _ (ap not (ap (λ (x : Pending). isAsked x slave) (k .pending) ∙ e)) refl)))) in
-        rw v (go (ltb 23 slave))
-      where
-        go : (t : Bool) → let o : Outcome = judged (pick t (Verdict.No Refusal.Number) (Verdict.No Refusal.Unasked)) (h .turn .node) (lentReply (h .buffer)) (replyEffect (h .turn .node) clock errors status address bc words (h .buffer)) in
-            Quiet h (host (h .asked) (o .turn) (h .flash) (o .after .reply))
-        go true = record { pending = refl; ok = λ v. v; buffer = refl; status = refl; asked = append-nil (h .asked) }
-        go false = record { pending = refl; ok = λ v. v; buffer = refl; status = refl; asked = append-nil (h .asked) }
+  pub fresh : eqb (length (x .earlier)) 0 ≡ true → x .kept ≡ 0
+  fresh e = go (x .earlier) e (gathered .fresh)
+    where
+      go : (ws : List ℕ) → eqb (length ws) 0 ≡ true → (ltb 0 (length ws) || eqb (x .kept) 0) ≡ true → x .kept ≡ 0
+      go [] q f = eqb-true (x .kept) 0 f
+      go (v ∷ ws) q f = absurd (omega (arith, eqb-true (length (v ∷ ws)) 0 q))
 
-  -- a poll
-  poll-fine : pollVerdict (h .turn .node) (length (h .buffer)) ≡ Verdict.Fine
-  unfolding pollVerdict
-  poll-fine =
-      sym (no _ (le-ltb (length (h .buffer)) 12288 (k .space)) (no _ (ap not (k .ok)) (no _ (ap not (ap isPending (k .pending))) refl)))
+  pub space : 12288 ≤ length (h .buffer)
+  space =
+      let size : length (h .buffer) ≡ length (laid (laid base 0 front) (w + 1) (x .earlier)) = ap length (k .buffer) in
+      omega (arith, size, k .long, laid-longer base 0 front, laid-longer (laid base 0 front) (w + 1) (x .earlier))
 
-  polled : stepped logodwen (Event.Polled clock) h
-      ≡ becomes h
-      (pick (isLate clock at) (hears (Pending.Group (ask link s at) (gathering set from b)) (h .turn .node) clock silent [] (h .buffer))
-      (only Answer.Waiting (Pending.Group (ask link s at) (gathering set from b)) (h .buffer)))
-  unfolding pollOf pollEffect
-  polled =
-      ap (λ (v : Verdict). let o : Outcome = judged v (h .turn .node) (lentReply (h .buffer)) (pollEffect (h .turn .node) clock (h .buffer)) in host (h .asked) (o .turn) (h .flash) (o .after .reply)) poll-fine
-      ∙ ap (λ (p : Pending). becomes h (pick (isLate clock (askedAt p)) (hears p (h .turn .node) clock silent [] (h .buffer)) (only Answer.Waiting p (h .buffer)))) (k .pending)
+  -- the words received stand in the buffer
+  earlier-stands : part (h .buffer) (w + 1) (length (x .earlier)) ≡ x .earlier
+  earlier-stands = ap (λ (y : List ℕ). part y (w + 1) (length (x .earlier))) (k .buffer) ∙ stored-part base front w (x .earlier) (k .words) place
 
-  -- before the timeout nothing is heard
-  pub wait-quiet : isLate clock at ≡ false → Quiet h (stepped logodwen (Event.Polled clock) h)
-  unfolding stateOk
-  wait-quiet e =
-      rw (polled, e)
-      (record { pending = sym (k .pending); ok = λ v. ap (λ (p : Pending). stateOk (nodeAfter (h .turn .node) [] (only Answer.Waiting p (h .buffer)))) (sym (k .pending)) ∙ v; buffer = refl; status = refl; asked = append-nil (h .asked) })
+  module _ (clock : ℕ) where
+    -- what a packet does that is stored, and one that ends the answer of slave s with those of ss to follow
+    abbrev pub storing : Bool → Heard → List ℕ → Effect
+    storing errors y words = withAmswire errors (awaits asks′ group clock y words (h .buffer))
 
-  -- from then on it is one
-  counts-none : (m : Assembly) (x : Next) → goesOn (h .turn .node) (ask link s at) (gathering set from b) clock m x ≡ withAmswire false (goesOn (h .turn .node) (ask link s at) (gathering set from b) clock m x)
-  counts-none m Next.Nobody = refl
-  counts-none m (Next.Slave t) = refl
+    abbrev pub hearing : Bool → Heard → List ℕ → Effect
+    hearing errors y words =
+        withAmswire errors
+        (goesOn n asks′ group clock (taken (assembly (h .buffer) (built w t)) (length ss) s (packet y words (x .earlier) (x .kept))) (nextOf ss))
 
-  pub late-heard : isLate clock at ≡ true → stepped logodwen (Event.Polled clock) h ≡ becomes h (hearing h link from set at s ss b clock false (answer silent []))
-  late-heard e =
-      polled
-      ∙ ap (λ (t : Bool). becomes h (pick t (hears (Pending.Group (ask link s at) (gathering set from b)) (h .turn .node) clock silent [] (h .buffer)) (only Answer.Waiting (Pending.Group (ask link s at) (gathering set from b)) (h .buffer)))) e
-      ∙ ap (λ (x : List ℕ). becomes h (goesOn (h .turn .node) (ask link s at) (gathering set from b) clock (taken (assembly (h .buffer) b) (length x) s (answer silent [])) (nextOf x))) (k .rest)
-      ∙ ap (becomes h) (counts-none (taken (assembly (h .buffer) b) (length ss) s (answer silent [])) (nextOf ss))
+    -- either, by the slaves to follow and the words received
+    abbrev heardBy : Bool → Heard → List ℕ → List ℕ → List ℕ → Effect
+    heardBy errors y words above′ earlier =
+        withAmswire errors
+        (pick (partBy y (length (x .earlier)) (length words) w (length above′)) (awaits asks′ group clock y words (h .buffer))
+        (goesOn n asks′ group clock (taken (assembly (h .buffer) (built w t)) (length above′) s (packet y words earlier (x .kept))) (nextOf above′)))
 
--- with a slave heard, the next one is asked
-pub heard-goes : {link from set own at s s′ : ℕ} {ss : List ℕ} {b : Built} {h : Host} → Going link from set own at s (s′ ∷ ss) b h
-    → (clock : ℕ) (errors : Bool) (a : SlaveAnswer)
-    → Going link from set own clock s′ ss (taken (assembly (h .buffer) b) (suc (length ss)) s a .built)
-    (becomes h (hearing h link from set at s (s′ ∷ ss) b clock errors a))
-heard-goes {link} {from} {set} {own} {at} {s} {s′} {ss} {b} {h} k clock errors a =
+    heard-by : (errors : Bool) (y : Heard) (words : List ℕ)
+        → withAmswire errors (hears (Pending.Group asks′ group) n clock y words (h .buffer)) ≡ heardBy errors y words ss (x .earlier)
+    heard-by errors y words = λ i. heardBy errors y words (k .rest i) (earlier-stands i)
+
+    module _ (slave bc : ℕ) (errors : Bool) (status address : ℕ) (words : List ℕ) where
+      abbrev reply : Event
+      reply = Event.Replied clock slave bc errors status address words
+
+      abbrev hears′ : Heard
+      hears′ = heard (isLate clock (x .at)) errors status address bc
+
+      -- the asked slave's reply is taken
+      reply-fine : eqb s slave ≡ true → replyVerdict n slave (length (h .buffer)) ≡ Verdict.Fine
+      unfolding replyVerdict
+      reply-fine e =
+          let q : s ≡ slave = eqb-true s slave e in
+          sym (no _ (le-ltb (length (h .buffer)) 12288 space) (no _ (le-ltb 23 slave (omega (arith, q, slave-most))) (no _ (ap not (k .ok))
+          (no _ (ap not (ap (λ (y : Pending). isAsked y slave) (k .pending) ∙ e)) refl))))
+
+      reply-heard : eqb s slave ≡ true → stepped logodwen reply h ≡ becomes h (heardBy (errorIn hears′) hears′ words ss (x .earlier))
+      unfolding replyOf replyEffect
+      reply-heard e =
+          ap (λ (v : Verdict). let o : Outcome = judged v n (lentReply (h .buffer)) (replyEffect n clock errors status address bc words (h .buffer)) in host (h .asked) (o .turn) (h .flash) (o .after .reply)) (reply-fine e)
+          ∙ ap (λ (p : Pending). becomes h (withAmswire (errorIn (heard (isLate clock (askedAt p)) errors status address bc)) (hears p n clock (heard (isLate clock (askedAt p)) errors status address bc) words (h .buffer)))) (k .pending)
+          ∙ ap (becomes h) (heard-by (errorIn hears′) hears′ words)
+
+      -- it is stored, or it ends what the slave has to say
+      pub reply-stored : eqb s slave ≡ true → isPart (packet hears′ words (x .earlier) (x .kept)) w (length ss) ≡ true
+          → stepped logodwen reply h ≡ becomes h (storing (errorIn hears′) hears′ words)
+      reply-stored e f =
+          reply-heard e
+          ∙ ap (λ (b : Bool). becomes h (withAmswire (errorIn hears′) (pick b (awaits asks′ group clock hears′ words (h .buffer)) (goesOn n asks′ group clock (taken (assembly (h .buffer) (built w t)) (length ss) s (packet hears′ words (x .earlier) (x .kept))) (nextOf ss))))) f
+
+      pub reply-ends : eqb s slave ≡ true → isPart (packet hears′ words (x .earlier) (x .kept)) w (length ss) ≡ false
+          → stepped logodwen reply h ≡ becomes h (hearing (errorIn hears′) hears′ words)
+      reply-ends e f =
+          reply-heard e
+          ∙ ap (λ (b : Bool). becomes h (withAmswire (errorIn hears′) (pick b (awaits asks′ group clock hears′ words (h .buffer)) (goesOn n asks′ group clock (taken (assembly (h .buffer) (built w t)) (length ss) s (packet hears′ words (x .earlier) (x .kept))) (nextOf ss))))) f
+
+      -- any other slave's is refused
+      pub stray-quiet : eqb s slave ≡ false → Quiet h (stepped logodwen reply h)
+      unfolding replyOf replyVerdict
+      stray-quiet e =
+          let v : replyVerdict n slave (length (h .buffer)) ≡ pick (ltb 23 slave) (Verdict.No Refusal.Number) (Verdict.No Refusal.Unasked) =
+          sym (no _ (le-ltb (length (h .buffer)) 12288 space) (ap (pick (ltb 23 slave) (Verdict.No Refusal.Number))
+          (no _ (ap not (k .ok)) (yes _ (ap not (ap (λ (y : Pending). isAsked y slave) (k .pending) ∙ e)) refl)))) in
+          rw v (go (ltb 23 slave))
+        where
+          go : (b : Bool) → let o : Outcome = judged (pick b (Verdict.No Refusal.Number) (Verdict.No Refusal.Unasked)) n (lentReply (h .buffer)) (replyEffect n clock errors status address bc words (h .buffer)) in
+              Quiet h (host (h .asked) (o .turn) (h .flash) (o .after .reply))
+          go true = record { pending = refl; ok = λ v. v; buffer = refl; status = refl; asked = append-nil (h .asked) }
+          go false = record { pending = refl; ok = λ v. v; buffer = refl; status = refl; asked = append-nil (h .asked) }
+
+    -- a poll
+    poll-fine : pollVerdict n (length (h .buffer)) ≡ Verdict.Fine
+    unfolding pollVerdict
+    poll-fine =
+        sym (no _ (le-ltb (length (h .buffer)) 12288 space) (no _ (ap not (k .ok)) (no _ (ap not (ap isPending (k .pending))) refl)))
+
+    polled : stepped logodwen (Event.Polled clock) h
+        ≡ becomes h
+        (pick (isLate clock (x .at)) (hears (Pending.Group asks′ group) n clock silent [] (h .buffer)) (only Answer.Waiting (Pending.Group asks′ group) (h .buffer)))
+    unfolding pollOf pollEffect
+    polled =
+        ap (λ (v : Verdict). let o : Outcome = judged v n (lentReply (h .buffer)) (pollEffect n clock (h .buffer)) in host (h .asked) (o .turn) (h .flash) (o .after .reply)) poll-fine
+        ∙ ap (λ (p : Pending). becomes h (pick (isLate clock (askedAt p)) (hears p n clock silent [] (h .buffer)) (only Answer.Waiting p (h .buffer)))) (k .pending)
+
+    -- before the timeout nothing is heard
+    pub wait-quiet : isLate clock (x .at) ≡ false → Quiet h (stepped logodwen (Event.Polled clock) h)
+    unfolding stateOk
+    wait-quiet e =
+        rw (polled, e)
+        (record { pending = sym (k .pending); ok = λ v. ap (λ (p : Pending). stateOk (nodeAfter n [] (only Answer.Waiting p (h .buffer)))) (sym (k .pending)) ∙ v; buffer = refl; status = refl; asked = append-nil (h .asked) })
+
+    -- from then on it is one, which ends what the slave has to say
+    counts-none : (m : Assembly) (y : Next) → goesOn n asks′ group clock m y ≡ withAmswire false (goesOn n asks′ group clock m y)
+    counts-none m Next.Nobody = refl
+    counts-none m (Next.Slave s′) = refl
+
+    hears-none : hears (Pending.Group asks′ group) n clock silent [] (h .buffer) ≡ hearing false silent []
+    unfolding partBy
+    hears-none =
+        (λ i. goesOn n asks′ group clock (taken (assembly (h .buffer) (built w t)) (length (k .rest i)) s (packet silent [] (earlier-stands i) (x .kept))) (nextOf (k .rest i)))
+        ∙ counts-none (taken (assembly (h .buffer) (built w t)) (length ss) s (packet silent [] (x .earlier) (x .kept))) (nextOf ss)
+
+    pub late-ends : isLate clock (x .at) ≡ true → stepped logodwen (Event.Polled clock) h ≡ becomes h (hearing false silent [])
+    late-ends e =
+        polled
+        ∙ ap (λ (b : Bool). becomes h (pick b (hears (Pending.Group asks′ group) n clock silent [] (h .buffer)) (only Answer.Waiting (Pending.Group asks′ group) (h .buffer)))) e
+        ∙ ap (becomes h) hears-none
+
+    -- what is pending after either stays in its ranges
+    module _ (errors : Bool) (y : Heard) (words : List ℕ) where
+      abbrev said : SlaveAnswer
+      said = packet y words (x .earlier) (x .kept)
+
+      abbrev fragment : List ℕ
+      fragment = fragmentOf s said w (length ss)
+
+      pending-by : pendingOk (n .given .ports) (heardBy errors y words ss (x .earlier) .pending) ≡ true
+      pending-by =
+          ap (λ (e : Effect). pendingOk (n .given .ports) (e .pending)) (sym (heard-by errors y words))
+          ∙ gathers-pending (n .given .ports) n clock y words (h .buffer) space asks′ group group-ok
+
+      -- stored, the slave is awaited anew
+      pub stored-goes : isPart said w (length ss) ≡ true → Going link from set own (sentNext clock said) s ss base front w t (becomes h (storing errors y words))
+      stored-goes e =
+          let v = ranges-tell n (k .ok) in
+          record {
+            pending = ap (λ (m : ℕ). Pending.Group (ask link s clock) (gathering set from (built w t) (received m (y .«rx_status»)))) (sym (length-append (x .earlier) words));
+            rest = k .rest;
+            ok =
+                ranges-told (becomes h (storing errors y words) .turn .node)
+                (record {
+                  given = v .given;
+                  mode = v .mode;
+                  masks = v .masks;
+                  erasing = v .erasing;
+                  writing = v .writing;
+                  pending =
+                      subst
+                      (λ (b : Bool). pendingOk (n .given .ports) (pick b (awaits asks′ group clock y words (h .buffer)) (goesOn n asks′ group clock (taken (assembly (h .buffer) (built w t)) (length ss) s said) (nextOf ss)) .pending) ≡ true)
+                      e pending-by;
+                });
+            long = k .long;
+            words = k .words;
+            buffer =
+                ap (λ (z : List ℕ). laid z (w + 1 + length (x .earlier)) words) (k .buffer)
+                ∙ stored-more base front w (x .earlier) (k .words) place words;
+            status = k .status;
+          }
+
+      -- the fragment is laid behind the words built
+      pub taken-is : taken (assembly (h .buffer) (built w t)) (length ss) s said
+          ≡ assembly (laid (laid base (w + 1) (x .earlier)) 0 (front ++ fragment)) (built (w + length fragment) (tallied t (kindOf said w (length ss))))
+      taken-is =
+          taken-fits (assembly (h .buffer) (built w t)) (length ss) s said room space
+          ∙ ap (λ (z : List ℕ). assembly z (built (w + length fragment) (tallied t (kindOf said w (length ss)))))
+          (ap (λ (z : List ℕ). laid z w fragment) (k .buffer) ∙ stored-under base front w (x .earlier) (k .words) place fragment)
+
+-- with a slave's answer ended, the next one is asked
+pub ended-goes : {link from set own : ℕ} {x : Awaited} {s s′ : ℕ} {ss base front : List ℕ} {w : ℕ} {t : Tally} {h : Host}
+    → (k : Going link from set own x s (s′ ∷ ss) base front w t h) (clock : ℕ) (errors : Bool) (y : Heard) (words : List ℕ)
+    → let a : SlaveAnswer = packet y words (x .earlier) (x .kept) in
+    let f : List ℕ = fragmentOf s a w (suc (length ss)) in
+    isPart a w (suc (length ss)) ≡ false
+    → Going link from set own (asked clock) s′ ss (laid base (w + 1) (x .earlier)) (front ++ f) (w + length f) (tallied t (kindOf a w (suc (length ss))))
+    (becomes h (hearing k clock errors y words))
+ended-goes {link} {from} {set} {own} {x} {s} {s′} {ss} {base} {front} {w} {t} {h} k clock errors y words e =
     let n : Node = h .turn .node in
     let v = ranges-tell n (k .ok) in
+    let a : SlaveAnswer = packet y words (x .earlier) (x .kept) in
+    let f : List ℕ = fragmentOf s a w (suc (length ss)) in
+    let is = taken-is k clock errors y words in
     record {
-      pending = refl;
+      pending = ap (λ (m : Assembly). Pending.Group (ask link s′ clock) (gathering set from (m .built) nothingReceived)) is;
       rest = sym (up-tells set (s + 1) s′ ss (k .rest) .rest);
       ok =
-          ranges-told (becomes h (hearing h link from set at s (s′ ∷ ss) b clock errors a) .turn .node)
+          ranges-told (becomes h (hearing k clock errors y words) .turn .node)
           (record {
             given = v .given;
             mode = v .mode;
@@ -255,21 +389,25 @@ heard-goes {link} {from} {set} {own} {at} {s} {s′} {ss} {b} {h} k clock errors
             writing = v .writing;
             pending =
                 subst
-                (λ (x : List ℕ). pendingOk (n .given .ports) (goesOn n (ask link s at) (gathering set from b) clock (taken (assembly (h .buffer) b) (length x) s a) (nextOf x) .pending) ≡ true)
-                (k .rest)
-                (gathers-pending (n .given .ports) n clock (a .heard) (a .words) (h .buffer) (k .space) (ask link s at) (gathering set from b) (group-ok k clock));
+                (λ (b : Bool). pendingOk (n .given .ports) (pick b (awaits (asks′ k) (group k) clock y words (h .buffer)) (goesOn n (asks′ k) (group k) clock (taken (assembly (h .buffer) (built w t)) (suc (length ss)) s a) (Next.Slave s′)) .pending) ≡ true)
+                e (pending-by k clock errors y words);
           });
-      space = omega (arith, k .space, taken-changes (assembly (h .buffer) b) (suc (length ss)) s a .size);
+      long = omega (arith, k .long, laid-longer base (w + 1) (x .earlier));
+      words = length-append front f ∙ ap (λ (m : ℕ). m + length f) (k .words);
+      buffer = ap (λ (m : Assembly). m .reply) is ∙ laid-none (laid (laid base (w + 1) (x .earlier)) 0 (front ++ f)) (w + length f + 1);
       status = k .status;
     }
 
 -- what is nothing to a group leaves it in progress
-pub quiet-goes : {link from set own at s : ℕ} {ss : List ℕ} {b : Built} {h h′ : Host} → Going link from set own at s ss b h → Quiet h h′ → Going link from set own at s ss b h′
+pub quiet-goes : {link from set own : ℕ} {x : Awaited} {s : ℕ} {ss base front : List ℕ} {w : ℕ} {t : Tally} {h h′ : Host} → Going link from set own x s ss base front w t h
+    → Quiet h h′ → Going link from set own x s ss base front w t h′
 quiet-goes k q =
     record {
       pending = q .pending ∙ k .pending;
       rest = k .rest;
       ok = q .ok (k .ok);
-      space = rw (q .buffer) (k .space);
+      long = k .long;
+      words = k .words;
+      buffer = q .buffer ∙ k .buffer;
       status = q .status ∙ k .status;
     }

@@ -8,12 +8,12 @@ use Rattle.memory.specs.Map.{indexOf}
 use Rattle.memory.specs.Run.{runOf}
 use Rattle.memory.specs.Segment.{isSegment}
 use Rattle.group.specs.Time.{isLate}
-use Rattle.group.specs.Kind.{dataKind, kindOf}
+use Rattle.group.specs.Kind.{dataKind, firstKind, kindOf}
 use Rattle.group.specs.Fragment.{statusWord, fragmentOf}
 use Rattle.demands.specs.Examples.{StarredExamples}
 
 pub starred-examples : StarredExamples
-unfolding fcsBit fcsBits fcsWord fcsFrom memoryOf pageOf lengthOk pageOk spanOf bodyOk segmentOk segmentEnd bytesOf numberOf spread gather paired unpacked settingOf indexOf runOf isSegment isLate dataKind kindOf statusWord fragmentOf
+unfolding fcsBit fcsBits fcsWord fcsFrom memoryOf pageOf lengthOk pageOk spanOf bodyOk segmentOk segmentEnd bytesOf numberOf spread gather paired unpacked settingOf indexOf runOf isSegment isLate dataKind firstKind kindOf statusWord fragmentOf
 starred-examples =
     record {
       index = refl;

@@ -2,26 +2,28 @@
 -- host stands after any run of them. Assumes nothing.
 use Prim.Native.Nat.{ℕ, suc, _+_, _*_, _≤_, _<_}
 use mathlib.Core.Path.{_≡_, refl, sym, ap, _∙_, subst}
-use mathlib.Core.Bool.{Bool, true, false, _&&_, _||_, not, false≢true}
+use mathlib.Core.Bool.{Bool, true, false, _&&_, _||_, false≢true}
 use mathlib.Core.List.{List, [], _∷_, _++_, append-nil, append-assoc}
+use native.Mathlib.Nat.{add-zero, zero-add}
 use native.Mathlib.Numerals.{add-one}
 use native.Mathlib.Omega.{arith}
 use lib.Dec.{eqb, leb, ltb}
-use lib.ListN.{length, getD, take}
+use lib.ListN.{length, getD, take, length-append}
 use lib.Seq.{take-all}
-use borrow.Author.Tests.{eq-eqb, eqb-true, leb-true}
+use borrow.Author.Tests.{eq-eqb, eqb-true, le-leb, leb-true}
 use Rattle.base.specs.Pick.{pick}
-use Rattle.base.specs.Words.{laid}
+use Rattle.base.specs.Words.{part, laid}
 use Rattle.base.proofs.Pick.{yes, no, pick-case}
-use Rattle.base.proofs.Laid.{getD-laid-after, part-laid}
+use Rattle.base.proofs.Laid.{getD-laid-after, part-laid, laid-none}
 use Rattle.group.specs.Time.{isLate}
-use Rattle.group.specs.Kind.{answer, Answer as SlaveAnswer}
-use Rattle.group.specs.Tally.{Every, tallyFrom}
+use Rattle.group.specs.Kind.{packet, kindOf, partBy, isPart, Answer as SlaveAnswer}
+use Rattle.group.specs.Tally.{Every, tallied, tallyFrom}
+use Rattle.group.specs.Packets.{Ends}
 use Rattle.group.specs.Slaves.{slavesOf, nextOf}
-use Rattle.group.specs.Fragment.{Assembly, assembly, built, taken}
+use Rattle.group.specs.Fragment.{fragmentOf, Assembly, assembly, built, taken}
 use Rattle.group.specs.Ending.{Sent, replied, groupStatus, endOf}
-use Rattle.group.specs.Whole.{kindsOf, takenAll, dataReply, groupSent, groupOf}
-use Rattle.group.specs.declared.Built.{Built}
+use Rattle.group.specs.Whole.{fragmentsOf, kindsOf, AllEnd, joined, assembled, dataReply, groupSent, groupOf}
+use Rattle.group.specs.declared.Heard.{Heard}
 use Rattle.group.specs.declared.Kind.{Kind}
 use Rattle.group.specs.declared.Reply.{Reply}
 use Rattle.group.specs.declared.Tally.{Tally}
@@ -45,10 +47,11 @@ use Rattle.node.specs.declared.Verdict.{Verdict}
 use Rattle.node.proofs.Ranges.{ranges-tell, ranges-told, request-pending}
 use Rattle.node.proofs.Verdicts.{RequestFine, request-fine}
 use Rattle.demands.specs.Machine.{logodwen}
-use Rattle.demands.specs.Events.{Event, Host, host, stepped, hosted, Undropped, heards}
-use Rattle.demands.specs.Groups.{setAsked, GroupRun, begun, atLast, slaves, said, fragments, Sends, GroupIsItsFragments, AskedInOrder, EachAskedOnce, FragmentsStand, NothingPastTheWords}
+use Rattle.demands.specs.Events.{Event, Host, host, stepped, hosted, Undropped, Awaited, asked, sentNext, silentBy, Heards, endedBy, heards}
+use Rattle.demands.specs.Groups.{setAsked, GroupRun, packetsStored, begun, atLast, slaves, said, underWay, fragments, Sends, GroupIsItsFragments, AskedInOrder, EachAskedOnce, FragmentsStand, NothingPastTheWords}
 use Rattle.demands.proofs.Slaves.{slaves-exactly}
-use Rattle.demands.proofs.Events.{Going, Quiet, becomes, hearing, erase-quiet, request-quiet, stray-quiet, wait-quiet, reply-heard, late-heard, heard-goes, quiet-goes}
+use Rattle.demands.proofs.Stored.{laid-longer, laid-apart, packets-longer}
+use Rattle.demands.proofs.Events.{Going, becomes, stored, fresh, hearing, erase-quiet, request-quiet, stray-quiet, wait-quiet, reply-stored, reply-ends, late-ends, taken-is, stored-goes, ended-goes, quiet-goes}
 use Rattle.demands.proofs.Taken.{verdictOn}
 
 -- a group that has ended
@@ -57,13 +60,28 @@ pub record Over (h : Host) (x : Sent) : Type 0 where
   pub buffer : h .buffer ≡ x .buffer
   pub nothing : h .turn .node .pending ≡ Pending.Nothing
 
--- where the host stands when of slave s, now asked, and those of ss so many have been heard
-record Ran (own : ℕ) (m : Assembly) (s : ℕ) (ss : List ℕ) (hs : List SlaveAnswer) (before : List ℕ) (h : Host) : Type 0 where
-  going : length hs < suc (length ss) → (h .buffer ≡ takenAll m (s ∷ ss) hs .reply) × (isAsked (h .turn .node .pending) (getD (s ∷ ss) (length hs) 0) ≡ true)
-  ended : length hs ≡ suc (length ss) → Over h (endOf (takenAll m (s ∷ ss) hs) own)
-  asked : h .asked ≡ before ++ take (length hs) ss
+-- a slave that has not answered ends what it has to say
+pub silent-ends : (x : Awaited) (w k : ℕ) → isPart (silentBy x) w k ≡ false
+unfolding partBy
+silent-ends x w k = refl
 
-hosted-goes : {link from set own at s : ℕ} {ss : List ℕ} {b : Built} {h : Host} → Going link from set own at s ss b h → (e : Event) (es : List Event) → hosted logodwen (e ∷ es) h ≡ hosted logodwen es (stepped logodwen e h)
+-- where the host stands when of slave s, now awaited, and those of ss so many have been heard: the fragments stand at the front, and behind them
+-- what was stored of packets
+record Ran (own : ℕ) (base front : List ℕ) (w : ℕ) (t : Tally) (s : ℕ) (ss : List ℕ) (hs : Heards) (before : List ℕ) (h : Host) : Type 0 where
+  going : length (hs .said) < suc (length ss)
+      → (h .buffer
+      ≡ laid (laid (packetsStored base (s ∷ ss) (hs .said) w) 0 (front ++ assembled (s ∷ ss) (hs .said) w)) (w + length (assembled (s ∷ ss) (hs .said) w) + 1) (hs .under))
+      × (isAsked (h .turn .node .pending) (getD (s ∷ ss) (length (hs .said)) 0) ≡ true)
+  ended : length (hs .said) ≡ suc (length ss)
+      → Over h
+      (endOf
+      (assembly (laid (packetsStored base (s ∷ ss) (hs .said) w) 0 (front ++ assembled (s ∷ ss) (hs .said) w))
+      (built (w + length (assembled (s ∷ ss) (hs .said) w)) (tallyFrom t (kindsOf (s ∷ ss) (hs .said) w)))) own)
+  asked : h .asked ≡ before ++ take (length (hs .said)) ss
+  ends : AllEnd (s ∷ ss) (hs .said) w
+
+hosted-goes : {link from set own : ℕ} {x : Awaited} {s : ℕ} {ss base front : List ℕ} {w : ℕ} {t : Tally} {h : Host} → Going link from set own x s ss base front w t h
+    → (e : Event) (es : List Event) → hosted logodwen (e ∷ es) h ≡ hosted logodwen es (stepped logodwen e h)
 unfolding hosted
 hosted-goes {h = h} k e es = ap (λ (p : Pending). pick (isPending p) (hosted logodwen es (stepped logodwen e h)) h) (k .pending)
 
@@ -72,73 +90,131 @@ unfolding hosted
 hosted-over [] h p = refl
 hosted-over (e ∷ es) h p = ap (λ (x : Pending). pick (isPending x) (hosted logodwen es (stepped logodwen e h)) h) p
 
-ran-from : {own : ℕ} {b : Built} {s : ℕ} {ss : List ℕ} {hs : List SlaveAnswer} {from from′ before before′ : List ℕ} {x : Host} → from′ ≡ from → before′ ≡ before
-    → Ran own (assembly from′ b) s ss hs before′ x → Ran own (assembly from b) s ss hs before x
-ran-from p q r = rw (p, q) at r
+ran-from : {own : ℕ} {base front : List ℕ} {w : ℕ} {t : Tally} {s : ℕ} {ss : List ℕ} {hs : Heards} {before before′ : List ℕ} {x : Host} → before′ ≡ before
+    → Ran own base front w t s ss hs before′ x → Ran own base front w t s ss hs before x
+ran-from q r = rw q at r
 
-ran-quiet : {own : ℕ} {b : Built} {s : ℕ} {ss : List ℕ} {hs : List SlaveAnswer} {h h′ x : Host} → Quiet h h′ → Ran own (assembly (h′ .buffer) b) s ss hs (h′ .asked) x → Ran own (assembly (h .buffer) b) s ss hs (h .asked) x
-ran-quiet q r = ran-from (q .buffer) (q .asked) r
+-- a run from a slave on that is awaited so, whatever slave that is
+abbrev After : (link from set own : ℕ) → Awaited → List Event → Type 0
+After link from set own x es =
+    (s : ℕ) (ss base front : List ℕ) (w : ℕ) (t : Tally) (h : Host) → Going link from set own x s ss base front w t h
+    → Ran own base front w t s ss (heards x (s ∷ ss) w es) (h .asked) (hosted logodwen es h)
 
--- a run from the next slave on, whatever slave that is
-abbrev Next : (link from set own clock : ℕ) → List Event → Type 0
-Next link from set own clock es =
-    (s : ℕ) (ss : List ℕ) (b : Built) (h : Host) → Going link from set own clock s ss b h
-    → Ran own (assembly (h .buffer) b) s ss (heards clock (s ∷ ss) es) (h .asked) (hosted logodwen es h)
+-- an answer that has ended: it is no packet that is stored, and those before it had room
+answer-ends : {link from set own : ℕ} {x : Awaited} {s : ℕ} {ss base front : List ℕ} {w : ℕ} {t : Tally} {h : Host} → Going link from set own x s ss base front w t h
+    → (y : Heard) (words : List ℕ) → isPart (packet y words (x .earlier) (x .kept)) w (length ss) ≡ false → Ends (packet y words (x .earlier) (x .kept)) w (length ss)
+answer-ends {x = x} {ss = ss} {w = w} k y words e =
+    record { ended = e; stored = λ _. le-leb (w + length (x .earlier) + 5 * length ss + 2) 12288 (stored k); fresh = fresh k }
 
-ran-heard : {link from set own at s : ℕ} (ss : List ℕ) {b : Built} {h : Host} → Going link from set own at s ss b h
-    → (clock : ℕ) (errors : Bool) (a : SlaveAnswer) (es : List Event) → Next link from set own clock es
-    → Ran own (assembly (h .buffer) b) s ss (a ∷ heards clock ss es) (h .asked) (hosted logodwen es (becomes h (hearing h link from set at s ss b clock errors a)))
-unfolding heards takenAll
-ran-heard {link} {from} {set} {own} {at} {s} [] {b} {h} k clock errors a es next =
-    let m : Assembly = taken (assembly (h .buffer) b) 0 s a in
-    rw (hosted-over es (becomes h (hearing h link from set at s [] b clock errors a)) refl)
+-- the next slave's run, the fragment before it among those at the front
+ran-next : {own : ℕ} {base front : List ℕ} {w : ℕ} {t : Tally} {s : ℕ} (s′ : ℕ) {ss : List ℕ} (a : SlaveAnswer) (hs : Heards) {before : List ℕ} {h : Host}
+    → let f : List ℕ = fragmentOf s a w (suc (length ss)) in
+    Ends a w (suc (length ss))
+    → Ran own (laid base (w + 1) (a .earlier)) (front ++ f) (w + length f) (tallied t (kindOf a w (suc (length ss)))) s′ ss hs (before ++ (s′ ∷ [])) h
+    → Ran own base front w t s (s′ ∷ ss) (endedBy a hs) before h
+unfolding packetsStored fragmentsOf kindsOf joined AllEnd tallyFrom
+ran-next {own} {base} {front} {w} {t} {s} s′ {ss} a hs {before} {h} e r =
+    let f : List ℕ = fragmentOf s a w (suc (length ss)) in
+    let more : List ℕ = assembled (s′ ∷ ss) (hs .said) (w + length f) in
+    let P : List ℕ = packetsStored (laid base (w + 1) (a .earlier)) (s′ ∷ ss) (hs .said) (w + length f) in
+    let u : Tally = tallyFrom (tallied t (kindOf a w (suc (length ss)))) (kindsOf (s′ ∷ ss) (hs .said) (w + length f)) in
+    let same : (front ++ f) ++ more ≡ front ++ (f ++ more) = append-assoc front f more in
+    let size : w + length f + length more ≡ w + length (f ++ more) = simp length-append (omega arith) in
+    record {
+      going = λ l.
+          let g = r .going (omega arith) in
+          (g .0 ∙ (λ i. laid (laid P 0 (same i)) (size i + 1) (hs .under)), g .1);
+      ended = λ l. subst (Over h) (λ i. endOf (assembly (laid P 0 (same i)) (built (size i) u)) own) (r .ended (omega arith));
+      asked = r .asked ∙ append-assoc before (s′ ∷ []) (take (length (hs .said)) ss);
+      ends = (e, r .ends);
+    }
+
+ran-ended : {link from set own : ℕ} {x : Awaited} {s : ℕ} (ss : List ℕ) {base front : List ℕ} {w : ℕ} {t : Tally} {h : Host}
+    → (k : Going link from set own x s ss base front w t h) (clock : ℕ) (errors : Bool) (y : Heard) (words : List ℕ)
+    → let a : SlaveAnswer = packet y words (x .earlier) (x .kept) in
+    isPart a w (length ss) ≡ false → (es : List Event) → After link from set own (asked clock) es
+    → Ran own base front w t s ss (endedBy a (heards (asked clock) ss (w + length (fragmentOf s a w (length ss))) es)) (h .asked)
+    (hosted logodwen es (becomes h (hearing k clock errors y words)))
+unfolding heards packetsStored fragmentsOf kindsOf joined AllEnd tallyFrom
+ran-ended {link} {from} {set} {own} {x} {s} [] {base} {front} {w} {t} {h} k clock errors y words e es next =
+    let a : SlaveAnswer = packet y words (x .earlier) (x .kept) in
+    let f : List ℕ = fragmentOf s a w 0 in
+    let u : Tally = tallied t (kindOf a w 0) in
+    let m : Assembly = taken (assembly (h .buffer) (built w t)) 0 s a in
+    let is : endOf m (statusIn (h .turn .node)) ≡ endOf (assembly (laid (laid base (w + 1) (x .earlier)) 0 (front ++ (f ++ []))) (built (w + length (f ++ [])) u)) own =
+    (λ i. endOf (taken-is k clock errors y words i) (k .status i))
+    ∙ ap (λ (z : List ℕ). endOf (assembly (laid (laid base (w + 1) (x .earlier)) 0 (front ++ z)) (built (w + length z) u)) own) (sym (append-nil f)) in
+    rw (hosted-over es (becomes h (hearing k clock errors y words)) refl)
     (record {
       going = λ l. absurd (omega arith);
-      ended = λ l. record { reply = ap (λ (x : ℕ). Answer.Reply (endOf m x .reply)) (k .status); buffer = ap (λ (x : ℕ). endOf m x .buffer) (k .status); nothing = refl };
+      ended = λ l. record { reply = ap (λ (z : Sent). Answer.Reply (z .reply)) is; buffer = ap (λ (z : Sent). z .buffer) is; nothing = refl };
       asked = refl;
+      ends = (answer-ends k y words e, tt);
     })
-ran-heard {link} {from} {set} {own} {at} {s} (s′ ∷ ss) {b} {h} k clock errors a es next =
-    let r = next s′ ss (taken (assembly (h .buffer) b) (suc (length ss)) s a .built) (becomes h (hearing h link from set at s (s′ ∷ ss) b clock errors a)) (heard-goes k clock errors a) in
-    record {
-      going = λ l. r .going (omega arith);
-      ended = λ l. r .ended (omega arith);
-      asked = r .asked ∙ append-assoc (h .asked) (s′ ∷ []) (take (length (heards clock (s′ ∷ ss) es)) ss);
-    }
+ran-ended {link} {from} {set} {own} {x} {s} (s′ ∷ ss) {base} {front} {w} {t} {h} k clock errors y words e es next =
+    let a : SlaveAnswer = packet y words (x .earlier) (x .kept) in
+    let f : List ℕ = fragmentOf s a w (suc (length ss)) in
+    ran-next s′ a (heards (asked clock) (s′ ∷ ss) (w + length f) es) (answer-ends k y words e)
+    (next s′ ss (laid base (w + 1) (x .earlier)) (front ++ f) (w + length f) (tallied t (kindOf a w (suc (length ss)))) (becomes h (hearing k clock errors y words))
+    (ended-goes k clock errors y words e))
 
-ran : (es : List Event) {link from set own at s : ℕ} {ss : List ℕ} {b : Built} {h : Host} → Going link from set own at s ss b h → Undropped link es
-    → Ran own (assembly (h .buffer) b) s ss (heards at (s ∷ ss) es) (h .asked) (hosted logodwen es h)
-unfolding heards hosted takenAll Undropped
-ran [] {s = s} {h = h} k u =
+ran : (es : List Event) {link from set own : ℕ} {x : Awaited} {s : ℕ} {ss base front : List ℕ} {w : ℕ} {t : Tally} {h : Host} → Going link from set own x s ss base front w t h
+    → Undropped link es → Ran own base front w t s ss (heards x (s ∷ ss) w es) (h .asked) (hosted logodwen es h)
+unfolding heards hosted packetsStored fragmentsOf kindsOf joined AllEnd tallyFrom Undropped
+ran [] {x = x} {s = s} {base = base} {front = front} {w = w} {h = h} k u =
     record {
-      going = λ l. (refl, ap (λ (p : Pending). isAsked p s) (k .pending) ∙ eq-eqb s s refl);
+      going = λ l. (
+        k .buffer ∙ (λ i. laid (laid base 0 (sym (append-nil front) i)) (sym (add-zero w) i + 1) (x .earlier)),
+        ap (λ (p : Pending). isAsked p s) (k .pending) ∙ eq-eqb s s refl,
+      );
       ended = λ l. absurd (omega arith);
       asked = sym (append-nil (h .asked));
+      ends = tt;
     }
-ran (Event.Requested clock l bc errors packet m x ∷ es) k u =
-    let q = request-quiet k clock l bc errors packet m x (u .0) in
-    rw (hosted-goes k (Event.Requested clock l bc errors packet m x) es) (ran-quiet q (ran es (quiet-goes k q) (u .1)))
+ran (Event.Requested clock l bc errors packet m y ∷ es) k u =
+    let q = request-quiet k clock l bc errors packet m y (u .0) in
+    rw (hosted-goes k (Event.Requested clock l bc errors packet m y) es) (ran-from (q .asked) (ran es (quiet-goes k q) (u .1)))
 ran (Event.Erased budget ∷ es) {h = h} k u =
     let q = erase-quiet h budget in
-    rw (hosted-goes k (Event.Erased budget) es) (ran-quiet q (ran es (quiet-goes k q) (u .1)))
-ran (Event.Replied clock slave bc errors status address words ∷ es) {link} {from} {set} {own} {at} {s} {ss} {b} {h} k u =
+    rw (hosted-goes k (Event.Erased budget) es) (ran-from (q .asked) (ran es (quiet-goes k q) (u .1)))
+ran (Event.Replied clock slave bc errors status address words ∷ es) {link} {from} {set} {own} {x} {s} {ss} {base} {front} {w} {t} {h} k u =
     rw (hosted-goes k (Event.Replied clock slave bc errors status address words) es)
-    (go (eqb s slave) refl (λ s′ ss′ b′ h′ k′. ran es k′ (u .1)) (λ s′ ss′ b′ h′ k′. ran es k′ (u .1)))
+    (go (eqb s slave) refl (isPart said′ w (length ss)) refl (λ s′ ss′ base′ front′ w′ t′ h′ k′. ran es k′ (u .1))
+    (λ s′ ss′ base′ front′ w′ t′ h′ k′. ran es k′ (u .1)) (λ s′ ss′ base′ front′ w′ t′ h′ k′. ran es k′ (u .1)))
   where
-    go : (t : Bool) → eqb s slave ≡ t → Next link from set own clock es → Next link from set own at es
-        → Ran own (assembly (h .buffer) b) s ss (pick t (answer (heard (isLate clock at) errors status address bc) words ∷ heards clock ss es) (heards at (s ∷ ss) es)) (h .asked)
-        (hosted logodwen es (stepped logodwen (Event.Replied clock slave bc errors status address words) h))
-    go true e next same =
-        rw (reply-heard k clock slave bc errors status address words e)
-        (ran-heard ss k clock (errorIn (heard (isLate clock at) errors status address bc)) (answer (heard (isLate clock at) errors status address bc) words) es next)
-    go false e next same = let q = stray-quiet k clock slave bc errors status address words e in ran-quiet q (same s ss b _ (quiet-goes k q))
-ran (Event.Polled clock ∷ es) {link} {from} {set} {own} {at} {s} {ss} {b} {h} k u =
-    rw (hosted-goes k (Event.Polled clock) es) (go (isLate clock at) refl (λ s′ ss′ b′ h′ k′. ran es k′ (u .1)) (λ s′ ss′ b′ h′ k′. ran es k′ (u .1)))
+    hears′ : Heard
+    hears′ = heard (isLate clock (x .at)) errors status address bc
+
+    said′ : SlaveAnswer
+    said′ = packet hears′ words (x .earlier) (x .kept)
+
+    go : (b : Bool) → eqb s slave ≡ b → (c : Bool) → isPart said′ w (length ss) ≡ c
+        → After link from set own (asked clock) es → After link from set own (sentNext clock said′) es → After link from set own x es
+        → Ran own base front w t s ss
+        (pick b
+        (pick c (heards (sentNext clock said′) (s ∷ ss) w es)
+        (endedBy said′ (heards (asked clock) ss (w + length (fragmentOf s said′ w (length ss))) es)))
+        (heards x (s ∷ ss) w es))
+        (h .asked) (hosted logodwen es (stepped logodwen (Event.Replied clock slave bc errors status address words) h))
+    go true e true f next more same =
+        rw (reply-stored k clock slave bc errors status address words e f)
+        (ran-from (append-nil (h .asked)) (more s ss base front w t _ (stored-goes k clock (errorIn hears′) hears′ words f)))
+    go true e false f next more same =
+        rw (reply-ends k clock slave bc errors status address words e f) (ran-ended ss k clock (errorIn hears′) hears′ words f es next)
+    go false e c f next more same =
+        let q = stray-quiet k clock slave bc errors status address words e in ran-from (q .asked) (same s ss base front w t _ (quiet-goes k q))
+ran (Event.Polled clock ∷ es) {link} {from} {set} {own} {x} {s} {ss} {base} {front} {w} {t} {h} k u =
+    rw (hosted-goes k (Event.Polled clock) es)
+    (go (isLate clock (x .at)) refl (λ s′ ss′ base′ front′ w′ t′ h′ k′. ran es k′ (u .1)) (λ s′ ss′ base′ front′ w′ t′ h′ k′. ran es k′ (u .1)))
   where
-    go : (t : Bool) → isLate clock at ≡ t → Next link from set own clock es → Next link from set own at es
-        → Ran own (assembly (h .buffer) b) s ss (pick t (answer silent [] ∷ heards clock ss es) (heards at (s ∷ ss) es)) (h .asked)
-        (hosted logodwen es (stepped logodwen (Event.Polled clock) h))
-    go true e next same = rw (late-heard k clock e) (ran-heard ss k clock false (answer silent []) es next)
-    go false e next same = let q = wait-quiet k clock e in ran-quiet q (same s ss b _ (quiet-goes k q))
+    go : (b : Bool) → isLate clock (x .at) ≡ b → After link from set own (asked clock) es → After link from set own x es
+        → Ran own base front w t s ss
+        (pick b
+        (endedBy (silentBy x) (heards (asked clock) ss (w + length (fragmentOf s (silentBy x) w (length ss))) es))
+        (heards x (s ∷ ss) w es))
+        (h .asked) (hosted logodwen es (stepped logodwen (Event.Polled clock) h))
+    go true e next same = rw (late-ends k clock e) (ran-ended ss k clock false silent [] (silent-ends x w (length ss)) es next)
+    go false e next same = let q = wait-quiet k clock e in ran-from (q .asked) (same s ss base front w t _ (quiet-goes k q))
 
 -- a request to a group that is answered by asking: what it is, and that it begins a group with nothing built
 module _ (r : GroupRun logodwen) where
@@ -228,9 +304,8 @@ module _ (r : GroupRun logodwen) where
     pub first : ℕ
     pub others : List ℕ
     pub these : slavesOf set ≡ first ∷ others
-    pub going : Going (r .link) from set (statusIn (r .node)) (r .clock) first others (built 0 Tally.Nothing) h
-    pub buffer : h .buffer ≡ r .lent .reply
-    pub asked : h .asked ≡ first ∷ []
+    pub going : Going (r .link) from set (statusIn (r .node)) (asked (r .clock)) first others (r .lent .reply) [] 0 Tally.Nothing h
+    pub asks : h .asked ≡ first ∷ []
 
   pub begins : Begins (begun r)
   unfolding requestOf stateOk
@@ -273,11 +348,12 @@ module _ (r : GroupRun logodwen) where
                     pending = q;
                     writing = v .writing;
                   });
-              space = fine .buffer;
+              long = fine .buffer;
+              words = refl;
+              buffer = laid-none (l .reply) 0 ∙ laid-none (laid (l .reply) 0 []) (0 + 1);
               status = refl;
             };
-            buffer = refl;
-            asked = refl;
+            asks = refl;
           })
 
       go : (v : Verdict) → verdict ≡ v → judged v n l (does (routeOf n (r .link) (r .bc) (r .errors) (r .packet))) .turn .answer ≡ Answer.Ask (r .asking)
@@ -290,42 +366,61 @@ module _ (r : GroupRun logodwen) where
       go (Verdict.No x) e a = let z : _≡_ {A = ℕ} 0 1 = cc in absurd (omega arith)
 
 -- where the host stands after a run, in the words of the statements
-pub record Stands (r : GroupRun logodwen) (ss : List ℕ) (hs : List SlaveAnswer) : Type 0 where
-  pub going : length hs < length ss
-      → (atLast r .buffer ≡ takenAll (assembly (r .lent .reply) (built 0 Tally.Nothing)) ss hs .reply)
-      × (isAsked (atLast r .turn .node .pending) (getD ss (length hs) 0) ≡ true)
-  pub ended : length hs ≡ length ss → Over (atLast r) (groupOf (r .lent .reply) ss hs (statusIn (r .node)))
-  pub asked : atLast r .asked ≡ take (length hs + 1) ss
+pub record Stands (r : GroupRun logodwen) (ss : List ℕ) (hs : Heards) : Type 0 where
+  pub going : length (hs .said) < length ss
+      → (atLast r .buffer
+      ≡ laid (laid (packetsStored (r .lent .reply) ss (hs .said) 0) 0 (assembled ss (hs .said) 0)) (length (assembled ss (hs .said) 0) + 1) (hs .under))
+      × (isAsked (atLast r .turn .node .pending) (getD ss (length (hs .said)) 0) ≡ true)
+  pub ended : length (hs .said) ≡ length ss → Over (atLast r) (groupOf (packetsStored (r .lent .reply) ss (hs .said) 0) ss (hs .said) (statusIn (r .node)))
+  pub asked : atLast r .asked ≡ take (length (hs .said) + 1) ss
+  pub ends : AllEnd ss (hs .said) 0
   pub some : 0 < length ss
   pub space : 12288 ≤ length (r .lent .reply)
 
 module _ (r : GroupRun logodwen) where
-  abbrev buffer : List ℕ
-  buffer = r .lent .reply
+  -- what was lent, with the packets stored
+  abbrev pub withPackets : List ℕ
+  withPackets = packetsStored (r .lent .reply) (slaves r) (said r) 0
 
-  pub stands : Stands r (slaves r) (said r)
+  stands-on : (s : ℕ) (ss : List ℕ) (hs : Heards) → 0 + 5 * length (s ∷ ss) + 2 ≤ 12288 → 12288 ≤ length (r .lent .reply)
+      → Ran (statusIn (r .node)) (r .lent .reply) [] 0 Tally.Nothing s ss hs (s ∷ []) (atLast r) → Stands r (s ∷ ss) hs
+  stands-on s ss hs room space y =
+      let P : List ℕ = packetsStored (r .lent .reply) (s ∷ ss) (hs .said) 0 in
+      let F : List ℕ = assembled (s ∷ ss) (hs .said) 0 in
+      record {
+        going = λ l. (y .going l .0 ∙ ap (λ (m : ℕ). laid (laid P 0 F) (m + 1) (hs .under)) (zero-add (length F)), y .going l .1);
+        ended = λ l.
+            subst (λ (m : Assembly). Over (atLast r) (endOf m (statusIn (r .node))))
+            (sym (taken-all (s ∷ ss) (hs .said) P 0 Tally.Nothing room (omega (arith, space, packets-longer (r .lent .reply) (s ∷ ss) (hs .said) 0))))
+            (y .ended l);
+        asked = y .asked ∙ ap (λ (n : ℕ). take n (s ∷ ss)) (sym (add-one (length (hs .said))));
+        ends = y .ends;
+        some = omega arith;
+        space = space;
+      }
+
+  pub stands : Stands r (slaves r) (heards (asked (r .clock)) (slaves r) 0 (r .events))
   stands =
       let b = begins r in
-      let y : Ran (statusIn (r .node)) (assembly buffer (built 0 Tally.Nothing)) (b .first) (b .others) (heards (r .clock) (b .first ∷ b .others) (r .events)) (b .first ∷ []) (atLast r) = ran-from (b .buffer) (b .asked) (ran (r .events) (b .going) (r .kept)) in
+      let n = ap length (sym (b .these)) in
+      let room : 0 + 5 * length (b .first ∷ b .others) + 2 ≤ 12288 = omega (arith, n, length-slaves (setAsked (r .node) (r .packet))) in
       rw (b .these)
-      (record {
-        going = y .going;
-        ended = y .ended;
-        asked = y .asked ∙ ap (λ (n : ℕ). take n (b .first ∷ b .others)) (sym (add-one (length (heards (r .clock) (b .first ∷ b .others) (r .events)))));
-        some = omega arith;
-        space = rw (sym (b .buffer)) (b .going .space);
-      })
+      (stands-on (b .first) (b .others) (heards (asked (r .clock)) (b .first ∷ b .others) 0 (r .events)) room (b .going .long)
+      (ran-from (b .asks) (ran (r .events) (b .going) (r .kept))))
 
   -- the room of the whole group
   room : 0 + 5 * length (slaves r) + 2 ≤ 12288
   room = let n = length-slaves (setAsked (r .node) (r .packet)) in omega (arith, n)
 
-  -- with more to come, the fragments so far are laid at the front
-  pub so-far : length (said r) < length (slaves r) → atLast r .buffer ≡ laid buffer 0 (fragments r)
-  so-far l = stands .going l .0 ∙ ap (λ (m : Assembly). m .reply) (taken-all (slaves r) (said r) buffer 0 Tally.Nothing room (stands .space))
+  pub long : 12288 ≤ length withPackets
+  long = omega (arith, stands .space, packets-longer (r .lent .reply) (slaves r) (said r) 0)
 
-  fits : 0 + length (fragments r) ≤ length buffer
-  fits = omega (arith, assembled-room (slaves r) (said r) 0 room, stands .space)
+  fits : length (fragments r) + 2 ≤ length withPackets
+  fits = omega (arith, assembled-room (slaves r) (said r) 0 room, long)
+
+  -- with more to come, the fragments so far are laid at the front, over what was stored of packets
+  pub so-far : length (said r) < length (slaves r) → atLast r .buffer ≡ laid (laid withPackets (length (fragments r) + 1) (underWay r)) 0 (fragments r)
+  so-far l = stands .going l .0 ∙ laid-apart withPackets (fragments r) (length (fragments r)) 1 (underWay r) refl (omega (arith, fits))
 
 pub asked-in-order : AskedInOrder logodwen
 asked-in-order r = stands r .asked
@@ -337,11 +432,21 @@ each-asked-once r all =
 
 pub fragments-stand : FragmentsStand logodwen
 fragments-stand r l =
-    (ap (take (length (fragments r))) (so-far r l) ∙ part-laid (r .lent .reply) 0 (fragments r) (length (fragments r)) refl (omega arith), stands r .going l .1)
+    let g = stands r .going l in
+    let n : ℕ = length (fragments r) in
+    let P : List ℕ = laid (withPackets r) (n + 1) (underWay r) in (
+      ap (take n) (so-far r l) ∙ part-laid P 0 (fragments r) n refl (omega arith),
+      ap (λ (x : List ℕ). part x (n + 1) (length (underWay r))) (g .0)
+          ∙ part-laid (laid (withPackets r) 0 (fragments r)) (n + 1) (underWay r) (length (underWay r)) refl (omega (arith, fits r, laid-longer (withPackets r) 0 (fragments r))),
+      g .1,
+    )
 
 pub nothing-past-the-words : NothingPastTheWords logodwen
 nothing-past-the-words r l i h =
-    ap (λ (x : List ℕ). getD x i 0) (so-far r l) ∙ getD-laid-after (r .lent .reply) 0 (fragments r) (fits r) i (omega (arith, h))
+    let n : ℕ = length (fragments r) in
+    let P : List ℕ = laid (withPackets r) (n + 1) (underWay r) in
+    ap (λ (x : List ℕ). getD x i 0) (so-far r l)
+    ∙ getD-laid-after P 0 (fragments r) (omega (arith, fits r, laid-longer (withPackets r) (n + 1) (underWay r))) i (omega (arith, h))
 
 -- what each of the answers is
 abbrev kinds : GroupRun logodwen → List Kind
@@ -363,9 +468,9 @@ module _ (r : GroupRun logodwen) (all : length (said r) ≡ length (slaves r)) w
   abbrev own : ℕ
   own = statusIn (r .node)
 
-  sends : (t : Tally) → tallyFrom Tally.Nothing (kinds r) ≡ t → Over (atLast r) (groupSent (r .lent .reply) t (fragments r) own)
+  sends : (t : Tally) → tallyFrom Tally.Nothing (kinds r) ≡ t → Over (atLast r) (groupSent (withPackets r) t (fragments r) own)
   sends t e =
-      rw (group-sent (r .lent .reply) (slaves r) (said r) own (omega (arith, room r)) (stands r .space) ∙ ap (λ (x : Tally). groupSent (r .lent .reply) x (fragments r) own) e) at (stands r .ended all)
+      rw (group-sent (withPackets r) (slaves r) (said r) own (omega (arith, room r)) (long r) ∙ ap (λ (x : Tally). groupSent (withPackets r) x (fragments r) own) e) at (stands r .ended all)
 
   some-kinds : 0 < length (kinds r)
   some-kinds = kinds-some (slaves r) (said r) 0 all (stands r .some)

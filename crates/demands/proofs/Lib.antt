@@ -20,8 +20,11 @@ pub mod Packets
 pub mod Slaves
 pub mod Starts
 pub mod Asks
+pub mod Stored
 pub mod Events
 pub mod Groups
+pub mod Ends
+pub mod PacketsStore
 pub mod Captures
 pub mod Anchors
 pub mod ClosedRun

@@ -65,8 +65,11 @@ ask-tells ports a = and-tells (ltb-tells (a .link) ports) (leb-tells (a .slave) 
 
 gathering-tells : (slave : ℕ) (g : Gathering) → Tells (gatheringOk slave g) (GatheringIn slave g)
 gathering-tells slave g =
-    same-tells (λ x. record { member = x .0 .0 .0; short = x .0 .0 .1; room = x .0 .1; sent = x .1 }) (λ x. (((x .member, x .short), x .room), x .sent))
+    same-tells (λ x. record { member = x .0 .0 .0 .0; short = x .0 .0 .0 .1; room = x .0 .0 .1; sent = x .0 .1; stored = x .1 .0; fresh = x .1 .1 })
+    (λ x. ((((x .member, x .short), x .room), x .sent), (x .stored, x .fresh)))
+    (and-tells
     (and-tells (and-tells (and-tells (eqb-tells (g .set / 2 ^ slave % 2) 1) (ltb-tells (g .set) 16777216)) (leb-tells (g .built .words + 5 * (length (above (g .set) slave) + 1) + 2) 12288)) (or-tells (eqb-tells (g .from) 1) (eqb-tells (g .from) 2)))
+    (and-tells (leb-tells (g .built .words + g .received .words + 5 * length (above (g .set) slave) + 2) 12288) (or-tells (ltb-tells 0 (g .received .words)) (eqb-tells (g .received .«rx_status») 0))))
 
 pending-tells : (ports : ℕ) (p : Pending) → Tells (pendingOk ports p) (PendingIn ports p)
 pending-tells ports Pending.Nothing = yes-tells
@@ -154,6 +157,7 @@ done-number (Answer.Refused r) h = absurd (false≢true (sym h))
 done-number Answer.Started h = refl
 done-number (Answer.Reply r) h = refl
 done-number (Answer.Ask a) h = refl
+done-number (Answer.Next s) h = refl
 done-number Answer.Waiting h = refl
 done-number (Answer.Erased count) h = refl
 

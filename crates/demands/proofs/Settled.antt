@@ -104,10 +104,13 @@ group-settled =
       ending-seal = λ κs given x y v w p q. (ap (λ (o : Sent). o .reply) (p ∙ sym q), λ i. ((p ∙ sym q) i .buffer, v .1));
       ending-finish = λ κs given x y v w p q. (ap (λ (o : Sent). o .reply) (p ∙ sym q), λ i. ((p ∙ sym q) i .buffer, v .1));
       ending-pass-on = λ κs given x y v w p q. (ap (λ (o : Sent). o .reply) (p ∙ sym q), λ i. ((p ∙ sym q) i .buffer, v .1));
+      fragment-take-first = λ κs given x y v w p q. (ap (λ (o : Assembly). o .built) (p ∙ sym q), λ i. ((p ∙ sym q) i .reply, v .1));
       fragment-take-answer = λ κs given x y v w p q. (ap (λ (o : Assembly). o .built) (p ∙ sym q), λ i. ((p ∙ sym q) i .reply, v .1));
       judge-zero-bc = λ κs given x y v w p q. (p ∙ sym q, refl);
       judge-has-room = λ κs given x y v w p q. (p ∙ sym q, refl);
-      judge-kind-of = λ κs given x y v w p q. (p ∙ sym q, refl);
+      judge-first-kind = λ κs given x y v w p q. (p ∙ sym q, refl);
+      judge-later-judged = λ κs given x y v w p q. (p ∙ sym q, refl);
+      judge-is-part = λ κs given x y v w p q. (p ∙ sym q, refl);
       judge-tallied = λ κs given x y v w p q. (p ∙ sym q, refl);
       judge-tally-number = λ κs given x y v w p q. (p ∙ sym q, refl);
       slaves-ticks-since = λ κs given x y v w p q. (p ∙ sym q, refl);
@@ -132,6 +135,10 @@ pub capture-settled : CaptureSettled
 capture-settled =
     record {
       read-group = λ κs given x y v w p q. (p ∙ sym q, refl);
+      is-mask = λ κs given x y v w p q. (p ∙ sym q, refl);
+      judge-fragment = λ κs given x y v w p q. (p ∙ sym q, refl);
+      judge-end = λ κs given x y v w p q. (p ∙ sym q, refl);
+      judge-fcs = λ κs given x y v w p q. (p ∙ sym q, refl);
     }
 
 pub node-settled : NodeSettled

@@ -1,19 +1,21 @@
--- Each wrong node fails: the refusing one where ours takes a call, the others on the closed run, on a blank flash that is written to,
--- or on a flash of zeros of which a sector is erased. Assumes nothing.
-use Prim.Native.Nat.{ℕ, zero, suc, _+_, _≤_, _<_}
+-- Each wrong node fails: the refusing one where ours takes a call, the others on the closed run, on a blank flash that is written to, on a flash
+-- of zeros of which a sector is erased, or with a group of one slave that answers in packets. Assumes nothing.
+use Prim.Native.Nat.{ℕ, zero, suc, _+_, _*_, _≤_, _<_}
 use mathlib.Core.Path.{_≡_, refl, sym, ap, _∙_, subst}
 use mathlib.Core.Logic.{inr, ⊎-elim}
-use mathlib.Core.Bool.{true, false, false≢true}
+use mathlib.Core.Bool.{Bool, true, false, false≢true}
 use mathlib.Core.List.{List, [], _∷_}
 use native.Mathlib.Nat.{add-zero}
 use native.Mathlib.Omega.{arith}
 use lib.ListN.{length, getD, drop, replicate, length-replicate, getD-replicate}
+use lib.Dec.{eqb}
 use borrow.Author.Tests.{leb-true, ltb-true, eqb-false}
+use Rattle.base.specs.Pick.{pick}
 use Rattle.base.specs.Words.{laid, blanks, Below}
-use Rattle.base.proofs.Part.{getD-part}
+use Rattle.base.proofs.Part.{getD-part, below-two}
 use Rattle.base.proofs.Laid.{getD-laid-in}
 use Rattle.base.proofs.Pick.{pick-case, yes}
-use Rattle.fcs.specs.Fcs.{fcsBit, fcsBits, fcsWord, fcsFrom}
+use Rattle.fcs.specs.Fcs.{fcsBit, fcsBits, fcsWord, fcsFrom, fcsOf}
 use Rattle.image.specs.Header.{headerOk}
 use Rattle.image.specs.Segment.{memoryOf, pageOf, lengthOk, pageOk, spanOf, bodyOk, segmentOk, segmentEnd}
 use Rattle.image.specs.File.{walk, fileEnd}
@@ -30,19 +32,30 @@ use Rattle.flash.specs.declared.Target.{Target}
 use Rattle.flash.proofs.Geometry.{sector-fits, length-sector}
 use Rattle.flash.proofs.Statuses.{first-word}
 use Rattle.memory.specs.Segment.{Memories, memories}
-use Rattle.group.specs.Ending.{replied}
+use Rattle.report.specs.Status.{ownStatus}
+use Rattle.group.specs.Time.{isLate}
+use Rattle.group.specs.Kind.{datOf, codeOf, dataKind, firstKind, laterJudged, kindOf, partBy, Answer as SlaveAnswer}
+use Rattle.group.specs.Tally.{Every}
+use Rattle.group.specs.Slaves.{slavesFrom, slavesOf, nextOf}
+use Rattle.group.specs.Fragment.{statusWord, fragmentOf, built, behind as layBehind, taken as takenBy}
+use Rattle.group.specs.Ending.{replied, sealed as sealedBy, groupStatus, endOf}
+use Rattle.group.specs.Whole.{fragmentsOf, kindsOf, joined, assembled, dataReply}
+use Rattle.group.specs.declared.Kind.{Kind}
 use Rattle.group.specs.declared.Reply.{Reply}
-use Rattle.node.specs.State.{refusalNumber, joining, withWriting}
+use Rattle.group.specs.declared.Tally.{Tally}
+use Rattle.node.specs.State.{refusalNumber, turn, joining, withPending, withWriting}
 use Rattle.node.specs.Valid.{masksOk, stateOk}
-use Rattle.node.specs.Refusals.{startVerdict, requestVerdict, eraseVerdict, replyVerdict}
-use Rattle.node.specs.Route.{writes, addressed, routeOf}
+use Rattle.node.specs.Refusals.{startVerdict, requestVerdict, eraseVerdict, replyVerdict, isPending}
+use Rattle.node.specs.Route.{asking, writes, groupFrom, addressed, routeOf}
 use Rattle.node.specs.Files.{namedBy, readOf, fileWriteOf, loadOf, toErase, eraseStartOf}
-use Rattle.node.specs.Settings.{modeReadOf}
+use Rattle.node.specs.Settings.{statusIn as ownStatusIn, modeReadOf}
 use Rattle.node.specs.Own.{settingsOf, filesOf, ownOf}
-use Rattle.node.specs.Calls.{startOf, requestOf, eraseOf, replyOf}
-use Rattle.node.specs.Effect.{Outcome, further}
+use Rattle.node.specs.Calls.{routed, startOf, requestOf, eraseOf, replyOf, pollOf}
+use Rattle.node.specs.Effect.{Outcome, outcome, applied, further}
+use Rattle.node.specs.Slaves.{ask, received, nothingReceived, gathering, askedAt, replyEffect}
 use Rattle.node.specs.declared.Answer.{Answer}
 use Rattle.node.specs.declared.Node.{Node}
+use Rattle.node.specs.declared.Pending.{Pending}
 use Rattle.node.specs.declared.Refusal.{Refusal}
 use Rattle.node.specs.declared.Turn.{Turn}
 use Rattle.node.specs.declared.Writing.{Writing}
@@ -54,12 +67,15 @@ use Rattle.demands.specs.Refusals.{numberOf, RefusedExactly}
 use Rattle.demands.specs.Anchors.{blank, file}
 use Rattle.demands.specs.Files.{fileName, Unused, Takes, IsFile, Writes, ReadsBack, NeverCorrupted, Shared, SeveralAbort, Single, StaysSingle, FlashFollows}
 use Rattle.demands.specs.Packets.{Sent, AnyDivision, LeftAlone}
-use Rattle.demands.specs.Groups.{StartsFull}
+use Rattle.demands.specs.Events.{Event, Host, host, stepped, hosted, Undropped, asked, heards}
+use Rattle.demands.specs.Groups.{isGroup, StartsFull, GroupRun, packetsStored, begun as groupBegun, atLast, slaves, said, Ascending, GroupIsItsFragments, PacketsStore}
+use Rattle.demands.specs.Ends.{pendingIn, unfinishedIn, isTaken, takenIn, Ticking, Timed, askedTick, EachLowersOrStores, AlwaysEnds, NeverAskedTwice, SettledInTime}
 use Rattle.demands.specs.ClosedRun.{with, started, written, ClosedRun}
-use Rattle.demands.specs.ShutOut.{refusing, unstarted, disorderly, aborting, constant, idle, lying, denying, judging, hoarding, mixing, empty, loader, hasty, boasting, dropping, rogue, scanning, remembering, measuring, overlooking, choosing, doubling, ShutOut}
+use Rattle.demands.specs.ShutOut.{refusing, unstarted, disorderly, aborting, constant, idle, lying, denying, judging, hoarding, mixing, empty, sealing, hurrying, counting, insisting, waitsOn, patient, loader, hasty, boasting, dropping, rogue, scanning, remembering, measuring, overlooking, choosing, doubling, ShutOut}
 use Rattle.demands.specs.Flash.{countOf, Course, HasSet, ErasureFollows, Erases}
 use Rattle.demands.proofs.Refusals.{refused-exactly}
 use Rattle.demands.proofs.Held.{named-blank}
+use Rattle.demands.proofs.Slaves.{up, slaves-up}
 use Rattle.demands.proofs.ClosedRun.{closed-run}
 use Rattle.demands.proofs.NoStaleRecord.{no-stale-record}
 use Rattle.demands.proofs.Commands.{bcIn, wordsIn}
@@ -307,6 +323,325 @@ starts-empty : StartsFull empty → ⊥
 unfolding startVerdict startOf
 starts-empty w = eqb-false 0 0xFFFFFF refl (w 2 4 0 0 0 0 0 blank refl 0)
 
+-- a group of slave 23 alone, asked at clock 0
+groupPacket : List ℕ
+groupPacket = 0x0023 ∷ 0x8000 ∷ 0 ∷ []
+
+group-16 : Below 65536 groupPacket
+unfolding groupPacket
+group-16 zero = ltb-true 0x0023 65536 refl
+group-16 (suc i) = below-two 0x8000 0 (ltb-true 0x8000 65536 refl) (ltb-true 0 65536 refl) i
+
+is-group : isGroup groupPacket ≡ true
+unfolding groupPacket
+is-group = refl
+
+slaves-are : slavesOf 0x800000 ≡ 23 ∷ []
+unfolding up
+slaves-are = slaves-up 24 0 0x800000
+
+waiting : Node
+waiting = withPending (started logodwen .node) (Pending.Group (ask 0 23 0) (gathering 0x800000 2 (built 0 Tally.Nothing) nothingReceived))
+
+waits : Outcome
+waits = outcome (turn waiting (Answer.Ask (asking 23 2))) (with blank)
+
+asks-one : requestOf (started logodwen .node) 0 0 3 false groupPacket (with blank) ≡ waits
+unfolding groupPacket waiting waits masksOk stateOk startVerdict requestVerdict addressed routeOf startOf requestOf
+asks-one = ap by slaves-are
+  where
+    by : List ℕ → Outcome
+    by ss = applied (started logodwen .node) (with blank) (routed (groupFrom (nextOf ss) 0x800000 2) (started logodwen .node) 0 0 groupPacket (with blank))
+
+-- what the slaves are heard to answer, and the buffer with the words of a reply with data
+abbrev says : List Event → List ℕ → List SlaveAnswer
+says es ss = heards (asked 0) ss 0 es .said
+
+abbrev tells : List Event → Tally → List ℕ → List ℕ
+tells es t ss =
+    laid (packetsStored (replicate 12288 0) ss (says es ss) 0) 0 (dataReply (assembled ss (says es ss) 0) t (ownStatusIn (started logodwen .node)))
+
+-- where the request leaves the host
+asked-host : Host
+asked-host = host [] (turn waiting (Answer.Ask (asking 23 2))) blank (replicate 12288 0)
+
+-- a run of such a group
+module _ (M : Machine) (same : M .request (started logodwen .node) 0 0 3 false groupPacket (with blank) ≡ waits) (es : List Event) (kept : Undropped 0 es) where
+  run : GroupRun M
+  unfolding waits
+  run =
+      record {
+        node = started logodwen .node;
+        clock = 0;
+        link = 0;
+        bc = 3;
+        errors = false;
+        packet = groupPacket;
+        lent = with blank;
+        words = group-16;
+        group = is-group;
+        asking = asking 23 2;
+        asks = ap (λ (o : Outcome). o .turn .answer) same;
+        events = es;
+        kept = kept;
+      }
+
+  run-ends : atLast run ≡ hosted M es asked-host
+  unfolding run waits asked-host
+  run-ends = ap (λ (o : Outcome). hosted M es (host [] (o .turn) (o .after .flash) (o .after .reply))) same
+
+  slaves-of : slaves run ≡ 23 ∷ []
+  unfolding run groupPacket
+  slaves-of = slaves-are
+
+  -- what holds of that slave and what it is heard to answer
+  run-each : (P : List ℕ → List SlaveAnswer → Type 0) → P (23 ∷ []) (says es (23 ∷ [])) → P (slaves run) (said run)
+  unfolding run
+  run-each P h = subst (λ (ss : List ℕ). P ss (says es ss)) (sym slaves-of) h
+
+  -- the word that stands at a place, and the one that should
+  run-word : (t : Tally) (i : ℕ) → atLast run .buffer ≡ tells es t (slaves run) → getD (hosted M es asked-host .buffer) i 0 ≡ getD (tells es t (23 ∷ [])) i 0
+  run-word t i e =
+      ap (λ (h : Host). getD (h .buffer) i 0) (sym run-ends) ∙ ap (λ (x : List ℕ). getD x i 0) e ∙ ap (λ (ss : List ℕ). getD (tells es t ss) i 0) slaves-of
+
+-- a reply whole with its second packet: where its fragment has its status word, 8017, the FCS stands
+wholeReply : List Event
+wholeReply = Event.Replied 1 23 2 false 0 0 (0 ∷ []) ∷ Event.Replied 2 23 1 false 0 0 (fcsOf (0 ∷ []) ∷ []) ∷ []
+
+whole-kept : Undropped 0 wholeReply
+unfolding Undropped wholeReply
+whole-kept = (refl, (refl, tt))
+
+one-whole : length (says wholeReply (23 ∷ [])) ≡ 1
+unfolding wholeReply fcsBit fcsBits fcsWord fcsFrom isLate laterJudged kindOf partBy heards
+one-whole = refl
+
+all-whole : Every Kind.Whole (kindsOf (23 ∷ []) (says wholeReply (23 ∷ [])) 0)
+unfolding wholeReply Every kindsOf fcsBit fcsBits fcsWord fcsFrom isLate laterJudged kindOf partBy heards
+all-whole = (refl, tt)
+
+stands-sealed : getD (hosted sealing wholeReply asked-host .buffer) 1 0 ≡ fcsOf (0 ∷ [])
+unfolding wholeReply waiting asked-host hosted laid fcsBit fcsBits fcsWord fcsFrom isLate slavesFrom dataKind firstKind laterJudged kindOf partBy statusWord fragmentOf layBehind takenBy sealedBy groupStatus endOf ownStatus masksOk stateOk startVerdict replyVerdict replyEffect startOf replyOf
+stands-sealed = refl
+
+owed-sealed : getD (tells wholeReply Tally.Whole (23 ∷ [])) 1 0 ≡ 0x8017
+unfolding wholeReply laid fcsBit fcsBits fcsWord fcsFrom isLate dataKind firstKind laterJudged kindOf partBy statusWord fragmentOf fragmentsOf joined groupStatus ownStatus startVerdict startOf heards packetsStored
+owed-sealed = refl
+
+fcs-differs : eqb (fcsOf (0 ∷ [])) 0x8017 ≡ false
+unfolding fcsBit fcsBits fcsWord fcsFrom
+fcs-differs = refl
+
+seals-twice : GroupIsItsFragments sealing → ⊥
+unfolding run
+seals-twice w =
+    let r : GroupRun sealing = run sealing asks-one wholeReply whole-kept in
+    let each = run-each sealing asks-one wholeReply whole-kept in
+    let sends = w r (each (λ ss hs. length hs ≡ length ss) one-whole) .whole (each (λ ss hs. Every Kind.Whole (kindsOf ss hs 0)) all-whole) in
+    let word = run-word sealing asks-one wholeReply whole-kept Tally.Whole 1 (sends .words) in
+    eqb-false (fcsOf (0 ∷ [])) 0x8017 fcs-differs (sym stands-sealed ∙ word ∙ owed-sealed)
+
+-- a packet stored at clock 1, of a slave asked at 0
+hurries : PacketsStore hurrying → ⊥
+unfolding waiting laid isLate slavesFrom partBy masksOk stateOk startVerdict replyVerdict replyEffect startOf replyOf
+hurries w = eqb-false 0 1 refl (ap askedAt (w waiting 1 23 2 false 0 0 (0 ∷ []) (replicate 12288 0) 23 refl .1 .now))
+
+-- a second packet of two words that comes too late: one word was received
+lateReply : List Event
+lateReply = Event.Replied 1 23 2 false 0 0 (0 ∷ []) ∷ Event.Replied 61 23 1 false 0 0 (0 ∷ 0 ∷ []) ∷ []
+
+late-kept : Undropped 0 lateReply
+unfolding Undropped lateReply
+late-kept = (refl, (refl, tt))
+
+one-late : length (says lateReply (23 ∷ [])) ≡ 1
+unfolding lateReply fcsBit fcsBits fcsWord fcsFrom isLate laterJudged kindOf partBy heards
+one-late = refl
+
+none-common : (k : Kind) → (datOf k ≡ 1 → codeOf k ≡ 6 → ⊥) → Every k (kindsOf (23 ∷ []) (says lateReply (23 ∷ [])) 0) → ⊥
+unfolding lateReply Every kindsOf fcsBit fcsBits fcsWord fcsFrom isLate laterJudged kindOf partBy heards
+none-common k h e = h (ap datOf (sym (e .0))) (ap codeOf (sym (e .0)))
+
+stands-counted : getD (hosted counting lateReply asked-host .buffer) 2 0 ≡ 3
+unfolding lateReply waiting asked-host hosted laid fcsBit fcsBits fcsWord fcsFrom isLate slavesFrom dataKind firstKind laterJudged kindOf partBy statusWord fragmentOf layBehind takenBy sealedBy groupStatus endOf ownStatus masksOk stateOk startVerdict replyVerdict replyEffect startOf replyOf
+stands-counted = refl
+
+owed-counted : getD (tells lateReply Tally.Mixed (23 ∷ [])) 2 0 ≡ 1
+unfolding lateReply laid fcsBit fcsBits fcsWord fcsFrom isLate dataKind firstKind laterJudged kindOf partBy statusWord fragmentOf fragmentsOf joined groupStatus ownStatus startVerdict startOf heards packetsStored
+owed-counted = refl
+
+counts-late : GroupIsItsFragments counting → ⊥
+unfolding run
+counts-late w =
+    let r : GroupRun counting = run counting asks-one lateReply late-kept in
+    let each = run-each counting asks-one lateReply late-kept in
+    let none = each (λ ss hs. (k : Kind) → (datOf k ≡ 1 → codeOf k ≡ 6 → ⊥) → Every k (kindsOf ss hs 0) → ⊥) none-common in
+    let sends =
+    w r (each (λ ss hs. length hs ≡ length ss) one-late) .mixed (λ z. none (Kind.Zero z) (λ p q. eqb-false 0 1 refl p)) (none Kind.Whole (λ p q. eqb-false 0 6 refl q)) in
+    let word = run-word counting asks-one lateReply late-kept Tally.Mixed 2 (sends .words) in
+    eqb-false 3 1 refl (sym stands-counted ∙ word ∙ owed-counted)
+
+-- an answer with receive errors: slave 23 is asked twice
+withErrors : List Event
+withErrors = Event.Replied 1 23 3 true 0 0 (0 ∷ []) ∷ []
+
+errors-kept : Undropped 0 withErrors
+unfolding Undropped withErrors
+errors-kept = (refl, tt)
+
+twice-asked : hosted insisting withErrors asked-host .asked ≡ 23 ∷ 23 ∷ []
+unfolding withErrors waiting asked-host hosted laid isLate slavesFrom firstKind kindOf partBy statusWord fragmentOf layBehind takenBy masksOk stateOk startVerdict replyVerdict replyEffect startOf replyOf
+twice-asked = refl
+
+asks-again : NeverAskedTwice insisting → ⊥
+asks-again w =
+    let a = w (run insisting asks-one withErrors errors-kept) in
+    let e : atLast (run insisting asks-one withErrors errors-kept) .asked ≡ 23 ∷ 23 ∷ [] =
+    ap (λ (h : Host). h .asked) (run-ends insisting asks-one withErrors errors-kept) ∙ twice-asked in
+    let b : Ascending (23 ∷ 23 ∷ []) = subst Ascending e a in
+    omega (arith, b .0)
+
+-- a first packet, and then polls at 61, however many: what is pending stays
+firstPacket : Event
+firstPacket = Event.Replied 1 23 2 false 0 0 (0 ∷ [])
+
+latePolls : ℕ → List Event
+latePolls zero = []
+latePolls (suc n) = Event.Polled 61 ∷ latePolls n
+
+awaitsMore : Pending
+awaitsMore = Pending.Group (ask 0 23 1) (gathering 0x800000 2 (built 0 Tally.Nothing) (received 1 0))
+
+polls-kept : (n : ℕ) → Undropped 0 (latePolls n)
+unfolding Undropped latePolls
+polls-kept zero = tt
+polls-kept (suc n) = (refl, polls-kept n)
+
+packet-kept : (n : ℕ) → Undropped 0 (firstPacket ∷ latePolls n)
+unfolding Undropped firstPacket
+packet-kept n = (refl, polls-kept n)
+
+module _ (h : Host) (e : pendingIn h ≡ awaitsMore) where
+  stays : pendingIn (stepped patient (Event.Polled 61) h) ≡ awaitsMore
+  unfolding awaitsMore
+  stays = ap (λ (p : Pending). waitsOn p (h .turn .node) (h .buffer) (pollOf (h .turn .node) 61 (h .buffer)) .turn .node .pending) e ∙ e
+
+  late-taken : isTaken (Event.Polled 61) (pendingIn h) ≡ true
+  unfolding awaitsMore isLate
+  late-taken = ap (isTaken (Event.Polled 61)) e
+
+  more-pending : isPending (pendingIn h) ≡ true
+  unfolding awaitsMore
+  more-pending = ap isPending e
+
+stays-on : (n : ℕ) (h : Host) → pendingIn h ≡ awaitsMore → pendingIn (hosted patient (latePolls n) h) ≡ awaitsMore
+unfolding hosted latePolls
+stays-on zero h e = e
+stays-on (suc n) h e =
+    ap (λ (b : Bool). pendingIn (pick b (hosted patient (latePolls n) (stepped patient (Event.Polled 61) h)) h)) (more-pending h e)
+    ∙ stays-on n (stepped patient (Event.Polled 61) h) (stays h e)
+
+all-taken : (n : ℕ) (h : Host) → pendingIn h ≡ awaitsMore → takenIn patient (latePolls n) h ≡ n
+unfolding takenIn latePolls
+all-taken zero h e = refl
+all-taken (suc n) h e =
+    let next = all-taken n (stepped patient (Event.Polled 61) h) (stays h e) in
+    (λ i. pick (more-pending h e i) (pick (late-taken h e i) 1 0 + takenIn patient (latePolls n) (stepped patient (Event.Polled 61) h)) 0) ∙ omega (arith, next)
+
+-- the packet is stored and counts as one
+packet-stored : pendingIn (stepped patient firstPacket asked-host) ≡ awaitsMore
+unfolding firstPacket awaitsMore waiting asked-host laid isLate slavesFrom partBy masksOk stateOk startVerdict replyVerdict replyEffect startOf replyOf
+packet-stored = refl
+
+module _ (n : ℕ) where
+  waiting-run : GroupRun patient
+  waiting-run = run patient asks-one (firstPacket ∷ latePolls n) (packet-kept n)
+
+  stays-pending : pendingIn (atLast waiting-run) ≡ awaitsMore
+  unfolding waiting-run hosted asked-host waiting
+  stays-pending =
+      ap pendingIn (run-ends patient asks-one (firstPacket ∷ latePolls n) (packet-kept n)) ∙ stays-on n (stepped patient firstPacket asked-host) packet-stored
+
+  begins-asked : groupBegun waiting-run ≡ asked-host
+  unfolding run waits asked-host waiting-run
+  begins-asked = ap (λ (o : Outcome). host [] (o .turn) (o .after .flash) (o .after .reply)) asks-one
+
+  counts-all : n ≤ takenIn patient (waiting-run .events) (groupBegun waiting-run)
+  unfolding run waiting-run takenIn asked-host waiting firstPacket
+  counts-all =
+      let t = all-taken n (stepped patient firstPacket asked-host) packet-stored in
+      let u : takenIn patient (firstPacket ∷ latePolls n) (groupBegun waiting-run) ≡ 1 + takenIn patient (latePolls n) (stepped patient firstPacket asked-host) =
+      ap (takenIn patient (firstPacket ∷ latePolls n)) begins-asked in
+      omega (arith, t, u)
+
+waits-on : EachLowersOrStores patient → ⊥
+waits-on w =
+    let h : Host = atLast (waiting-run 0) in
+    let e = stays-pending 0 in
+    let st = w (waiting-run 0) (more-pending h e) (Event.Polled 61) refl in
+    let falls = st .finishes (late-taken h e) refl in
+    omega (arith, falls, ap unfinishedIn (stays h e ∙ sym e))
+
+waits-for-ever : AlwaysEnds patient → ⊥
+unfolding awaitsMore
+waits-for-ever w =
+    let r = w (waiting-run (24 * 12287)) (counts-all (24 * 12287)) in
+    false≢true (ap isPending (sym (r .nothing) ∙ stays-pending (24 * 12287)))
+
+-- polls at 60 and 120: at 121 the NEXT of 1 still stands
+polledTwice : List Event
+polledTwice = firstPacket ∷ Event.Polled 60 ∷ Event.Polled 120 ∷ []
+
+twice-kept : Undropped 0 polledTwice
+unfolding Undropped polledTwice firstPacket
+twice-kept = (refl, (refl, (refl, tt)))
+
+polled-run : GroupRun patient
+polled-run = run patient asks-one polledTwice twice-kept
+
+polled-begins : groupBegun polled-run ≡ asked-host
+unfolding run waits asked-host polled-run
+polled-begins = ap (λ (o : Outcome). host [] (o .turn) (o .after .flash) (o .after .reply)) asks-one
+
+polled-timed : Timed polled-run
+unfolding run polled-run polledTwice firstPacket Ticking
+polled-timed =
+    record {
+      from = 0;
+      ticks = 1 ∷ 60 ∷ 120 ∷ [];
+      now = 121;
+      clock = refl;
+      polls = λ _. (
+        (leb-true 0 1 refl, leb-true 1 60 refl),
+        (
+          refl,
+          λ _. (
+            (leb-true 1 60 refl, leb-true 60 60 refl),
+            (
+              refl,
+              λ _. ((leb-true 60 120 refl, leb-true 120 120 refl), (refl, λ _. (leb-true 120 121 refl, leb-true 121 180 refl))),
+            ),
+          ),
+        ),
+      );
+    }
+
+pends-still : isPending (pendingIn (hosted patient polledTwice asked-host)) ≡ true
+unfolding polledTwice firstPacket awaitsMore waiting asked-host hosted laid isLate slavesFrom partBy masksOk stateOk startVerdict replyVerdict replyEffect startOf replyOf
+pends-still = refl
+
+asked-at-one : askedTick patient 0 (1 ∷ 60 ∷ 120 ∷ []) polledTwice asked-host ≡ 1
+unfolding polledTwice firstPacket awaitsMore waiting asked-host askedTick laid isLate slavesFrom partBy masksOk stateOk startVerdict replyVerdict replyEffect startOf replyOf
+asked-at-one = refl
+
+waits-too-long : SettledInTime patient → ⊥
+unfolding run polled-run polled-timed
+waits-too-long w =
+    let l = w polled-run polled-timed (ap (λ (h : Host). isPending (pendingIn h)) (run-ends patient asks-one polledTwice twice-kept) ∙ pends-still) in
+    let e : askedTick patient 0 (1 ∷ 60 ∷ 120 ∷ []) polledTwice (groupBegun polled-run) ≡ 1 =
+    ap (askedTick patient 0 (1 ∷ 60 ∷ 120 ∷ []) polledTwice) polled-begins ∙ asked-at-one in
+    omega (arith, l, e)
+
 -- a Load while the erasure is in progress
 loads-half : NeverCorrupted loader → ⊥
 unfolding zeros zeroed packet begun laid headerOk fileEnd isSector bySector sectorOf isEmpty statusOf statusIn fourthWord entryOf entryFor entriesFrom directoryOf entered firstFrom masksOk stateOk startVerdict requestVerdict addressed routeOf sectorAt eraseStartOf loadOf filesOf ownOf startOf requestOf
@@ -485,6 +820,13 @@ shut-out =
       joins-header = joins-header;
       mixes-links = mixes-links;
       starts-empty = starts-empty;
+      seals-twice = seals-twice;
+      hurries = hurries;
+      counts-late = counts-late;
+      asks-again = asks-again;
+      waits-on = waits-on;
+      waits-for-ever = waits-for-ever;
+      waits-too-long = waits-too-long;
       loads-half = loads-half;
       overlooks-remains = overlooks-remains;
       chooses = chooses;

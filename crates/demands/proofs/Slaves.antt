@@ -2,7 +2,7 @@
 use Prim.Native.Nat.{ℕ, zero, suc, _+_, _≤_, _<_}
 use mathlib.Core.Path.{_≡_, refl, sym, ap, _∙_}
 use mathlib.Core.Bool.{Bool, true, false, _||_}
-use mathlib.Core.List.{List, _∷_}
+use mathlib.Core.List.{List, [], _∷_}
 use native.Mathlib.Omega.{arith}
 use lib.Dec.{eqb}
 use borrow.Author.Tests.{ne-eqb, eqb-true, eqb-false}
@@ -58,3 +58,21 @@ slaves-exactly set =
       members = λ s h. members-from 24 0 set s (omega arith) (omega arith);
       others = λ s h. others-from 24 0 set s (λ p q. omega arith);
     }
+
+-- the slaves of a set, with each rest computed once
+abbrev slaveThen : Bool → ℕ → List ℕ → List ℕ
+slaveThen true s ss = s ∷ ss
+slaveThen false s ss = ss
+
+unfoldable pub up : ℕ → ℕ → ℕ → List ℕ
+up zero s set = []
+up (suc n) s set = slaveThen (hasSlave set s) s (up n (s + 1) set)
+
+pub slaves-up : (n s set : ℕ) → slavesFrom n s set ≡ up n s set
+unfolding slavesFrom up
+slaves-up zero s set = refl
+slaves-up (suc n) s set = by (hasSlave set s) (slavesFrom n (s + 1) set) ∙ ap (slaveThen (hasSlave set s) s) (slaves-up n (s + 1) set)
+  where
+    by : (t : Bool) (rest : List ℕ) → pick t (s ∷ rest) rest ≡ slaveThen t s rest
+    by true rest = refl
+    by false rest = refl

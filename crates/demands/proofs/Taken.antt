@@ -6,7 +6,7 @@ use mathlib.Core.Bool.{Bool, false, false≢true}
 use mathlib.Core.List.{List, []}
 use lib.ListN.{length}
 use Rattle.base.proofs.Pick.{pick-case}
-use Rattle.group.specs.Kind.{answer}
+use Rattle.group.specs.Kind.{partBy}
 use Rattle.group.specs.Slaves.{above, nextOf}
 use Rattle.group.specs.Fragment.{assembly, taken}
 use Rattle.group.specs.Time.{isLate}
@@ -16,7 +16,7 @@ use Rattle.group.specs.declared.Reply.{Reply}
 use Rattle.node.specs.Effect.{Effect, Lent}
 use Rattle.node.specs.Refusals.{requestVerdict}
 use Rattle.node.specs.Route.{routeOf}
-use Rattle.node.specs.Slaves.{heard, silent, goesOn, hears, askedAt, replyEffect, pollEffect}
+use Rattle.node.specs.Slaves.{heard, silent, goesOn, packetIn, yetToAsk, hears, askedAt, replyEffect, pollEffect}
 use Rattle.node.specs.Calls.{judged, routed}
 use Rattle.node.specs.declared.Answer.{Answer}
 use Rattle.node.specs.declared.Asking.{Asking}
@@ -46,20 +46,22 @@ pub judged-unchanged : (v : Verdict) (n : Node) (l : Lent) (e : Effect) → isRe
 judged-unchanged Verdict.Fine n l e t h = absurd (false≢true (sym t ∙ h))
 judged-unchanged (Verdict.No r) n l e t h = (refl, refl)
 
--- a request, a slave's reply and a poll that are taken answer a reply, an ask or a wait: what holds of these holds of their answer
+-- a request, a slave's reply and a poll that are taken answer a reply, an ask, NEXT or a wait: what holds of these holds of their answer
 module _ (P : Answer → Type 0) (replies : (r : Reply) → P (Answer.Reply r)) (asks : (a : Asking) → P (Answer.Ask a)) where
   pub request-answer : (n : Node) (clock link bc : ℕ) (errors : Bool) (packet : List ℕ) (l : Lent) → P (requestEffect n clock link bc errors packet l .answer)
   request-answer n clock link bc errors packet l =
       route-case (λ r. P (routed r n clock link packet l .answer)) n link bc errors packet (replies _) (replies _) (λ _ _. replies _) (λ _ _. replies _)
       (λ _ _. replies _) (λ from at j. replies _) (λ at w. replies _) (λ id w c. replies _) (λ s h. asks _) (λ set from s named e. asks _)
 
-  module _ (waits : P Answer.Waiting) where
+  module _ (nexts : (s : ℕ) → P (Answer.Next s)) (waits : P Answer.Waiting) where
     hears-answer : (p : Pending) (n : Node) (clock : ℕ) (h : Heard) (words reply : List ℕ) → P (hears p n clock h words reply .answer)
     hears-answer Pending.Nothing n clock h words reply = waits
     hears-answer (Pending.Slave a) n clock h words reply = replies _
-    hears-answer (Pending.Group a g) n clock h words reply = by (nextOf (above (g .set) (a .slave)))
+    hears-answer (Pending.Group a g) n clock h words reply =
+        pick-case (λ (e : Effect). P (e .answer)) (partBy h (g .received .words) (length words) (g .built .words) (yetToAsk a g)) (λ _. nexts _)
+        (λ _. by (nextOf (above (g .set) (a .slave))))
       where
-        by : (next : Next) → P (goesOn n a g clock (taken (assembly reply (g .built)) (length (above (g .set) (a .slave))) (a .slave) (answer h words)) next .answer)
+        by : (next : Next) → P (goesOn n a g clock (taken (assembly reply (g .built)) (yetToAsk a g) (a .slave) (packetIn g h words reply)) next .answer)
         by Next.Nobody = replies _
         by (Next.Slave s) = asks _
 
@@ -81,7 +83,7 @@ pub request-taken : (n : Node) (clock link bc : ℕ) (errors : Bool) (packet : L
 request-taken = request-answer Taken (λ _. refl) (λ _. refl)
 
 pub reply-taken : (n : Node) (clock : ℕ) (errors : Bool) (status address bc : ℕ) (words reply : List ℕ) → isRefused (replyEffect n clock errors status address bc words reply .answer) ≡ false
-reply-taken = reply-answer Taken (λ _. refl) (λ _. refl) refl
+reply-taken = reply-answer Taken (λ _. refl) (λ _. refl) (λ _. refl) refl
 
 pub poll-taken : (n : Node) (clock : ℕ) (reply : List ℕ) → isRefused (pollEffect n clock reply .answer) ≡ false
-poll-taken = poll-answer Taken (λ _. refl) (λ _. refl) refl
+poll-taken = poll-answer Taken (λ _. refl) (λ _. refl) (λ _. refl) refl

@@ -8,7 +8,8 @@ use Rattle.demands.specs.Reached.{NoStaleRecord, LengthsShown, SummaryIs
 use Rattle.demands.specs.Flash.{ErasureFollows, Erases, OneSector, NoBitRises}
 use Rattle.demands.specs.Files.{Writes, ReadsBack, NeverCorrupted, GoodIsServed, SeveralAbort, StaysSingle, FlashFollows}
 use Rattle.demands.specs.Packets.{AnyDivision, LeftAlone}
-use Rattle.demands.specs.Groups.{StartsFull, GroupIsAsked, GroupIsItsFragments, AskedInOrder, EachAskedOnce, FragmentsStand, NothingPastTheWords, DataIsAcceptable}
+use Rattle.demands.specs.Groups.{StartsFull, GroupIsAsked, GroupIsItsFragments, AskedInOrder, EachAskedOnce, FragmentsStand, NothingPastTheWords, PacketsStore, DataIsAcceptable}
+use Rattle.demands.specs.Ends.{EachLowersOrStores, AlwaysEnds, NeverAskedTwice, SettledInTime, DeadEndInTime, AllEndInTime}
 use Rattle.demands.specs.ClosedRun.{ClosedRun}
 
 pub record Demands (M : Machine) : Type 0 where
@@ -34,15 +35,25 @@ pub record Demands (M : Machine) : Type 0 where
   pub erases : Erases M
   -- Mask 0 of a CDDC starts full.
   pub starts-full : StartsFull M
-  -- A group reply is its slaves' fragments in order, each slave of the set asked once; meanwhile no word is stored past those built.
+  -- A group reply is its slaves' fragments in order, each slave of the set asked once, and answering in one packet or in several; meanwhile no
+  -- word is stored past those built but those of packets, and these within the room.
   pub group-is-asked : GroupIsAsked M
   pub group-is-its-fragments : GroupIsItsFragments M
   pub asked-in-order : AskedInOrder M
   pub each-asked-once : EachAskedOnce M
   pub fragments-stand : FragmentsStand M
   pub nothing-past-the-words : NothingPastTheWords M
+  pub packets-store : PacketsStore M
   -- Its data are accepted by a reader of captured replies.
   pub data-is-acceptable : DataIsAcceptable M
+  -- A group always comes to an end: each call finishes a slave, stores a packet's words or is nothing to it, so that a bounded number of answers and
+  -- late polls ends it; no slave is sent the request twice; and polled in every 60 ticks it ends in a bounded time, dead slaves or not.
+  pub each-lowers-or-stores : EachLowersOrStores M
+  pub always-ends : AlwaysEnds M
+  pub never-asked-twice : NeverAskedTwice M
+  pub settled-in-time : SettledInTime M
+  pub dead-end-in-time : DeadEndInTime M
+  pub all-end-in-time : AllEndInTime M
   -- One run, worked out: start, File Write, File Read.
   pub closed-run : ClosedRun M
   -- 3 No stale record. After any sequence of calls, refused ones and half-done erasures included, the directory kept is the one worked out

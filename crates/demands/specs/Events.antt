@@ -1,6 +1,6 @@
--- The calls of one group as its host makes them: each lent what the call before left. 01 'Call refusals' and 'Group assembly'. Assumes
--- nothing.
-use Prim.Native.Nat.{ℕ}
+-- The calls of one group as its host makes them: each lent what the call before left. 01 'Call refusals' and 'Group assembly', and 02,
+-- request 8. Assumes nothing.
+use Prim.Native.Nat.{ℕ, _+_}
 use mathlib.Core.Path.{_≡_}
 use mathlib.Core.Bool.{Bool, false, _&&_, not}
 use mathlib.Core.List.{List, [], _∷_, _++_}
@@ -9,7 +9,8 @@ use lib.ListN.{length}
 use Rattle.base.specs.Pick.{pick}
 use Rattle.memory.specs.Segment.{Memories}
 use Rattle.group.specs.Time.{isLate}
-use Rattle.group.specs.Kind.{answer, Answer as SlaveAnswer}
+use Rattle.group.specs.Kind.{packet, joinedOf, isPart, Answer as SlaveAnswer}
+use Rattle.group.specs.Fragment.{fragmentOf}
 use Rattle.node.specs.Refusals.{isPending}
 use Rattle.node.specs.Route.{bcOf}
 use Rattle.node.specs.Effect.{Further, lent, Outcome}
@@ -32,12 +33,13 @@ pub record Host : Type 0 where
   pub buffer : List ℕ
   pub asked : List ℕ
 
--- The slave that an answer says to ask.
+-- The slave that an answer says to ask. NEXT is not the request.
 abbrev pub slaveIn : Answer → List ℕ
 slaveIn (Answer.Refused r) = []
 slaveIn Answer.Started = []
 slaveIn (Answer.Reply r) = []
 slaveIn (Answer.Ask a) = a .slave ∷ []
+slaveIn (Answer.Next s) = []
 slaveIn Answer.Waiting = []
 slaveIn (Answer.Erased count) = []
 
@@ -76,13 +78,51 @@ unfoldable pub Undropped : ℕ → List Event → Type 0
 Undropped link [] = Unit {0}
 Undropped link (e ∷ es) = (dropsGroup link e ≡ false) × Undropped link es
 
--- What these slaves are heard to answer, the first asked at a clock, each next one when the one before has ended: the reply of the
--- slave now being asked, a timeout if it comes too late; and a timeout where a poll finds it too late. Other calls are nothing to it.
-unfoldable pub heards : ℕ → List ℕ → List Event → List SlaveAnswer
-heards at [] es = []
-heards at (s ∷ ss) [] = []
-heards at (s ∷ ss) (Event.Requested clock link bc errors packet m x ∷ es) = heards at (s ∷ ss) es
-heards at (s ∷ ss) (Event.Replied clock slave bc errors status address words ∷ es) =
-    pick (eqb s slave) (answer (heard (isLate clock at) errors status address bc) words ∷ heards clock ss es) (heards at (s ∷ ss) es)
-heards at (s ∷ ss) (Event.Polled clock ∷ es) = pick (isLate clock at) (answer silent [] ∷ heards clock ss es) (heards at (s ∷ ss) es)
-heards at (s ∷ ss) (Event.Erased budget ∷ es) = heards at (s ∷ ss) es
+-- What is known of the slave now being asked: when it was asked, or NEXT was sent to it; the words received of its reply, and the RX status of the
+-- last packet. 02, request 8.
+pub record Awaited : Type 0 where
+  pub at : ℕ
+  pub earlier : List ℕ
+  pub kept : ℕ
+
+-- It was asked at a clock; or a packet of it was stored, and NEXT sent.
+abbrev pub asked : ℕ → Awaited
+asked clock = record { at = clock; earlier = []; kept = 0 }
+
+abbrev pub sentNext : ℕ → SlaveAnswer → Awaited
+sentNext clock a = record { at = clock; earlier = joinedOf a; kept = a .heard .«rx_status» }
+
+-- A packet that it answers with, too late or in time; and that it has not answered.
+abbrev pub answeredBy : Awaited → ℕ → ℕ → Bool → ℕ → ℕ → List ℕ → SlaveAnswer
+answeredBy x clock bc errors status address words =
+    packet (heard (isLate clock (x .at)) errors status address bc) words (x .earlier) (x .kept)
+
+abbrev pub silentBy : Awaited → SlaveAnswer
+silentBy x = packet silent [] (x .earlier) (x .kept)
+
+-- What slaves are heard to answer: the packet with which each of them ended, and the words received of a reply that is under way.
+pub record Heards : Type 0 where
+  pub said : List SlaveAnswer
+  pub under : List ℕ
+
+abbrev pub endedBy : SlaveAnswer → Heards → Heards
+endedBy a h = record { said = a ∷ h .said; under = h .under }
+
+-- What these slaves are heard to answer behind w words built, the first awaited so, each next one asked when the one before has ended: the
+-- packets of the slave now being asked, a timeout if one comes too late; and a timeout where a poll finds it too late. Other calls are
+-- nothing to it.
+unfoldable pub heards : Awaited → List ℕ → ℕ → List Event → Heards
+heards x [] w es = record { said = []; under = [] }
+heards x (s ∷ ss) w [] = record { said = []; under = x .earlier }
+heards x (s ∷ ss) w (Event.Requested clock link bc errors packet m y ∷ es) = heards x (s ∷ ss) w es
+heards x (s ∷ ss) w (Event.Replied clock slave bc errors status address words ∷ es) =
+    let a : SlaveAnswer = answeredBy x clock bc errors status address words in
+    pick (eqb s slave)
+    (pick (isPart a w (length ss)) (heards (sentNext clock a) (s ∷ ss) w es)
+    (endedBy a (heards (asked clock) ss (w + length (fragmentOf s a w (length ss))) es)))
+    (heards x (s ∷ ss) w es)
+heards x (s ∷ ss) w (Event.Polled clock ∷ es) =
+    pick (isLate clock (x .at))
+    (endedBy (silentBy x) (heards (asked clock) ss (w + length (fragmentOf s (silentBy x) w (length ss))) es))
+    (heards x (s ∷ ss) w es)
+heards x (s ∷ ss) w (Event.Erased budget ∷ es) = heards x (s ∷ ss) w es

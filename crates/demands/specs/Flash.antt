@@ -121,6 +121,7 @@ countOf (Answer.Refused r) = 0
 countOf Answer.Started = 0
 countOf (Answer.Reply r) = 0
 countOf (Answer.Ask a) = 0
+countOf (Answer.Next s) = 0
 countOf Answer.Waiting = 0
 countOf (Answer.Erased count) = count
 

@@ -1,5 +1,5 @@
 -- Demand 2, of groups: a group's reply is its slaves' fragments in slave order, each slave asked once. 01 'Requests' step 4 and 'Group
--- assembly'. Assumes nothing.
+-- assembly', and 02, request 8. Assumes nothing.
 use Prim.Native.Nat.{ℕ, _+_, _≤_, _<_}
 use mathlib.Core.Path.{_≡_}
 use mathlib.Core.Bool.{Bool, true, false, _&&_, _||_, not}
@@ -7,10 +7,11 @@ use mathlib.Core.List.{List, [], _∷_}
 use lib.Dec.{leb, eqb}
 use lib.ListN.{length, getD, take}
 use Rattle.base.specs.Pick.{pick}
-use Rattle.base.specs.Words.{laid, Below}
-use Rattle.group.specs.Kind.{Answer as SlaveAnswer}
+use Rattle.base.specs.Words.{part, laid, Below}
+use Rattle.group.specs.Kind.{hasRoom, keptFree, Answer as SlaveAnswer}
 use Rattle.group.specs.Tally.{Every}
-use Rattle.group.specs.Slaves.{hasSlave, slavesOf}
+use Rattle.group.specs.Slaves.{hasSlave, slavesOf, above}
+use Rattle.group.specs.Fragment.{fragmentOf}
 use Rattle.group.specs.Ending.{replied, zeroReply}
 use Rattle.group.specs.Whole.{kindsOf, assembled, dataReply}
 use Rattle.group.specs.declared.Kind.{Kind}
@@ -23,13 +24,15 @@ use Rattle.node.specs.Route.{asking, firstByte, secondByte, maskIn}
 use Rattle.node.specs.Settings.{statusIn}
 use Rattle.node.specs.Effect.{Lent, Outcome}
 use Rattle.node.specs.declared.Answer.{Answer}
+use Rattle.node.specs.declared.Ask.{Ask}
 use Rattle.node.specs.declared.Asking.{Asking}
+use Rattle.node.specs.declared.Gathering.{Gathering}
 use Rattle.node.specs.declared.Node.{Node}
 use Rattle.node.specs.declared.Pending.{Pending}
 use Rattle.node.specs.declared.Turn.{Turn}
 use Rattle.demands.specs.Machine.{Machine, isRefused}
 use Rattle.demands.specs.Requests.{Delivered}
-use Rattle.demands.specs.Events.{Event, Host, host, hosted, Undropped, heards}
+use Rattle.demands.specs.Events.{Event, Host, host, hosted, Undropped, asked, heards}
 
 -- A request to a group, by its first byte, and the set of slaves that it asks: 40 mask by ID in the second byte, 23 mask in the next
 -- three bytes, 2A all slaves.
@@ -83,6 +86,14 @@ pub record GroupRun (M : Machine) : Type 0 where
   pub events : List Event
   pub kept : Undropped link events
 
+-- The buffer with the words of packets that were stored (02, request 8): of each answer those before its last packet, from behind the place of its
+-- fragment's first word on. A fragment of a whole reply covers them; of others what is past the fragment stays.
+unfoldable pub packetsStored : List ℕ → List ℕ → List SlaveAnswer → ℕ → List ℕ
+packetsStored buffer [] said w = buffer
+packetsStored buffer (s ∷ ss) [] w = buffer
+packetsStored buffer (s ∷ ss) (a ∷ said) w =
+    packetsStored (laid buffer (w + 1) (a .earlier)) ss said (w + length (fragmentOf s a w (length ss)))
+
 -- How a group ends, by its slaves and their answers. All slaves the same 0-length reply: that reply is sent, with the fragments in the
 -- reply buffer. Otherwise the data reply: the fragments in slave order, the status word, in which bit 9 is set unless every code is 0
 -- with DAT, and the FCS.
@@ -107,17 +118,20 @@ module _ {M : Machine} (r : GroupRun M) where
   abbrev pub slaves : List ℕ
   slaves = slavesOf (setAsked (r .node) (r .packet))
 
-  -- What they are heard to answer.
+  -- What they are heard to answer, each in one packet or in several; and the words received of a reply that is under way.
   abbrev pub said : List SlaveAnswer
-  said = heards (r .clock) slaves (r .events)
+  said = heards (asked (r .clock)) slaves 0 (r .events) .said
+
+  abbrev pub underWay : List ℕ
+  underWay = heards (asked (r .clock)) slaves 0 (r .events) .under
 
   -- The fragments of these answers, one behind the other.
   abbrev pub fragments : List ℕ
   fragments = assembled slaves said 0
 
-  -- The reply buffer as it was lent at first, with other words from word 0 on.
+  -- The reply buffer as it was lent at first, with the packets stored that came before each slave's last, and other words from word 0 on.
   abbrev pub fronted : List ℕ → List ℕ
-  fronted ws = laid (r .lent .reply) 0 ws
+  fronted ws = laid (packetsStored (r .lent .reply) slaves said 0) 0 ws
 
   -- This reply is sent, with the reply buffer so, and nothing is pending.
   pub record Sends (reply : Reply) (ws : List ℕ) : Type 0 where
@@ -168,18 +182,47 @@ pub record ExactlyThose (set : ℕ) (ss : List ℕ) : Type 0 where
 abbrev pub EachAskedOnce : Machine → Type 0
 EachAskedOnce M = (r : GroupRun M) → AllHeard r → ExactlyThose (setAsked (r .node) (r .packet)) (atLast r .asked)
 
--- With more to come, the fragments so far stand at the front of the buffer, and the next slave is being asked.
+-- With more to come, the fragments so far stand at the front of the buffer, the words received of the reply under way one word behind them, and
+-- the next slave is being asked.
 abbrev pub FragmentsStand : Machine → Type 0
 FragmentsStand M =
     (r : GroupRun M) → MoreToCome r
     → (take (length (fragments r)) (atLast r .buffer) ≡ fragments r)
+    × (part (atLast r .buffer) (length (fragments r) + 1) (length (underWay r)) ≡ underWay r)
     × (isAsked (atLast r .turn .node .pending) (getD (slaves r) (length (said r)) 0) ≡ true)
 
--- With more to come, no word past the words built has been stored.
+-- With more to come, no word past the words built has been stored but those of packets: of the replies before, and of the one under way.
 abbrev pub NothingPastTheWords : Machine → Type 0
 NothingPastTheWords M =
     (r : GroupRun M) → MoreToCome r
-    → (i : ℕ) → length (fragments r) ≤ i → getD (atLast r .buffer) i 0 ≡ getD (r .lent .reply) i 0
+    → (i : ℕ) → length (fragments r) ≤ i
+    → getD (atLast r .buffer) i 0
+    ≡ getD (laid (packetsStored (r .lent .reply) (slaves r) (said r) 0) (length (fragments r) + 1) (underWay r)) i 0
+
+-- A packet after which NEXT is sent: it has words, which are stored behind those received before, and all of them have room; the slave has 60
+-- ticks anew; and nothing else of what is pending changes. 02, request 8.
+pub record Stores (before after : Pending) (clock status : ℕ) (words buffer buffer′ : List ℕ) : Type 0 where
+  pub ask : Ask
+  pub group : Gathering
+  pub was : before ≡ Pending.Group ask group
+  pub now : after
+      ≡ Pending.Group (record { link = ask .link; slave = ask .slave; at = clock })
+      (record {
+        set = group .set;
+        from = group .from;
+        built = group .built;
+        received = record { words = group .received .words + length words; «rx_status» = status };
+      })
+  pub some : 0 < length words
+  pub room : hasRoom keptFree (group .built .words) (group .received .words + length words) (length (above (group .set) (ask .slave))) ≡ true
+  pub stored : buffer′ ≡ laid buffer (group .built .words + 1 + group .received .words) words
+
+-- A slave's packets before the last store at least one word each, within the room. No other answer is NEXT to a slave.
+abbrev pub PacketsStore : Machine → Type 0
+PacketsStore M =
+    (n : Node) (clock slave bc : ℕ) (errors : Bool) (status address : ℕ) (words reply : List ℕ) (s : ℕ)
+    → let o : Outcome = M .reply n clock slave bc errors status address words reply in
+    o .turn .answer ≡ Answer.Next s → (s ≡ slave) × Stores (n .pending) (o .turn .node .pending) clock status words reply (o .after .reply)
 
 -- A group's reply that has data, its slaves' answers having come over the wire, is acceptable to a reader of captured replies, with the set
 -- of slaves asked as its mask: 02, request 3.

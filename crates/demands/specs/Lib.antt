@@ -7,6 +7,7 @@ pub mod Files
 pub mod Packets
 pub mod Events
 pub mod Groups
+pub mod Ends
 pub mod Anchors
 pub mod ClosedRun
 pub mod Demands

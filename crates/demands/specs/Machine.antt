@@ -64,5 +64,6 @@ isRefused (Answer.Refused r) = true
 isRefused Answer.Started = false
 isRefused (Answer.Reply r) = false
 isRefused (Answer.Ask a) = false
+isRefused (Answer.Next s) = false
 isRefused Answer.Waiting = false
 isRefused (Answer.Erased count) = false

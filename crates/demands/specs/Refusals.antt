@@ -28,6 +28,7 @@ numberOf (Answer.Refused r) = refusalNumber r
 numberOf Answer.Started = 0
 numberOf (Answer.Reply r) = 0
 numberOf (Answer.Ask a) = 0
+numberOf (Answer.Next s) = 0
 numberOf Answer.Waiting = 0
 numberOf (Answer.Erased count) = 0
 
@@ -58,12 +59,15 @@ abbrev pub AskIn : ℕ → Ask → Type 0
 AskIn ports a = (a .link < ports) × (a .slave ≤ 23)
 
 -- The asked slave is in the asked set, of 24 bits, and with w words built and k slaves above it w + 5(k + 1) + 2 is at most 12,288; the
--- request is sent on from word 1 or 2.
+-- request is sent on from word 1 or 2. The words received of a reply in packets have room: w + received + 5k + 2 is at most 12,288; where none
+-- are received, no RX status is kept (02, request 8).
 pub record GatheringIn (slave : ℕ) (g : Gathering) : Type 0 where
   pub member : g .set / 2 ^ slave % 2 ≡ 1
   pub short : g .set < 16777216
   pub room : g .built .words + 5 * (length (above (g .set) slave) + 1) + 2 ≤ 12288
   pub sent : (g .from ≡ 1) ⊎ (g .from ≡ 2)
+  pub stored : g .built .words + g .received .words + 5 * length (above (g .set) slave) + 2 ≤ 12288
+  pub fresh : (0 < g .received .words) ⊎ (g .received .«rx_status» ≡ 0)
 
 abbrev pub PendingIn : ℕ → Pending → Type 0
 PendingIn ports Pending.Nothing = Unit {0}

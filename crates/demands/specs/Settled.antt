@@ -114,10 +114,13 @@ pub record GroupSettled : Type 0 where
   pub ending-seal : Settles Group.ending.seal.Kinds.ps Group.ending.seal.Kinds.r Group.ending.seal.Reads.Learnt
   pub ending-finish : Settles Group.ending.finish.Kinds.ps Group.ending.finish.Kinds.r Group.ending.finish.Reads.Learnt
   pub ending-pass-on : Settles Group.ending.pass_on.Kinds.ps Group.ending.pass_on.Kinds.r Group.ending.pass_on.Reads.Learnt
+  pub fragment-take-first : Settles Group.fragment.take_first.Kinds.ps Group.fragment.take_first.Kinds.r Group.fragment.take_first.Reads.Learnt
   pub fragment-take-answer : Settles Group.fragment.take_answer.Kinds.ps Group.fragment.take_answer.Kinds.r Group.fragment.take_answer.Reads.Learnt
   pub judge-zero-bc : Settles Group.judge.zero_bc.Kinds.ps Group.judge.zero_bc.Kinds.r Group.judge.zero_bc.Reads.Learnt
   pub judge-has-room : Settles Group.judge.has_room.Kinds.ps Group.judge.has_room.Kinds.r Group.judge.has_room.Reads.Learnt
-  pub judge-kind-of : Settles Group.judge.kind_of.Kinds.ps Group.judge.kind_of.Kinds.r Group.judge.kind_of.Reads.Learnt
+  pub judge-first-kind : Settles Group.judge.first_kind.Kinds.ps Group.judge.first_kind.Kinds.r Group.judge.first_kind.Reads.Learnt
+  pub judge-later-judged : Settles Group.judge.later_judged.Kinds.ps Group.judge.later_judged.Kinds.r Group.judge.later_judged.Reads.Learnt
+  pub judge-is-part : Settles Group.judge.is_part.Kinds.ps Group.judge.is_part.Kinds.r Group.judge.is_part.Reads.Learnt
   pub judge-tallied : Settles Group.judge.tallied.Kinds.ps Group.judge.tallied.Kinds.r Group.judge.tallied.Reads.Learnt
   pub judge-tally-number : Settles Group.judge.tally_number.Kinds.ps Group.judge.tally_number.Kinds.r Group.judge.tally_number.Reads.Learnt
   pub slaves-ticks-since : Settles Group.slaves.ticks_since.Kinds.ps Group.slaves.ticks_since.Kinds.r Group.slaves.ticks_since.Reads.Learnt
@@ -138,6 +141,10 @@ pub record ReportSettled : Type 0 where
 -- Captured group replies.
 pub record CaptureSettled : Type 0 where
   pub read-group : Settles Capture.read_group.Kinds.ps Capture.read_group.Kinds.r Capture.read_group.Reads.Learnt
+  pub is-mask : Settles Capture.is_mask.Kinds.ps Capture.is_mask.Kinds.r Capture.is_mask.Reads.Learnt
+  pub judge-fragment : Settles Capture.judge_fragment.Kinds.ps Capture.judge_fragment.Kinds.r Capture.judge_fragment.Reads.Learnt
+  pub judge-end : Settles Capture.judge_end.Kinds.ps Capture.judge_end.Kinds.r Capture.judge_end.Reads.Learnt
+  pub judge-fcs : Settles Capture.judge_fcs.Kinds.ps Capture.judge_fcs.Kinds.r Capture.judge_fcs.Reads.Learnt
 
 -- The node: the five calls, and the parts that decide before anything is done.
 pub record NodeSettled : Type 0 where

@@ -1,7 +1,7 @@
 -- Wrong nodes, those that 01 names under 'What calls owe' and others, of 02's rules too, each a machine of its own, and for each the demand that it fails, by
 -- its name in `Demands`. A call of which nothing is said is ours. Assumes nothing.
 use Prim.Native.Nat.{ℕ, _+_, _-_}
-use mathlib.Core.Bool.{_&&_, not}
+use mathlib.Core.Bool.{Bool, _&&_, not}
 use mathlib.Core.List.{List, [], _∷_}
 use lib.ListN.{length, getD, replicate}
 use lib.Dec.{ltb, eqb}
@@ -17,12 +17,15 @@ use Rattle.flash.specs.declared.Erasing.{Erasing}
 use Rattle.flash.specs.declared.Status.{Status}
 use Rattle.memory.specs.Segment.{memories}
 use Rattle.group.specs.declared.Reply.{Reply}
-use Rattle.node.specs.State.{turn, joining, withSettings, withFlash, withWriting}
-use Rattle.node.specs.Route.{bcOf}
+use Rattle.group.specs.Time.{isLate}
+use Rattle.node.specs.State.{turn, joining, withSettings, withFlash, withPending, withWriting}
+use Rattle.node.specs.Slaves.{ask}
+use Rattle.node.specs.Route.{asking, bcOf}
 use Rattle.node.specs.Effect.{Lent, lent, further, Outcome, outcome}
 use Rattle.node.specs.Calls.{lentReply, lentFlash, nobody, startOf, requestOf, replyOf, pollOf, eraseOf}
 use Rattle.node.specs.declared.Answer.{Answer}
 use Rattle.node.specs.declared.Node.{Node}
+use Rattle.node.specs.declared.Pending.{Pending}
 use Rattle.node.specs.declared.Refusal.{Refusal}
 use Rattle.node.specs.declared.Turn.{Turn}
 use Rattle.node.specs.declared.Writing.{Writing}
@@ -33,7 +36,8 @@ use Rattle.demands.specs.Refusals.{RefusedExactly}
 use Rattle.demands.specs.Flash.{ErasureFollows, Erases}
 use Rattle.demands.specs.Files.{Writes, ReadsBack, NeverCorrupted, SeveralAbort, StaysSingle, FlashFollows}
 use Rattle.demands.specs.Packets.{AnyDivision, LeftAlone}
-use Rattle.demands.specs.Groups.{StartsFull}
+use Rattle.demands.specs.Groups.{StartsFull, GroupIsItsFragments, PacketsStore}
+use Rattle.demands.specs.Ends.{EachLowersOrStores, AlwaysEnds, NeverAskedTwice, SettledInTime}
 use Rattle.demands.specs.ClosedRun.{ClosedRun}
 
 -- Once started, always refuses.
@@ -161,6 +165,7 @@ withReply (Answer.Refused r) n flash = n
 withReply Answer.Started n flash = n
 withReply (Answer.Reply r) n flash = pick (eqb (r .words) 0) n (begins (n .erasing) n flash)
 withReply (Answer.Ask a) n flash = n
+withReply (Answer.Next s) n flash = n
 withReply Answer.Waiting n flash = n
 withReply (Answer.Erased count) n flash = n
 
@@ -216,6 +221,7 @@ lies (Answer.Refused r) = Answer.Refused r
 lies Answer.Started = Answer.Started
 lies (Answer.Reply r) = end
 lies (Answer.Ask a) = Answer.Ask a
+lies (Answer.Next s) = Answer.Next s
 lies Answer.Waiting = Answer.Waiting
 lies (Answer.Erased count) = Answer.Erased count
 
@@ -385,6 +391,102 @@ doubling =
       erase = eraseOf;
     }
 
+-- Leaves the slave's FCS in the fragment of a reply that came in packets: its last word stands where the fragment has its status word. 02, request
+-- 8.
+abbrev pub sealed : Pending → List ℕ → Outcome → Outcome
+sealed (Pending.Group a g) words o =
+    pick (ltb 0 (g .received .words) && ltb 0 (length words))
+    (outcome (o .turn)
+    (lentReply (laid (o .after .reply) (g .built .words + g .received .words + length words - 1) (getD words (length words - 1) 0 ∷ []))))
+    o
+sealed (Pending.Slave a) words o = o
+sealed Pending.Nothing words o = o
+
+abbrev pub sealing : Machine
+sealing =
+    record {
+      start = startOf;
+      request = requestOf;
+      reply = λ n clock slave bc errors status address words reply.
+          sealed (n .pending) words (replyOf n clock slave bc errors status address words reply);
+      poll = pollOf;
+      erase = eraseOf;
+    }
+
+-- Sends NEXT, and leaves the slave what is left of its 60 ticks.
+abbrev pub askedAsBefore : Pending → Pending → Pending
+askedAsBefore (Pending.Group a g) (Pending.Group b h) = Pending.Group (ask (b .link) (b .slave) (a .at)) h
+askedAsBefore (Pending.Group a g) (Pending.Slave b) = Pending.Slave b
+askedAsBefore (Pending.Group a g) Pending.Nothing = Pending.Nothing
+askedAsBefore (Pending.Slave a) after = after
+askedAsBefore Pending.Nothing after = after
+
+abbrev pub hurrying : Machine
+hurrying =
+    record {
+      start = startOf;
+      request = requestOf;
+      reply = λ n clock slave bc errors status address words reply.
+          let o : Outcome = replyOf n clock slave bc errors status address words reply in
+          outcome (turn (withPending (o .turn .node) (askedAsBefore (n .pending) (o .turn .node .pending))) (o .turn .answer)) (o .after);
+      poll = pollOf;
+      erase = eraseOf;
+    }
+
+-- Counts the words of a late packet: the count of a five-word fragment has them too.
+abbrev pub counted : Pending → ℕ → List ℕ → Outcome → Outcome
+counted (Pending.Group a g) clock words o =
+    pick (ltb 0 (g .received .words) && isLate clock (a .at))
+    (outcome (o .turn) (lentReply (laid (o .after .reply) (g .built .words + 2) ((g .received .words + length words) ∷ [])))) o
+counted (Pending.Slave a) clock words o = o
+counted Pending.Nothing clock words o = o
+
+abbrev pub counting : Machine
+counting =
+    record {
+      start = startOf;
+      request = requestOf;
+      reply = λ n clock slave bc errors status address words reply.
+          counted (n .pending) clock words (replyOf n clock slave bc errors status address words reply);
+      poll = pollOf;
+      erase = eraseOf;
+    }
+
+-- After an answer with receive errors asks the slave of a group once more, and nothing else comes of it. 02, request 13.
+abbrev pub asksAgain : Pending → ℕ → Bool → Node → Outcome → Outcome
+asksAgain (Pending.Group a g) clock errors n o =
+    pick (errors && not (isLate clock (a .at)))
+    (outcome (turn (withPending n (Pending.Group (ask (a .link) (a .slave) clock) g)) (Answer.Ask (asking (a .slave) (g .from)))) (o .after)) o
+asksAgain (Pending.Slave a) clock errors n o = o
+asksAgain Pending.Nothing clock errors n o = o
+
+abbrev pub insisting : Machine
+insisting =
+    record {
+      start = startOf;
+      request = requestOf;
+      reply = λ n clock slave bc errors status address words reply.
+          asksAgain (n .pending) clock errors n (replyOf n clock slave bc errors status address words reply);
+      poll = pollOf;
+      erase = eraseOf;
+    }
+
+-- Waits for ever after NEXT: with words received a poll is answered so, however late, and changes nothing.
+abbrev pub waitsOn : Pending → Node → List ℕ → Outcome → Outcome
+waitsOn (Pending.Group a g) n reply o = pick (ltb 0 (g .received .words)) (outcome (turn n Answer.Waiting) (lentReply reply)) o
+waitsOn (Pending.Slave a) n reply o = o
+waitsOn Pending.Nothing n reply o = o
+
+abbrev pub patient : Machine
+patient =
+    record {
+      start = startOf;
+      request = requestOf;
+      reply = replyOf;
+      poll = λ n clock reply. waitsOn (n .pending) n reply (pollOf n clock reply);
+      erase = eraseOf;
+    }
+
 -- Each fails a demand.
 pub record ShutOut : Type 0 where
   -- always refuses, by whichever number
@@ -410,6 +512,15 @@ pub record ShutOut : Type 0 where
   pub mixes-links : LeftAlone mixing → ⊥
   -- starts with mask 0 empty
   pub starts-empty : StartsFull empty → ⊥
+  -- of replies in packets: leaves the slave's FCS in the fragment; doesn't start 60 ticks anew with NEXT; counts a late packet's words
+  pub seals-twice : GroupIsItsFragments sealing → ⊥
+  pub hurries : PacketsStore hurrying → ⊥
+  pub counts-late : GroupIsItsFragments counting → ⊥
+  -- of groups that do not end: asks a slave again; waits for ever after NEXT, by what each call does, by calls and by ticks
+  pub asks-again : NeverAskedTwice insisting → ⊥
+  pub waits-on : EachLowersOrStores patient → ⊥
+  pub waits-for-ever : AlwaysEnds patient → ⊥
+  pub waits-too-long : SettledInTime patient → ⊥
   -- loads from a half-erased sector
   pub loads-half : NeverCorrupted loader → ⊥
   -- hands out a file with remains behind it

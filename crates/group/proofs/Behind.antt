@@ -10,7 +10,7 @@ use lib.ListN.{length, set, length-append, length-set}
 use Rattle.base.specs.Words.{laid}
 use Rattle.base.proofs.Pick.{yes, no}
 use Rattle.base.proofs.Laid.{laid-cons, laid-snoc}
-use Rattle.group.specs.Kind.{Answer, kindOf}
+use Rattle.group.specs.Kind.{Answer, joinedOf, kindOf}
 use Rattle.group.specs.Tally.{tallied}
 use Rattle.group.specs.Fragment.{statusOf, dataOf, framed, fragmentOf, Assembly, assembly, built, behind, takenAs, taken}
 use Rattle.group.specs.declared.Built.{Built}
@@ -44,12 +44,12 @@ module _ (r : List ℕ) (b : Built) (t : Tally) (ws : List ℕ) (status : ℕ) w
 
 -- an answer of a kind taken, from its tally, its status word and its data
 pub taken-kind : (m : Assembly) (slave : ℕ) (a : Answer) (kind : Kind) (t : Tally) (status : ℕ) (ws : List ℕ)
-    → t ≡ tallied (m .built .tally) kind → status ≡ statusOf kind (a .words) slave → ws ≡ dataOf kind a
+    → t ≡ tallied (m .built .tally) kind → status ≡ statusOf kind (joinedOf a) slave → ws ≡ dataOf kind a
     → behind m t (framed ws status) ≡ takenAs m kind slave a
 taken-kind m slave a kind t status ws f g h =
     ap (λ (x : Tally). behind m x (framed ws status)) f
     ∙ ap (λ (x : ℕ). behind m (tallied (m .built .tally) kind) (framed ws x)) g
-    ∙ ap (λ (x : List ℕ). behind m (tallied (m .built .tally) kind) (framed x (statusOf kind (a .words) slave))) h
+    ∙ ap (λ (x : List ℕ). behind m (tallied (m .built .tally) kind) (framed x (statusOf kind (joinedOf a) slave))) h
 
 -- an answer taken, by its kind
 pub taken-by : (m : Assembly) (k slave : ℕ) (a : Answer) {kind : Kind} → kind ≡ kindOf a (m .built .words) k → takenAs m kind slave a ≡ taken m k slave a

@@ -5,6 +5,8 @@ pub mod Status
 pub mod Behind
 pub mod Rooms
 pub mod Changes
+pub mod Joined
+pub mod Packets
 pub mod Takes
 pub mod Tallies
 pub mod Seals

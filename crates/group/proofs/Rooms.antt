@@ -6,28 +6,28 @@ use mathlib.Core.Logic.{_⊎_, inl, inr, ⊎-elim}
 use native.Mathlib.Omega.{arith}
 use lib.Dec.{leb}
 use lib.ListN.{length, length-take}
-use Rattle.group.specs.Kind.{Answer, hasRoom, keptFree, kindOf}
+use Rattle.group.specs.Kind.{Answer, joinedOf, hasRoom, keptFree, kindOf}
 use Rattle.group.specs.Fragment.{statusOf, dataOf, fragmentBy, fragmentOf}
 use Rattle.group.specs.declared.Kind.{Kind}
 use Rattle.group.proofs.Answers.{whole-tells}
 use Rattle.group.proofs.Behind.{length-framed}
 
 length-by : (kind : Kind) (slave : ℕ) (a : Answer) → length (fragmentBy kind slave a) ≡ length (dataOf kind a) + 2
-length-by kind slave a = length-framed (dataOf kind a) (statusOf kind (a .words) slave)
+length-by kind slave a = length-framed (dataOf kind a) (statusOf kind (joinedOf a) slave)
 
 -- at most 5 words, or as many as the reply, which is then whole
-pub fragment-size : (slave : ℕ) (a : Answer) (w k : ℕ) → (length (fragmentOf slave a w k) ≤ 5) ⊎ ((kindOf a w k ≡ Kind.Whole) × (length (fragmentOf slave a w k) ≡ length (a .words)))
+pub fragment-size : (slave : ℕ) (a : Answer) (w k : ℕ) → (length (fragmentOf slave a w k) ≤ 5) ⊎ ((kindOf a w k ≡ Kind.Whole) × (length (fragmentOf slave a w k) ≡ length (joinedOf a)))
 unfolding fragmentOf
 fragment-size slave a w k = go (kindOf a w k) refl
   where
-    go : (kind : Kind) → kindOf a w k ≡ kind → (length (fragmentBy kind slave a) ≤ 5) ⊎ ((kind ≡ Kind.Whole) × (length (fragmentBy kind slave a) ≡ length (a .words)))
+    go : (kind : Kind) → kindOf a w k ≡ kind → (length (fragmentBy kind slave a) ≤ 5) ⊎ ((kind ≡ Kind.Whole) × (length (fragmentBy kind slave a) ≡ length (joinedOf a)))
     go Kind.Late e = inl (omega (arith, length-by Kind.Late slave a))
     go Kind.Errors e = inl (omega (arith, length-by Kind.Errors slave a))
     go (Kind.Zero z) e = inl (omega (arith, length-by (Kind.Zero z) slave a))
     go (Kind.Faulty f) e = inl (omega (arith, length-by (Kind.Faulty f) slave a))
     go Kind.Whole e =
         let two = whole-tells a w k e .two in
-        inr (refl, omega (arith, length-by Kind.Whole slave a, length-take (length (a .words) - 2) (a .words)))
+        inr (refl, omega (arith, length-by Kind.Whole slave a, length-take (length (joinedOf a) - 2) (joinedOf a)))
 
 -- with room for a fragment of five words from each slave that has yet to answer, there is room for those behind this one too
 pub room-kept : (slave : ℕ) (a : Answer) (w k : ℕ) → w + 5 * (k + 1) + 2 ≤ 12288 → w + length (fragmentOf slave a w k) + 5 * k + 2 ≤ 12288

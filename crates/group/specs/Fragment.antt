@@ -1,4 +1,4 @@
--- The fragment of a slave's answer, and how it is laid behind those built: 01 'Group assembly', sections 6.3 and 6.4 of the
+-- The fragment of a slave's answer, and how it is laid behind those built: 01 'Group assembly', 02, request 8, sections 6.3 and 6.4 of the
 -- note. Assumes nothing.
 use Prim.Native.Nat.{ℕ, min, _+_, _-_, _*_, _/_, _%_, _≤_, _<_}
 use mathlib.Core.Path.{_≡_}
@@ -7,10 +7,11 @@ use lib.Dec.{ltb, leb}
 use lib.ListN.{length, getD, take}
 use Rattle.base.specs.Pick.{pick}
 use Rattle.base.specs.Words.{laid}
-use Rattle.group.specs.Kind.{Answer, datOf, codeOf, kindOf}
+use Rattle.group.specs.Kind.{Answer, joinedOf, datOf, codeOf, kindOf}
 use Rattle.group.specs.Tally.{tallied}
 use Rattle.group.specs.declared.Built.{Built}
 use Rattle.group.specs.declared.Fault.{Fault}
+use Rattle.group.specs.declared.Heard.{Heard}
 use Rattle.group.specs.declared.Kind.{Kind}
 use Rattle.group.specs.declared.Tally.{Tally}
 
@@ -25,10 +26,14 @@ slaveBits ws = pick (ltb (length ws) 2) 0 (getD ws (length ws - 2) 0 / 32 % 64)
 -- The slave's bits that a faulty reply's fragment passes on: for code 2.
 abbrev pub faultBits : Fault → List ℕ → ℕ
 faultBits Fault.NotFirst ws = 0
-faultBits Fault.NotLast ws = 0
+faultBits Fault.NoRoom ws = slaveBits ws
 faultBits Fault.OneWord ws = 0
 faultBits Fault.WrongFcs ws = 0
-faultBits Fault.NoRoom ws = slaveBits ws
+faultBits Fault.NextLate ws = 0
+faultBits Fault.NextEmpty ws = 0
+faultBits Fault.NextFirst ws = 0
+faultBits Fault.PacketNoRoom ws = 0
+faultBits Fault.JoinedFcs ws = 0
 
 -- The slave's bits are passed on for codes 0 and 2 with DAT, otherwise 0.
 abbrev pub bitsOf : Kind → List ℕ → ℕ
@@ -42,14 +47,31 @@ bitsOf Kind.Whole ws = slaveBits ws
 abbrev pub statusOf : Kind → List ℕ → ℕ → ℕ
 statusOf kind ws slave = statusWord (datOf kind) (codeOf kind) (bitsOf kind ws) slave
 
--- The data of a fragment: none; RX status and RX address; RX status, reply length (FFFF if more) and first word; or the reply's
+-- The words received of a reply, a failing packet's too unless it is late; and the RX status of the last packet that came in time.
+abbrev pub receivedOf : Answer → List ℕ
+receivedOf a = pick (a .heard .late) (a .earlier) (joinedOf a)
+
+abbrev pub rxOf : Answer → ℕ
+rxOf a = pick (a .heard .late) (a .kept) (a .heard .«rx_status»)
+
+-- The data of a fragment: none; RX status and RX address; RX status, count of words received (FFFF if more) and first word; or the reply's
 -- data, without its status word and its FCS.
 abbrev pub dataOf : Kind → Answer → List ℕ
 dataOf Kind.Late a = []
 dataOf Kind.Errors a = a .heard .«rx_status» ∷ a .heard .«rx_address» ∷ []
 dataOf (Kind.Zero z) a = []
-dataOf (Kind.Faulty f) a = a .heard .«rx_status» ∷ min (length (a .words)) 65535 ∷ getD (a .words) 0 0 ∷ []
-dataOf Kind.Whole a = take (length (a .words) - 2) (a .words)
+dataOf (Kind.Faulty f) a = rxOf a ∷ min (length (receivedOf a)) 65535 ∷ getD (receivedOf a) 0 0 ∷ []
+dataOf Kind.Whole a = take (length (joinedOf a) - 2) (joinedOf a)
+
+-- The data of a later packet that is not taken whole, of n words, where r words were received before it, the first of them so, and the RX
+-- status of the last packet so.
+abbrev pub laterData : Kind → Heard → ℕ → ℕ → ℕ → ℕ → List ℕ
+laterData Kind.Late h r kept first n = []
+laterData Kind.Errors h r kept first n = h .«rx_status» ∷ h .«rx_address» ∷ []
+laterData (Kind.Zero z) h r kept first n = []
+laterData (Kind.Faulty f) h r kept first n =
+    pick (h .late) kept (h .«rx_status») ∷ min (pick (h .late) r (r + n)) 65535 ∷ first ∷ []
+laterData Kind.Whole h r kept first n = []
 
 -- A fragment's words: how many words follow, the data, the status word.
 abbrev pub framed : List ℕ → ℕ → List ℕ
@@ -57,7 +79,11 @@ framed ws status = (length ws + 1) ∷ (ws ++ (status ∷ []))
 
 -- The fragment of what an answer is.
 abbrev pub fragmentBy : Kind → ℕ → Answer → List ℕ
-fragmentBy kind slave a = framed (dataOf kind a) (statusOf kind (a .words) slave)
+fragmentBy kind slave a = framed (dataOf kind a) (statusOf kind (joinedOf a) slave)
+
+-- The fragment of a reply whose words, joined, are taken whole.
+abbrev pub wholeFragment : ℕ → List ℕ → List ℕ
+wholeFragment slave ws = framed (take (length ws - 2) ws) (statusOf Kind.Whole ws slave)
 
 -- The fragment of a slave's answer, with w words built and k slaves yet to ask.
 unfoldable pub fragmentOf : ℕ → Answer → ℕ → ℕ → List ℕ

@@ -1,9 +1,10 @@
--- The whole of a group, from its slaves and what each of them answered: 01 'Group assembly'. Assumes nothing.
+-- The whole of a group, from its slaves and the answer that each of them ended with: 01 'Group assembly', 02, request 8. Assumes nothing.
 use Prim.Native.Nat.{ℕ, _+_}
 use mathlib.Core.List.{List, [], _∷_, _++_}
 use lib.ListN.{length}
 use Rattle.base.specs.Words.{laid}
 use Rattle.group.specs.Kind.{Answer, kindOf}
+use Rattle.group.specs.Packets.{Ends}
 use Rattle.group.specs.Fragment.{fragmentOf, Assembly, assembly, built, taken}
 use Rattle.group.specs.Ending.{Sent, sent, replied, zeroReply, trailer, groupStatus, endOf}
 use Rattle.group.specs.declared.Kind.{Kind}
@@ -21,6 +22,12 @@ unfoldable pub kindsOf : List ℕ → List Answer → ℕ → List Kind
 kindsOf [] said w = []
 kindsOf (s ∷ ss) [] w = []
 kindsOf (s ∷ ss) (a ∷ said) w = kindOf a w (length ss) ∷ kindsOf ss said (w + length (fragmentOf s a w (length ss)))
+
+-- Each of these answers ends what its slave has to say.
+unfoldable pub AllEnd : List ℕ → List Answer → ℕ → Type 0
+AllEnd [] said w = Unit {0}
+AllEnd (s ∷ ss) [] w = Unit {0}
+AllEnd (s ∷ ss) (a ∷ said) w = Ends a w (length ss) × AllEnd ss said (w + length (fragmentOf s a w (length ss)))
 
 -- Runs of words, one behind the other.
 unfoldable pub joined : List (List ℕ) → List ℕ

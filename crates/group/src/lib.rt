@@ -1,5 +1,5 @@
-// Group assembly: 01 'Group assembly', sections 6.3 and 6.4 of the note. The reply buffer is lent; a pending group's fragments
-// stand in it from word 0 on.
+// Group assembly: 01 'Group assembly', 02, request 8, sections 6.3 and 6.4 of the note. The reply buffer is lent; a pending group's
+// fragments stand in it from word 0 on, and behind them, one word further on, the packets of a reply that is under way.
 pub mod ending;
 pub mod fragment;
 pub mod judge;
@@ -16,10 +16,16 @@ pub enum ZeroLength {
 // Why a reply that has words is not taken whole.
 pub enum Fault {
     NotFirst,
-    NotLast,
+    NoRoom,
     OneWord,
     WrongFcs,
-    NoRoom,
+    // Of a reply in packets: a timeout after NEXT, a 0-length answer to NEXT, BC1 set on a later packet, no room for a packet, and a wrong FCS
+    // over the joined words.
+    NextLate,
+    NextEmpty,
+    NextFirst,
+    PacketNoRoom,
+    JoinedFcs,
 }
 
 // What a slave's answer is to a group.
@@ -29,6 +35,12 @@ pub enum Kind {
     Zero(ZeroLength),
     Faulty(Fault),
     Whole,
+}
+
+// What a later packet of a reply is by all but its words: of a kind, or the last one, of which the FCS decides.
+pub enum Judged {
+    Is(Kind),
+    Sealed,
 }
 
 // What all fragments built so far have in common.
@@ -53,6 +65,12 @@ pub struct Heard {
 pub struct Built {
     pub words: usize,
     pub tally: Tally,
+}
+
+// What is received of a reply that is under way: how many words, 0 where its first packet is awaited, and the RX status of the last packet.
+pub struct Received {
+    pub words: usize,
+    pub rx_status: u16,
 }
 
 // The slave that is asked next.

@@ -1,27 +1,30 @@
 // Runs groups and single slaves' replies on stored lines. A line is words:
 //
-//   0, set (2 words, high first), own status word, words of the buffer that are lent, then an answer of 12 words for each slave
-//   1, the same four words of which only the last counts, then one answer
+//   0, set (2 words, high first), own status word, words of the buffer that are lent, then packets of 12 words: a slave's, until its
+//   answer has ended, then those of the next one
+//   1, the same four words of which only the last counts, then one packet
 //
-// An answer: asked at (2 words), now (2 words), receive errors, RX status, RX address, BC, reply length, seed, status word, last
-// word. The reply's words are those that `next_word` makes of the seed, but for the last two.
+// A packet: asked at (2 words), now (2 words), receive errors, RX status, RX address, BC, length, seed, status word, last word. Its words are
+// those that `next_word` makes of the seed, but for the last two.
 //
-// Printed for a group: after each answer the words built, the tally and the last word laid, as one item; then, as for a single
-// reply, its BC, its length and a digest of the whole buffer.
+// Printed for a group: after each answer the words built, the tally and the last word laid, as one item, and after each packet that is stored the
+// words received and their RX status; then, as for a single reply, its BC, its length and a digest of the whole buffer.
 ghost use mathlib.Core.Path.{_≡_};
+ghost use mathlib.Core.Bool.{true};
 ghost use Prim.Native.Nat.{_+_, _≤_, _<_};
 ghost use lib.ListN.{length};
 use group::Built;
 use group::Heard;
 use group::Next;
+use group::Received;
 use group::Reply;
 use group::Tally;
 
 // What a line can hold.
-fn line_room() -> [u16; 320]
-    ensures { λ r. ⌜ length r ≡ 320 ⌝ }
+fn line_room() -> [u16; 600]
+    ensures { λ r. ⌜ length r ≡ 600 ⌝ }
 {
-    [0; 320]
+    [0; 600]
 }
 
 // The reply buffer, and some words behind it.
@@ -32,10 +35,10 @@ fn buffer_room() -> [u16; 12300]
 }
 
 // The longest reply of a slave.
-fn reply_room() -> [u16; 40000]
-    ensures { λ r. ⌜ length r ≡ 40000 ⌝ }
+fn reply_room() -> [u16; 65536]
+    ensures { λ r. ⌜ length r ≡ 65536 ⌝ }
 {
-    [0; 40000]
+    [0; 65536]
 }
 
 fn print_word(word: u16) {
@@ -123,24 +126,105 @@ fn words_at(line: &[u16], at: usize, reply: &mut [u16]) -> usize
     n
 }
 
-// One slave's answer.
-fn answer(
+// Where a group stands: what is built, what is received of a reply under way, and the slave that is asked.
+struct Standing {
+    built: Built,
+    received: Received,
+    next: Next,
+}
+
+fn nothing_received() -> Received {
+    Received {
+        words: 0,
+        rx_status: 0,
+    }
+}
+
+// The words received stand in the buffer, behind the words built.
+fn stands(built: Built, received: Received, room: usize) -> bool
+    ensures { λ r. ⌜ (r ≡ true → (built .words + 1 + received .words ≤ 12288) × (12288 ≤ room)) ⌝ }
+{
+    group::judge::has_room(2, built.words, received.words, 0) & (12288 <= room)
+}
+
+// A packet that another one follows: stored behind those before it.
+fn store(buffer: &mut [u16], standing: Standing, heard: Heard, words: &[u16]) -> Standing {
+    let built = standing.built;
+    let received = standing.received;
+    let next = standing.next;
+    let n = words.len();
+    if !group::judge::has_room(2, built.words, received.words, 0) {
+        return standing;
+    }
+    let at = built.words + 1 + received.words;
+    if !group::fragment::fits(at, n, buffer.len()) {
+        return standing;
+    }
+    base::copy(buffer, at, words);
+    let more = Received {
+        words: received.words + n,
+        rx_status: heard.rx_status,
+    };
+    print_received(more);
+    Standing {
+        built,
+        received: more,
+        next,
+    }
+}
+
+fn print_received(received: Received) {
+    io::write_all(1, b"+");
+    print_number(received.words);
+    io::write_all(1, b":");
+    print_word(received.rx_status);
+    io::write_all(1, b" ");
+}
+
+// A packet of the slave that is asked.
+fn packet(
     line: &[u16],
     at: usize,
     set: u32,
     slave: u32,
     buffer: &mut [u16],
     reply: &mut [u16],
-    built: Built,
-) -> Built
+    standing: Standing,
+) -> Standing
     requires { ⌜ at < 1000 ⌝ }
 {
+    let built = standing.built;
+    let received = standing.received;
     let left = group::slaves::slaves_above(set, slave);
     let heard = heard_at(line, at);
     let n = words_at(line, at, reply);
-    let after = group::fragment::take_answer(buffer, built, left, slave, heard, &reply[0..n]);
+    let is_whole = stands(built, received, buffer.len());
+    if is_whole & group::judge::is_part(heard, received.words, n, built.words, left) {
+        return store(buffer, standing, heard, &reply[0..n]);
+    }
+    let after = take(buffer, built, received, left, slave, heard, &reply[0..n]);
     show_built(after, buffer);
-    after
+    Standing {
+        built: after,
+        received: nothing_received(),
+        next: group::slaves::next_slave(set, slave),
+    }
+}
+
+// The packet that ends the slave's answer. In a buffer that is too short for a group every packet is a first one.
+fn take(
+    buffer: &mut [u16],
+    built: Built,
+    received: Received,
+    left: usize,
+    slave: u32,
+    heard: Heard,
+    words: &[u16],
+) -> Built {
+    if stands(built, received, buffer.len()) {
+        return group::fragment::take_answer(buffer, built, received, left, slave, heard, words);
+    }
+    group::fragment::take_first(buffer, built, left, slave, heard, words)
 }
 
 fn show_built(built: Built, buffer: &[u16]) {
@@ -156,23 +240,49 @@ fn show_built(built: Built, buffer: &[u16]) {
     io::write_all(1, b" ");
 }
 
+// The packet at a place of a line, where a slave is left to ask.
+fn step(
+    line: &[u16],
+    at: usize,
+    set: u32,
+    buffer: &mut [u16],
+    reply: &mut [u16],
+    standing: Standing,
+) -> Standing
+    requires { ⌜ at < 1000 ⌝ }
+{
+    let next = standing.next;
+    let Next::Slave(slave) = next else {
+        return standing;
+    };
+    packet(line, at, set, slave, buffer, reply, standing)
+}
+
+// How many packets a line of n words has, twelve words each, behind its first five.
+fn packets_in(n: usize) -> usize {
+    if n < 5 {
+        return 0;
+    }
+    (n - 5) / 12
+}
+
 // All slaves of a set, each asked once, ascending.
 fn answers(line: &[u16], set: u32, buffer: &mut [u16], reply: &mut [u16]) -> Built {
-    let mut built = Built {
-        words: 0,
-        tally: Tally::Nothing,
+    let mut standing = Standing {
+        built: Built {
+            words: 0,
+            tally: Tally::Nothing,
+        },
+        received: nothing_received(),
+        next: group::slaves::first_slave(set),
     };
-    let mut next = group::slaves::first_slave(set);
+    let packets = base::least(packets_in(line.len()), 49);
     let mut turn = 0;
-    while turn < 24 {
-        let Next::Slave(slave) = next else {
-            return built;
-        };
-        built = answer(line, 5 + turn * 12, set, slave, buffer, reply, built);
-        next = group::slaves::next_slave(set, slave);
+    while turn < packets {
+        standing = step(line, 5 + turn * 12, set, buffer, reply, standing);
         turn += 1;
     }
-    built
+    standing.built
 }
 
 fn show_reply(sent: Reply) {

@@ -35,11 +35,11 @@ pub entered-refused : (v : Verdict) (state : List ℕ) (runs : Lent) (o : Outcom
 entered-refused v state runs o r e numbered =
     ap (λ (n : ℕ). answered n state runs) numbered ∙ sym (ap (λ (w : Verdict). entered w state runs o) e)
 
--- bytes of a state are 180
-pub state-long : (bytes : List ℕ) → areState bytes ≡ true → length bytes ≡ 180
+-- bytes of a state are 188
+pub state-long : (bytes : List ℕ) → areState bytes ≡ true → length bytes ≡ 188
 unfolding areState
 state-long bytes h =
-    eqb-true (length bytes) 180 (and-left (eqb (length bytes) 180) (alike (encodeOf (nodeIn bytes)) bytes && stateOk (nodeIn bytes)) h)
+    eqb-true (length bytes) 188 (and-left (eqb (length bytes) 188) (alike (encodeOf (nodeIn bytes)) bytes && stateOk (nodeIn bytes)) h)
 
 -- where the verdict is fine no cause holds
 

@@ -28,11 +28,11 @@ pub state-sound : (state : List ℕ) → areState state ≡ true → stateOk (no
 unfolding areState
 state-sound state h =
     let same = alike (encodeOf (nodeIn state)) state in
-    and-right same (stateOk (nodeIn state)) (and-right (eqb (length state) 180) (same && stateOk (nodeIn state)) h)
+    and-right same (stateOk (nodeIn state)) (and-right (eqb (length state) 188) (same && stateOk (nodeIn state)) h)
 
 -- what is read off the state bytes as they are is what their node keeps
-where-long : (state : List ℕ) (t : Bool) → areState state ≡ true → pick (eqb (length state) 180) t true ≡ true → t ≡ true
-where-long state t h e = sym (ap (λ (b : Bool). pick b t true) (eq-eqb (length state) 180 (state-long state h))) ∙ e
+where-long : (state : List ℕ) (t : Bool) → areState state ≡ true → pick (eqb (length state) 188) t true ≡ true → t ≡ true
+where-long state t h e = sym (ap (λ (b : Bool). pick b t true) (eq-eqb (length state) 188 (state-long state h))) ∙ e
 
 -- cause by cause
 

@@ -16,10 +16,10 @@ use Rattle.base.proofs.Part.{below-take}
 use Rattle.base.proofs.Laid.{take-laid}
 use Rattle.fcs.specs.Fcs.{fcsOf, fcsFrom}
 use Rattle.fcs.proofs.Runs.{fcs-append}
-use Rattle.group.specs.Kind.{Answer, kindOf}
+use Rattle.group.specs.Kind.{Answer, joinedOf, kindOf}
 use Rattle.group.specs.Tally.{tallied}
 use Rattle.group.specs.Time.{isLate}
-use Rattle.group.specs.Fragment.{statusOf, dataOf, fragmentBy, Assembly, assembly, built, behind, takenAs, taken}
+use Rattle.group.specs.Fragment.{statusOf, dataOf, fragmentBy, Assembly, assembly, built, behind}
 use Rattle.group.specs.Ending.{sent, replied, zeroReply, sealed}
 use Rattle.group.specs.Single.{passedOn}
 use Rattle.group.specs.declared.Built.{Built}
@@ -28,7 +28,7 @@ use Rattle.group.specs.declared.Kind.{Kind}
 use Rattle.group.specs.declared.Reply.{Reply}
 use Rattle.group.specs.declared.Tally.{Tally}
 use Rattle.group.specs.declared.ZeroLength.{ZeroLength}
-use Rattle.group.proofs.Behind.{length-framed, taken-by}
+use Rattle.group.proofs.Behind.{length-framed}
 use Rattle.node.specs.Effect.{Effect, Outcome, outcome, applied, only}
 use Rattle.node.specs.Slaves.{askedAt, pollEffect, hears, silent}
 use Rattle.node.specs.Calls.{judged, lentReply}
@@ -52,7 +52,7 @@ pub record Made (room : List ℕ) (grown : Built) (new : List ℕ) (t : Tally) :
   pub words : take (grown .words) room ≡ new
 
 -- it is no longer than the answer, or five words
-pub fragment-short : (kind : Kind) (slave : ℕ) (a : Answer) (room : ℕ) → 5 ≤ room → (kind ≡ Kind.Whole → (2 ≤ length (a .words)) × (length (a .words) ≤ room))
+pub fragment-short : (kind : Kind) (slave : ℕ) (a : Answer) (room : ℕ) → 5 ≤ room → (kind ≡ Kind.Whole → (2 ≤ length (joinedOf a)) × (length (joinedOf a) ≤ room))
     → length (fragmentBy kind slave a) ≤ room
 fragment-short Kind.Late slave a room five h = omega arith
 fragment-short Kind.Errors slave a room five h = omega arith
@@ -60,18 +60,17 @@ fragment-short (Kind.Zero z) slave a room five h = omega arith
 fragment-short (Kind.Faulty f) slave a room five h = omega arith
 fragment-short Kind.Whole slave a room five h =
     let p = h refl in
-    let l = length-framed (dataOf Kind.Whole a) (statusOf Kind.Whole (a .words) slave) in
-    let t : length (take (length (a .words) - 2) (a .words)) ≡ length (a .words) - 2 = length-take-le (length (a .words) - 2) (a .words) (omega arith) in
+    let ws = joinedOf a in
+    let l = length-framed (dataOf Kind.Whole a) (statusOf Kind.Whole ws slave) in
+    let t : length (take (length ws - 2) ws) ≡ length ws - 2 = length-take-le (length ws - 2) ws (omega arith) in
     omega (arith, l, t, p .0, p .1)
 
-pub made : (room : List ℕ) (t : Tally) (kind : Kind) (slave : ℕ) (a : Answer) {room′ : List ℕ} {grown : Built} → length (fragmentBy kind slave a) ≤ length room
-    → length room′ ≡ length room
-    → assembly room′ grown ≡ takenAs (assembly room (built 0 t)) kind slave a → Made room′ grown (fragmentBy kind slave a) (tallied t kind)
+pub made : (room : List ℕ) (before t : Tally) (new : List ℕ) {room′ : List ℕ} {grown : Built} → length new ≤ length room → length room′ ≡ length room
+    → assembly room′ grown ≡ behind (assembly room (built 0 before)) t new → Made room′ grown new t
 unfolding behind
-made room t kind slave a {room′} {grown} fits same e =
-    let new = fragmentBy kind slave a in
-    let whole : assembly room′ grown ≡ assembly (laid room 0 new) (built (0 + length new) (tallied t kind)) =
-    e ∙ sym (yes (assembly room (built 0 t)) (le-leb (0 + length new) (length room) (omega arith)) refl) in
+made room before t new {room′} {grown} fits same e =
+    let whole : assembly room′ grown ≡ assembly (laid room 0 new) (built (0 + length new) t) =
+    e ∙ sym (yes (assembly room (built 0 before)) (le-leb (0 + length new) (length room) (omega arith)) refl) in
     let n : grown .words ≡ length new = ap (λ (m : Assembly). m .built .words) whole ∙ omega arith in
     record {
       count = n;
@@ -81,22 +80,19 @@ made room t kind slave a {room′} {grown} fits same e =
     }
 
 -- .. and stored behind the words built
-module _ (reply : List ℕ) (b : Built) (left slave : ℕ) (a : Answer) (kind : Kind) (e : kind ≡ kindOf a (b .words) left) where
-  abbrev new : List ℕ
-  new = fragmentBy kind slave a
-
+module _ (reply : List ℕ) (b : Built) (t : Tally) (new : List ℕ) where
   abbrev then : Assembly
-  then = taken (assembly (bufferWords reply) b) left slave a
+  then = behind (assembly (bufferWords reply) b) t new
 
   unfit : (n : ℕ) → n ≡ length new → leb (b .words + n) 12288 ≡ leb (b .words + length new) (length (bufferWords reply))
   unfit n c = (λ i. leb (b .words + c i) (sym (length-words 2 12288 reply) i))
 
-  pub took-none : {room : List ℕ} {grown : Built} → Made room grown new (tallied (b .tally) kind) → leb (b .words + grown .words) 12288 ≡ false
+  pub took-none : {room : List ℕ} {grown : Built} → Made room grown new t → leb (b .words + grown .words) 12288 ≡ false
       → assembly (bufferWords reply) b ≡ then
   unfolding behind
-  took-none {room} {grown} m f = no _ (sym (unfit (grown .words) (m .count)) ∙ f) refl ∙ taken-by (assembly (bufferWords reply) b) left slave a e
+  took-none {room} {grown} m f = no _ (sym (unfit (grown .words) (m .count)) ∙ f) refl
 
-  pub took : {room reply′ : List ℕ} {grown : Built} → 12288 ≤ length reply / 2 → Below 256 reply → Below 65536 room → Made room grown new (tallied (b .tally) kind)
+  pub took : {room reply′ : List ℕ} {grown : Built} → 12288 ≤ length reply / 2 → Below 256 reply → Below 65536 room → Made room grown new t
       → leb (b .words + grown .words) 12288 ≡ true
       → reply′ ≡ laid reply (b .words * 2) (bytesOf 2 (take (grown .words) room))
       → (assembly (bufferWords reply′) (built (b .words + grown .words) (grown .tally)) ≡ then) × Rest 2 12288 reply reply′
@@ -110,7 +106,7 @@ module _ (reply : List ℕ) (b : Built) (left slave : ℕ) (a : Answer) (kind : 
       let small : Below 65536 new = subst (Below 65536) (m .words) (below-take (grown .words) room words) in
       let laid-so : bufferWords reply′ ≡ laid (bufferWords reply) w new = ap bufferWords stored ∙ words-laid 2 12288 reply w new (omega arith) fits low small in (
         (λ i. assembly (laid-so i) (built (w + c i) (m .tally i)))
-            ∙ yes (assembly (bufferWords reply) b) (sym (unfit (grown .words) c) ∙ f) refl ∙ taken-by (assembly (bufferWords reply) b) left slave a e,
+            ∙ yes (assembly (bufferWords reply) b) (sym (unfit (grown .words) c) ∙ f) refl,
         subst (Rest 2 12288 reply) (sym stored) (rest-laid 2 12288 reply w new (omega arith) fits),
       )
 

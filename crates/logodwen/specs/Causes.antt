@@ -1,5 +1,5 @@
 -- When an entry is refused, and by what: 01 'Call refusals', with the limits that 'Covered' sets at the C border, and 8 of 02, request 1.
--- 1 and 4 read the kept size and the ports off the state bytes as they are, where there are 180. Assumes nothing.
+-- 1 and 4 read the kept size and the ports off the state bytes as they are, where there are 188. Assumes nothing.
 use Prim.Native.Nat.{ℕ}
 use mathlib.Core.Bool.{Bool, true, _||_, not}
 use mathlib.Core.List.{List, [], _∷_}
@@ -14,7 +14,7 @@ use Rattle.codec.specs.StateBytes.{sizeIn, portsIn, nodeIn, areState}
 
 -- 1: the flash isn't bench size, or isn't the size used at start.
 abbrev pub keptOk : List ℕ → ℕ → Bool
-keptOk state flash = pick (eqb (length state) 180) (eqb flash (sizeIn state)) true
+keptOk state flash = pick (eqb (length state) 188) (eqb flash (sizeIn state)) true
 
 abbrev pub benchCause : List ℕ → ℕ → Cause
 benchCause state flash = cause Refusal.FlashSize (not (eqb flash 32768) || not (keptOk state flash))
@@ -28,7 +28,7 @@ lengthCause packet = cause Refusal.MemorySize (ltb 32768 packet)
 
 -- 4: the link isn't below the port count.
 abbrev pub linkOk : List ℕ → ℕ → Bool
-linkOk state link = pick (eqb (length state) 180) (ltb link (portsIn state)) true
+linkOk state link = pick (eqb (length state) 188) (ltb link (portsIn state)) true
 
 abbrev pub portCause : List ℕ → ℕ → Cause
 portCause state link = cause Refusal.Number (not (linkOk state link))
@@ -55,11 +55,11 @@ pollCheck state reply = firstOf (replyCause reply ∷ bytesCause state ∷ pollC
 unfoldable pub eraseCheck : List ℕ → ℕ → Verdict
 eraseCheck state flash = firstOf (benchCause state flash ∷ bytesCause state ∷ [])
 
--- At start, 5: room for other than 180 state bytes. What stands in them isn't looked at.
+-- At start, 5: room for other than 188 state bytes. What stands in them isn't looked at.
 unfoldable pub startCheck : ℕ → ℕ → ℕ → List ℕ → ℕ → Verdict
 startCheck kind ports subdetector state flash =
     firstOf
     (cause Refusal.FlashSize (not (eqb flash 32768))
     ∷ cause Refusal.Number (not (portsOk ports) || not (kindOk kind) || ltb 7 subdetector)
-    ∷ cause Refusal.State (not (eqb (length state) 180))
+    ∷ cause Refusal.State (not (eqb (length state) 188))
     ∷ [])

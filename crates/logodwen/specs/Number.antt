@@ -1,5 +1,5 @@
--- What an entry answers, as one number: bits 7-0 the refusal, 0 for done; 15-8 1 reply, 2 ask a slave, 3 waiting; 23-16 a reply's BC,
--- or the slave to ask; 31-24 the word from which the request is sent on; 63-32 a reply's length in words, or the words that an erase
+-- What an entry answers, as one number: bits 7-0 the refusal, 0 for done; 15-8 1 reply, 2 ask a slave, 3 waiting, 8 send NEXT to a slave (02,
+-- request 8); 23-16 a reply's BC, or the slave; 31-24 the word from which the request is sent on; 63-32 a reply's length in words, or the words that an erase
 -- step set. 01 'Call refusals'. Assumes nothing.
 use Prim.Native.Nat.{ℕ, _+_, _*_, _%_}
 use Rattle.node.specs.State.{refusalNumber}
@@ -16,6 +16,7 @@ answerNumber (Answer.Refused r) = refusalNumber r
 answerNumber Answer.Started = 0
 answerNumber (Answer.Reply r) = fields 1 (r .bc) 0 (r .words)
 answerNumber (Answer.Ask a) = fields 2 (a .slave) (a .from) 0
+answerNumber (Answer.Next s) = fields 8 s 0 0
 answerNumber Answer.Waiting = fields 3 0 0 0
 answerNumber (Answer.Erased count) = fields 0 0 0 count
 

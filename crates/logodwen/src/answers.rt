@@ -23,6 +23,7 @@ pub fn answer_number(answer: Answer) -> u64
         Answer::Started => 0,
         Answer::Reply(reply) => done(1, reply.bc as u64, 0, reply.words as u64),
         Answer::Ask(asking) => done(2, asking.slave as u64, asking.from as u64, 0),
+        Answer::Next(slave) => done(8, slave as u64, 0, 0),
         Answer::Waiting => done(3, 0, 0, 0),
         Answer::Erased(count) => done(0, 0, 0, count as u64),
     }
@@ -47,6 +48,7 @@ pub fn answer_words(answer: Answer) -> usize
         Answer::Started => 0,
         Answer::Reply(reply) => reply.words,
         Answer::Ask(_) => 0,
+        Answer::Next(_) => 0,
         Answer::Waiting => 0,
         Answer::Erased(_) => 0,
     }

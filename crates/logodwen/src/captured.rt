@@ -1,66 +1,84 @@
-// Captured group replies, for a host that has words as bytes, in a room of their order of size. An acceptable reply has 12,288 words at
-// most, so of a longer run the first 12,289 say all.
+// Captured group replies, for a host that has words as bytes. They are read where they stand: of a fragment three words, at the end two, and
+// the check sequence alone goes over all of them. How words are judged is crate `capture`'s.
 ghost use mathlib.Core.Path.{_≡_};
-ghost use Prim.Native.Nat.{_/_, _≤_};
-ghost use lib.ListN.{length};
-ghost use Rattle.capture.specs.Reader.{readOf};
+ghost use Rattle.capture.specs.Reader.{readFragment, readEnd, readOf};
 ghost use Rattle.codec.specs.Bytes.{wordsOf};
 ghost use Rattle.logodwen.specs.Number.{captureNumber};
 use crate::answers::capture_number;
-use crate::rooms::room_64;
-use crate::rooms::room_1024;
-use crate::rooms::room_12289;
 use capture::Capture;
-use capture::read_group;
-use codec::words::load16;
+use capture::Step;
+use capture::is_mask;
+use capture::judge_end;
+use capture::judge_fcs;
+use capture::judge_fragment;
+use codec::words::packet_word;
+use group::Built;
+use group::Tally;
 
-// On the bytes of at most 64 words, of 1,024, and of 12,289.
-fn read_64(mask: u32, bytes: &[u8]) -> Capture
-    requires { ⌜ length (now bytes) / 2 ≤ 64 ⌝ }
-    ensures { λ r. ⌜ r ≡ readOf mask (wordsOf 2 (now (bytes .entry))) ⌝ }
+// The fragment of slave s behind those read, with k slaves yet to ask.
+fn read_fragment(bytes: &[u8], s: u32, k: usize, built: Built) -> Step
+    ensures { λ r. ⌜ r ≡ readFragment (wordsOf 2 (now (bytes .entry))) s k built ⌝ }
 {
-    let mut words = room_64();
-    let count = load16(bytes, &mut words);
-    read_group(mask, &words[..count])
+    let n = bytes.len() / 2;
+    let w = built.words;
+    if n <= w {
+        return Step::Broken(n);
+    }
+    let first = packet_word(bytes, w);
+    let third = packet_word(bytes, w + 2);
+    let last = packet_word(bytes, w + base::wide(first));
+    judge_fragment(n, s, k, built, first, third, last)
 }
 
-fn read_1024(mask: u32, bytes: &[u8]) -> Capture
-    requires { ⌜ length (now bytes) / 2 ≤ 1024 ⌝ }
-    ensures { λ r. ⌜ r ≡ readOf mask (wordsOf 2 (now (bytes .entry))) ⌝ }
+// Behind the fragments: the group's status word, the FCS, and nothing more.
+fn read_end(bytes: &[u8], built: Built) -> Capture
+    ensures { λ r. ⌜ r ≡ readEnd (wordsOf 2 (now (bytes .entry))) built ⌝ }
 {
-    let mut words = room_1024();
-    let count = load16(bytes, &mut words);
-    read_group(mask, &words[..count])
+    let n = bytes.len() / 2;
+    let w = built.words;
+    match judge_end(n, built, packet_word(bytes, w)) {
+        Capture::Broken(i) => Capture::Broken(i),
+        Capture::Accepted => {
+            let fcs = fcs::fcs_bytes(&bytes[0..(w + 1) * 2]);
+            judge_fcs(n, w, packet_word(bytes, w + 1), fcs)
+        }
+    }
 }
 
-fn read_12289(mask: u32, bytes: &[u8]) -> Capture
-    requires { ⌜ length (now bytes) / 2 ≤ 12289 ⌝ }
-    ensures { λ r. ⌜ r ≡ readOf mask (wordsOf 2 (now (bytes .entry))) ⌝ }
-{
-    let mut words = room_12289();
-    let count = load16(bytes, &mut words);
-    read_group(mask, &words[..count])
-}
-
+// The fragments, then the end; or the first word that breaks.
 fn read_bytes(mask: u32, bytes: &[u8]) -> Capture
     ensures { λ r. ⌜ r ≡ readOf mask (wordsOf 2 (now (bytes .entry))) ⌝ }
 {
-    let n = bytes.len() / 2;
-    if n <= 64 {
-        return read_64(mask, bytes);
+    if !is_mask(mask) {
+        return Capture::Broken(0);
     }
-    if n <= 1024 {
-        return read_1024(mask, bytes);
+    let mut built = Built {
+        words: 0,
+        tally: Tally::Nothing,
+    };
+    let mut s = 0;
+    while s < 24 {
+        let slave = s;
+        s += 1;
+        if group::slaves::bit(mask, slave) == 0 {
+            continue;
+        }
+        let k = group::slaves::slaves_above(mask, slave);
+        match read_fragment(bytes, slave, k, built) {
+            Step::On(next) => {
+                built = next;
+            }
+            Step::Broken(i) => {
+                return Capture::Broken(i);
+            }
+        }
     }
-    if n <= 12289 {
-        return read_12289(mask, bytes);
-    }
-    read_12289(mask, &bytes[..24578])
+    read_end(bytes, built)
 }
 
 // A captured group reply, with the mask of the slaves that were asked.
 #[no_mangle]
-pub extern "C" fn logodwen2_capture(mask: u32, words: &[u8]) -> u64
+pub extern "C" fn logodwen3_capture(mask: u32, words: &[u8]) -> u64
     ensures { λ r. ⌜ r ≡ captureNumber (readOf mask (wordsOf 2 (now (words .entry)))) ⌝ }
 {
     capture_number(read_bytes(mask, words))

@@ -11,7 +11,7 @@ use node::Verdict;
 fn kept_ok(state: &[u8], flash: usize) -> bool
     ensures { λ r. ⌜ r ≡ keptOk (now (state .entry)) flash ⌝ }
 {
-    if state.len() != 180 {
+    if state.len() != 188 {
         return true;
     }
     flash == word32(state, 20) as usize
@@ -20,7 +20,7 @@ fn kept_ok(state: &[u8], flash: usize) -> bool
 fn link_ok(state: &[u8], link: u32) -> bool
     ensures { λ r. ⌜ r ≡ linkOk (now (state .entry)) link ⌝ }
 {
-    if state.len() != 180 {
+    if state.len() != 188 {
         return true;
     }
     link < byte(state, 1) as u32

@@ -42,7 +42,7 @@ mod stretches;
 
 // Start on a flash: the refusal's number, 0 for done.
 #[no_mangle]
-pub extern "C" fn logodwen2_start(
+pub extern "C" fn logodwen3_start(
     kind: u32,
     ports: u32,
     subdetector: u32,
@@ -61,7 +61,7 @@ pub extern "C" fn logodwen2_start(
     if !((1 <= ports) & (ports <= 4)) | !((kind == 1) | (kind == 2)) | (7 < subdetector) {
         return 4;
     }
-    if state.len() != 180 {
+    if state.len() != 188 {
         return 5;
     }
     let turn = on_start(
@@ -81,7 +81,7 @@ pub extern "C" fn logodwen2_start(
 
 // A request from a link.
 #[no_mangle]
-pub extern "C" fn logodwen2_request(
+pub extern "C" fn logodwen3_request(
     clock: u32,
     link: u32,
     bc: u32,
@@ -137,7 +137,7 @@ pub extern "C" fn logodwen2_request(
 
 // A slave's reply.
 #[no_mangle]
-pub extern "C" fn logodwen2_reply(
+pub extern "C" fn logodwen3_reply(
     clock: u32,
     slave: u32,
     bc: u32,
@@ -177,7 +177,7 @@ pub extern "C" fn logodwen2_reply(
 
 // A poll, while a request waits for a slave.
 #[no_mangle]
-pub extern "C" fn logodwen2_poll(clock: u32, state: &mut [u8], reply: &mut [u8]) -> u64
+pub extern "C" fn logodwen3_poll(clock: u32, state: &mut [u8], reply: &mut [u8]) -> u64
     ensures { λ r. ⌜ answered r (now (state .exit)) (lentReply (now (reply .exit))) ≡ pollEntry clock (now (state .entry)) (now (reply .entry)) ⌝ }
 {
     let verdict = poll_check(state, reply.len() / 2);
@@ -196,7 +196,7 @@ pub extern "C" fn logodwen2_poll(clock: u32, state: &mut [u8], reply: &mut [u8])
 
 // Erase progress.
 #[no_mangle]
-pub extern "C" fn logodwen2_erase(budget: u64, state: &mut [u8], flash: &mut [u8]) -> u64
+pub extern "C" fn logodwen3_erase(budget: u64, state: &mut [u8], flash: &mut [u8]) -> u64
     ensures { λ r. ⌜ answered r (now (state .exit)) (lentFlash (now (flash .exit))) ≡ eraseEntry budget (now (state .entry)) (now (flash .entry)) ⌝ }
 {
     let verdict = erase_check(state, flash.len() / 2);

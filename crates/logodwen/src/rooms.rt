@@ -68,12 +68,6 @@ pub fn room_12288() -> [u16; 12288]
     [0; 12288]
 }
 
-pub fn room_12289() -> [u16; 12289]
-    ensures { λ r. ⌜ length r ≡ 12289 ⌝ }
-{
-    [0; 12289]
-}
-
 pub fn room_12293() -> [u16; 12293]
     ensures { λ r. ⌜ length r ≡ 12293 ⌝ }
 {

@@ -1,11 +1,13 @@
 -- What is heard of a slave, as the outcome of the whole call: a reply sent, an answer taken into a group, and an error counted before
 -- either. Assumes nothing.
-use Prim.Native.Nat.{ℕ}
-use mathlib.Core.Path.{_≡_, refl, ap, _∙_}
-use mathlib.Core.Bool.{Bool}
+use Prim.Native.Nat.{ℕ, _+_}
+use mathlib.Core.Path.{_≡_, refl, sym, ap, _∙_}
+use mathlib.Core.Bool.{Bool, true, false}
 use mathlib.Core.List.{List}
 use lib.ListN.{length}
-use Rattle.group.specs.Kind.{answer}
+use Rattle.base.specs.Pick.{pick}
+use Rattle.base.specs.Words.{laid}
+use Rattle.group.specs.Kind.{partBy}
 use Rattle.group.specs.Slaves.{above, nextOf}
 use Rattle.group.specs.Fragment.{Assembly, assembly, taken}
 use Rattle.group.specs.Ending.{Sent, sent}
@@ -14,7 +16,7 @@ use Rattle.group.specs.declared.Next.{Next}
 use Rattle.group.specs.declared.Reply.{Reply}
 use Rattle.node.specs.State.{turn, errored, withPending}
 use Rattle.node.specs.Effect.{Lent, Outcome, outcome, applied}
-use Rattle.node.specs.Slaves.{sends, goesOn, gathers, hears, withAmswire}
+use Rattle.node.specs.Slaves.{sends, goesOn, packetIn, yetToAsk, sentNext, awaits, gathersLast, gathers, hears, withAmswire}
 use Rattle.node.specs.Calls.{lentReply}
 use Rattle.node.specs.declared.Answer.{Answer}
 use Rattle.node.specs.declared.Ask.{Ask}
@@ -38,16 +40,30 @@ sends-told n reply s {after = after} e h =
 module _ (n : Node) (a : Ask) (g : Gathering) (clock : ℕ) (h : Heard) (words reply : List ℕ) where
   -- an answer is taken into a group, with the slaves above its own yet to ask
   pub gathers-told : {left : ℕ} {next : Next} {m : Assembly} {x : Outcome} → x ≡ applied n (lentReply reply) (goesOn n a g clock m next)
-      → m ≡ taken (assembly reply (g .built)) left (a .slave) (answer h words)
-      → left ≡ length (above (g .set) (a .slave))
+      → m ≡ taken (assembly reply (g .built)) left (a .slave) (packetIn g h words reply)
+      → left ≡ yetToAsk a g
       → next ≡ nextOf (above (g .set) (a .slave))
+      → partBy h (g .received .words) (length words) (g .built .words) left ≡ false
       → x ≡ applied n (lentReply reply) (gathers n a g clock h words reply)
-  gathers-told {left} {next} e taken-answer some-left next-slave =
-      let took : ℕ → Assembly = λ k. taken (assembly reply (g .built)) k (a .slave) (answer h words) in
+  gathers-told {left} {next} e taken-answer some-left next-slave ends =
+      let took : ℕ → Assembly = λ k. taken (assembly reply (g .built)) k (a .slave) (packetIn g h words reply) in
       e
       ∙ ap (λ (m : Assembly). applied n (lentReply reply) (goesOn n a g clock m next)) taken-answer
       ∙ ap (λ (k : ℕ). applied n (lentReply reply) (goesOn n a g clock (took k) next)) some-left
-      ∙ ap (λ (x : Next). applied n (lentReply reply) (goesOn n a g clock (took (length (above (g .set) (a .slave)))) x)) next-slave
+      ∙ ap (λ (x : Next). applied n (lentReply reply) (goesOn n a g clock (took (yetToAsk a g)) x)) next-slave
+      ∙ ap (λ (t : Bool). applied n (lentReply reply) (pick t (awaits a g clock h words reply) (gathersLast n a g clock h words reply)))
+      (sym (sym (ap (partBy h (g .received .words) (length words) (g .built .words)) some-left) ∙ ends))
+
+  -- a packet is stored, and NEXT is sent
+  pub awaits-told : {left : ℕ} {r : Turn} {after : List ℕ} → r ≡ sentNext n a g clock h (length words)
+      → after ≡ laid reply (g .built .words + 1 + g .received .words) words
+      → left ≡ yetToAsk a g
+      → partBy h (g .received .words) (length words) (g .built .words) left ≡ true
+      → outcome r (lentReply after) ≡ applied n (lentReply reply) (gathers n a g clock h words reply)
+  awaits-told e stored some-left part =
+      (λ i. outcome (e i) (lentReply (stored i)))
+      ∙ ap (λ (t : Bool). applied n (lentReply reply) (pick t (awaits a g clock h words reply) (gathersLast n a g clock h words reply)))
+      (sym (sym (ap (partBy h (g .received .words) (length words) (g .built .words)) some-left) ∙ part))
 
 -- the count of errors is nothing that decides what is done
 module _ (n : Node) (error : Bool) (clock : ℕ) (h : Heard) (words reply : List ℕ) where
@@ -59,9 +75,14 @@ module _ (n : Node) (error : Bool) (clock : ℕ) (h : Heard) (words reply : List
   hears-counted Pending.Nothing = refl
   hears-counted (Pending.Slave a) = refl
   hears-counted (Pending.Group a g) =
-      goes-on-counted a g
-      (taken (assembly reply (g .built)) (length (above (g .set) (a .slave))) (a .slave) (answer h words))
-      (nextOf (above (g .set) (a .slave)))
+      by (partBy h (g .received .words) (length words) (g .built .words) (yetToAsk a g))
+    where
+      by : (t : Bool) → applied (errored error n) (lentReply reply) (pick t (awaits a g clock h words reply) (gathersLast (errored error n) a g clock h words reply))
+          ≡ applied n (lentReply reply) (withAmswire error (pick t (awaits a g clock h words reply) (gathersLast n a g clock h words reply)))
+      by true = refl
+      by false =
+          goes-on-counted a g (taken (assembly reply (g .built)) (yetToAsk a g) (a .slave) (packetIn g h words reply))
+          (nextOf (above (g .set) (a .slave)))
 
   pub hears-told : {m : Node} {x : Outcome} → m ≡ errored error n → x ≡ applied m (lentReply reply) (hears (m .pending) m clock h words reply)
       → x ≡ applied n (lentReply reply) (withAmswire error (hears (n .pending) n clock h words reply))

@@ -14,19 +14,21 @@ use Rattle.flash.specs.Geometry.{isSector, sizeOf}
 use Rattle.flash.specs.Status.{progress}
 use Rattle.flash.specs.Change.{restOf, erasingAfter}
 use Rattle.flash.specs.declared.Erasing.{Erasing}
-use Rattle.group.specs.Kind.{answer}
+use Rattle.group.specs.Kind.{Answer, partBy}
 use Rattle.group.specs.Slaves.{hasSlave, slavesOf, above, nextOf}
-use Rattle.group.specs.Fragment.{Assembly, assembly, taken}
+use Rattle.group.specs.Fragment.{Assembly, assembly, built, taken}
 use Rattle.group.specs.Time.{isLate}
 use Rattle.group.specs.declared.Heard.{Heard}
 use Rattle.group.specs.declared.Next.{Next}
+use Rattle.group.specs.declared.Tally.{Tally}
+use Rattle.group.proofs.Answers.{part-tells}
 use Rattle.group.proofs.Sets.{up-tells, length-slaves}
 use Rattle.group.proofs.Rooms.{room-kept}
 use Rattle.group.proofs.Takes.{taken-fits}
 use Rattle.node.specs.Effect.{Effect, Lent, Change, erasingNext, Setup, modeAfter, masksAfter, Join, writingAfter}
-use Rattle.node.specs.Valid.{sizeOk, givenOk, masksOk, erasingOk, askOk, gatheringOk, pendingOk, writingOk, stateOk}
+use Rattle.node.specs.Valid.{sizeOk, givenOk, masksOk, erasingOk, askOk, receivedOk, gatheringOk, pendingOk, writingOk, stateOk}
 use Rattle.node.specs.Route.{asks, writes, routeOf}
-use Rattle.node.specs.Slaves.{heard, silent, goesOn, gathers, hears, askedAt, replyEffect, pollEffect}
+use Rattle.node.specs.Slaves.{received, nothingReceived, gathering, heard, silent, goesOn, packetIn, awaits, gathers, hears, askedAt, replyEffect, pollEffect}
 use Rattle.node.specs.Calls.{routed}
 use Rattle.node.specs.declared.Ask.{Ask}
 use Rattle.node.specs.declared.Gathering.{Gathering}
@@ -128,6 +130,62 @@ sets-masks Setup.Kept packet masks b w h = h
 sets-masks (Setup.Mode m) packet masks b w h = h
 sets-masks (Setup.Mask i mask) packet masks b w h = let l = b 2 in mask-set masks i mask (omega (arith, w .words)) h
 
+-- what refusal 5 looks at of a group, part by part
+pub record Gathered (slave : ℕ) (g : Gathering) : Type 0 where
+  pub member : hasSlave (g .set) slave ≡ true
+  pub short : ltb (g .set) 16777216 ≡ true
+  pub room : g .built .words + 5 * (length (above (g .set) slave) + 1) + 2 ≤ 12288
+  pub from : (eqb (g .from) 1 || eqb (g .from) 2) ≡ true
+  pub stored : g .built .words + g .received .words + 5 * length (above (g .set) slave) + 2 ≤ 12288
+  pub fresh : (ltb 0 (g .received .words) || eqb (g .received .«rx_status») 0) ≡ true
+
+-- the words received have room
+pub received-room : (slave : ℕ) (g : Gathering) → receivedOk slave g ≡ true → g .built .words + g .received .words + 5 * length (above (g .set) slave) + 2 ≤ 12288
+received-room slave g ok =
+    let sum = g .built .words + g .received .words + 5 * length (above (g .set) slave) + 2 in
+    leb-true sum 12288 (and-left (leb sum 12288) (ltb 0 (g .received .words) || eqb (g .received .«rx_status») 0) ok)
+
+module _ (slave : ℕ) (g : Gathering) where
+  abbrev member : Bool
+  member = hasSlave (g .set) slave
+
+  abbrev short : Bool
+  short = ltb (g .set) 16777216
+
+  abbrev room : Bool
+  room = leb (g .built .words + 5 * (length (above (g .set) slave) + 1) + 2) 12288
+
+  abbrev from : Bool
+  from = eqb (g .from) 1 || eqb (g .from) 2
+
+  pub gathered-tells : gatheringOk slave g ≡ true → Gathered slave g
+  gathered-tells all =
+      let four = and-left (member && short && room && from) (receivedOk slave g) all in
+      let last = and-right (member && short && room && from) (receivedOk slave g) all in
+      let three = and-left (member && short && room) from four in
+      let two = and-left (member && short) room three in
+      record {
+        member = and-left member short two;
+        short = and-right member short two;
+        room = leb-true (g .built .words + 5 * (length (above (g .set) slave) + 1) + 2) 12288 (and-right (member && short) room three);
+        from = and-right (member && short && room) from four;
+        stored = received-room slave g last;
+        fresh = and-right (leb (g .built .words + g .received .words + 5 * length (above (g .set) slave) + 2) 12288) (ltb 0 (g .received .words) || eqb (g .received .«rx_status») 0) last;
+      }
+
+  pub gathered-told : Gathered slave g → gatheringOk slave g ≡ true
+  gathered-told r =
+      and-both
+      (and-both
+      (and-both (and-both (r .member) (r .short)) (le-leb (g .built .words + 5 * (length (above (g .set) slave) + 1) + 2) 12288 (r .room)))
+      (r .from))
+      (and-both (le-leb (g .built .words + g .received .words + 5 * length (above (g .set) slave) + 2) 12288 (r .stored)) (r .fresh))
+
+pub pending-received : (ports : ℕ) (a : Ask) (g : Gathering) → pendingOk ports (Pending.Group a g) ≡ true → receivedOk (a .slave) g ≡ true
+pending-received ports a g ok =
+    and-right (member (a .slave) g && short (a .slave) g && room (a .slave) g && from (a .slave) g) (receivedOk (a .slave) g)
+    (and-right (askOk ports a) (gatheringOk (a .slave) g) ok)
+
 -- what is pending: of a request, the slaves that it names are of 24 bits ..
 named-below : {masks packet : List ℕ} {set from : ℕ} → masksOk masks ≡ true → Below 65536 packet → Named masks packet set from → set < 16777216
 named-below {masks} m b Named.kept = mask-below masks _ m
@@ -151,7 +209,7 @@ request-pending n clock link bc errors packet l b k m h =
     (λ _ _. pick-case (λ (p : Pending). pendingOk (n .given .ports) p ≡ true) (asks (n .pending) link) (λ _. refl) (λ _. h))
     (λ from at j. h) (λ at w. h) (λ id w c. h)
     (λ s q. and-both (lt-ltb link (n .given .ports) k) (le-leb s 23 q))
-    (λ set from s named e. and-both (and-both (lt-ltb link (n .given .ports) k) (slave set s e)) (and-both (and-both (and-both (member set s e) (lt-ltb set 16777216 (named-below m b named))) (room set s e)) (named-from named)))
+    (λ set from s named e. and-both (and-both (lt-ltb link (n .given .ports) k) (slave set s e)) (gathered set from s named e))
   where
     slave : (set s : ℕ) → nextOf (slavesOf set) ≡ Next.Slave s → leb s 23 ≡ true
     slave set s e = let t = next-slave (slavesOf set) s e in le-leb s 23 (omega (arith, up-tells set 0 s (t .0) (t .1) .below))
@@ -159,11 +217,24 @@ request-pending n clock link bc errors packet l b k m h =
     member : (set s : ℕ) → nextOf (slavesOf set) ≡ Next.Slave s → hasSlave set s ≡ true
     member set s e = let t = next-slave (slavesOf set) s e in up-tells set 0 s (t .0) (t .1) .member
 
-    room : (set s : ℕ) → nextOf (slavesOf set) ≡ Next.Slave s → leb (0 + 5 * (length (above set s) + 1) + 2) 12288 ≡ true
+    room : (set s : ℕ) → nextOf (slavesOf set) ≡ Next.Slave s → 0 + 5 * (length (above set s) + 1) + 2 ≤ 12288
     room set s e =
         let t = next-slave (slavesOf set) s e in
         let p = ap length (t .1 ∙ ap (λ (x : List ℕ). s ∷ x) (up-tells set 0 s (t .0) (t .1) .rest)) in
-        le-leb (0 + 5 * (length (above set s) + 1) + 2) 12288 (omega (arith, length-slaves set))
+        omega (arith, length-slaves set)
+
+    gathered : (set from s : ℕ) → Named (n .masks) packet set from → nextOf (slavesOf set) ≡ Next.Slave s
+        → gatheringOk s (gathering set from (built 0 Tally.Nothing) nothingReceived) ≡ true
+    gathered set from s named e =
+        gathered-told s (gathering set from (built 0 Tally.Nothing) nothingReceived)
+        (record {
+          member = member set s e;
+          short = lt-ltb set 16777216 (named-below m b named);
+          room = room set s e;
+          from = named-from named;
+          stored = omega (arith, room set s e);
+          fresh = refl;
+        })
 
 -- the write that stands: its link is one of the ports, and its words have fit
 pub request-writing : (n : Node) (clock link bc : ℕ) (errors : Bool) (packet : List ℕ) (l : Lent) → link < n .given .ports
@@ -179,47 +250,61 @@ request-writing n clock link bc errors packet l k h =
     Ok : Join → Type 0
     Ok j = writingOk (n .given .ports) (writingAfter j (n .writing)) ≡ true
 
--- of a slave's answer, what is built leaves room for the slaves yet to ask
+-- of a slave's answer, what is built leaves room for the slaves yet to ask, and what is stored of a packet has room
 module _ (ports : ℕ) (n : Node) (clock : ℕ) (h : Heard) (words reply : List ℕ) (big : 12288 ≤ length reply) where
   module _ (a : Ask) (g : Gathering) (ok : pendingOk ports (Pending.Group a g) ≡ true) where
     abbrev yet : List ℕ
     yet = above (g .set) (a .slave)
 
+    abbrev said : Answer
+    said = packetIn g h words reply
+
     abbrev after : Assembly
-    after = taken (assembly reply (g .built)) (length yet) (a .slave) (answer h words)
+    after = taken (assembly reply (g .built)) (length yet) (a .slave) said
 
-    abbrev member : Bool
-    member = hasSlave (g .set) (a .slave)
+    asked : askOk ports a ≡ true
+    asked = and-left (askOk ports a) (gatheringOk (a .slave) g) ok
 
-    abbrev short : Bool
-    short = ltb (g .set) 16777216
+    had : Gathered (a .slave) g
+    had = gathered-tells (a .slave) g (and-right (askOk ports a) (gatheringOk (a .slave) g) ok)
 
-    abbrev room : Bool
-    room = leb (g .built .words + 5 * (length yet + 1) + 2) 12288
+    awaited : partBy h (g .received .words) (length words) (g .built .words) (length yet) ≡ true → pendingOk ports (awaits a g clock h words reply .pending) ≡ true
+    awaited e =
+        let t = part-tells h (g .received .words) (length words) (g .built .words) (length yet) e in
+        and-both asked
+        (gathered-told (a .slave) (gathering (g .set) (g .from) (g .built) (received (g .received .words + length words) (h .«rx_status»)))
+        (record {
+          member = had .member;
+          short = had .short;
+          room = had .room;
+          from = had .from;
+          stored = t .room;
+          fresh = ap (λ (x : Bool). x || eqb (h .«rx_status») 0) (lt-ltb 0 (g .received .words + length words) (omega (arith, t .some)));
+        }))
 
-    abbrev from : Bool
-    from = eqb (g .from) 1 || eqb (g .from) 2
+    next-asked : (ss : List ℕ) → yet ≡ ss → pendingOk ports (goesOn n a g clock after (nextOf ss) .pending) ≡ true
+    next-asked [] e = refl
+    next-asked (t ∷ ss) e =
+        let next = up-tells (g .set) (a .slave + 1) t ss e in
+        let fewer = ap length (e ∙ ap (λ (x : List ℕ). t ∷ x) (next .rest)) in
+        let grown = ap (λ (m : Assembly). m .built .words) (taken-fits (assembly reply (g .built)) (length yet) (a .slave) said (had .room) big) in
+        let kept = room-kept (a .slave) said (g .built .words) (length yet) (had .room) in
+        and-both
+        (and-both (and-left (ltb (a .link) ports) (leb (a .slave) 23) asked) (le-leb t 23 (omega (arith, next .below))))
+        (gathered-told t (gathering (g .set) (g .from) (after .built) nothingReceived)
+        (record {
+          member = next .member;
+          short = had .short;
+          room = omega (arith, grown, kept, fewer);
+          from = had .from;
+          stored = omega (arith, grown, kept, fewer);
+          fresh = refl;
+        }))
 
     pub gathers-pending : pendingOk ports (gathers n a g clock h words reply .pending) ≡ true
-    gathers-pending = by yet refl
-      where
-        by : (ss : List ℕ) → yet ≡ ss → pendingOk ports (goesOn n a g clock after (nextOf ss) .pending) ≡ true
-        by [] e = refl
-        by (t ∷ ss) e =
-            let asked = and-left (askOk ports a) (gatheringOk (a .slave) g) ok in
-            let all = and-right (askOk ports a) (gatheringOk (a .slave) g) ok in
-            let three = and-left (member && short && room) from all in
-            let had = leb-true (g .built .words + 5 * (length yet + 1) + 2) 12288 (and-right (member && short) room three) in
-            let next = up-tells (g .set) (a .slave + 1) t ss e in
-            let fewer = ap length (e ∙ ap (λ (x : List ℕ). t ∷ x) (next .rest)) in
-            let built = ap (λ (m : Assembly). m .built .words) (taken-fits (assembly reply (g .built)) (length yet) (a .slave) (answer h words) had big) in
-            let kept = room-kept (a .slave) (answer h words) (g .built .words) (length yet) had in
-            and-both
-            (and-both (and-left (ltb (a .link) ports) (leb (a .slave) 23) asked) (le-leb t 23 (omega (arith, next .below))))
-            (and-both
-            (and-both (and-both (next .member) (and-right member short (and-left (member && short) room three)))
-            (le-leb (after .built .words + 5 * (length (above (g .set) t) + 1) + 2) 12288 (omega (arith, built, kept, fewer))))
-            (and-right (member && short && room) from all))
+    gathers-pending =
+        pick-case (λ (e : Effect). pendingOk ports (e .pending) ≡ true) (partBy h (g .received .words) (length words) (g .built .words) (length yet))
+        awaited (λ _. next-asked yet refl)
 
   hears-pending : (p : Pending) → pendingOk ports p ≡ true → pendingOk ports (hears p n clock h words reply .pending) ≡ true
   hears-pending Pending.Nothing ok = refl

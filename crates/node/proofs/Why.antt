@@ -27,7 +27,7 @@ use Rattle.flash.specs.declared.Target.{Target}
 use Rattle.flash.proofs.Kept.{Place, kept-words, place-tells, target-tells}
 use Rattle.flash.proofs.Searches.{found-tells}
 use Rattle.flash.proofs.Statuses.{good-file, first-word}
-use Rattle.group.specs.Kind.{answer}
+use Rattle.group.specs.Kind.{partBy}
 use Rattle.group.specs.Slaves.{above, nextOf}
 use Rattle.group.specs.Fragment.{assembly, taken}
 use Rattle.group.specs.Time.{isLate}
@@ -41,7 +41,7 @@ use Rattle.node.specs.Settings.{statusIn as ownStatus, statusOf as statu
 use Rattle.node.specs.Files.{isErasing, unlessErasing, namedBy, seen, readBy, readAt, readOf, testAt, testOf, loadBy, loadAt, loadOf, isExact, isMissing, placedFor, writeAt, fileWriteOf, joined, foundBy, toErase, eraseAt, eraseStartOf, setTo, attributeBy, attributeAt, attributeSetOf, summaryOf}
 use Rattle.node.specs.Memories.{dataRoom, memoryReadOf, memoryWriteOf, performIoOf}
 use Rattle.node.specs.Own.{settingsOf, memoriesOf, filesOf, onFiles, onMemories, ownOf}
-use Rattle.node.specs.Slaves.{heard, silent, goesOn, hears, askedAt, replyEffect, pollEffect}
+use Rattle.node.specs.Slaves.{heard, silent, goesOn, packetIn, yetToAsk, hears, askedAt, replyEffect, pollEffect}
 use Rattle.node.specs.Calls.{routed}
 use Rattle.node.specs.Route.{routeOf}
 use Rattle.node.specs.declared.Node.{Node}
@@ -347,9 +347,11 @@ pub record Quiet (e : Effect) : Type 0 where
 hears-quiet : (p : Pending) (n : Node) (clock : ℕ) (h : Heard) (words reply : List ℕ) → Quiet (hears p n clock h words reply)
 hears-quiet Pending.Nothing n clock h words reply = record { change = refl; setup = refl; join = refl }
 hears-quiet (Pending.Slave a) n clock h words reply = record { change = refl; setup = refl; join = refl }
-hears-quiet (Pending.Group a g) n clock h words reply = by (nextOf (above (g .set) (a .slave)))
+hears-quiet (Pending.Group a g) n clock h words reply =
+    pick-case Quiet (partBy h (g .received .words) (length words) (g .built .words) (yetToAsk a g))
+    (λ _. record { change = refl; setup = refl; join = refl }) (λ _. by (nextOf (above (g .set) (a .slave))))
   where
-    by : (next : Next) → Quiet (goesOn n a g clock (taken (assembly reply (g .built)) (length (above (g .set) (a .slave))) (a .slave) (answer h words)) next)
+    by : (next : Next) → Quiet (goesOn n a g clock (taken (assembly reply (g .built)) (yetToAsk a g) (a .slave) (packetIn g h words reply)) next)
     by Next.Nobody = record { change = refl; setup = refl; join = refl }
     by (Next.Slave s) = record { change = refl; setup = refl; join = refl }
 

@@ -1,11 +1,12 @@
--- What comes of a slave's answer: 01 'Group assembly'. Assumes nothing.
-use Prim.Native.Nat.{ℕ}
+-- What comes of a slave's answer: 01 'Group assembly', 02, request 8. Assumes nothing.
+use Prim.Native.Nat.{ℕ, _+_}
 use mathlib.Core.Bool.{Bool, true, false, _&&_, not}
 use mathlib.Core.List.{List, []}
 use lib.ListN.{length}
 use Rattle.base.specs.Pick.{pick}
+use Rattle.base.specs.Words.{part, laid}
 use Rattle.group.specs.Time.{isLate}
-use Rattle.group.specs.Kind.{answer}
+use Rattle.group.specs.Kind.{packet, answer, partBy, Answer as SlaveAnswer}
 use Rattle.group.specs.Slaves.{above, nextOf}
 use Rattle.group.specs.Fragment.{Assembly, assembly, taken}
 use Rattle.group.specs.Ending.{Sent, endOf}
@@ -13,6 +14,7 @@ use Rattle.group.specs.Single.{passedOn}
 use Rattle.group.specs.declared.Built.{Built}
 use Rattle.group.specs.declared.Heard.{Heard}
 use Rattle.group.specs.declared.Next.{Next}
+use Rattle.group.specs.declared.Received.{Received}
 use Rattle.node.specs.State.{turn, withPending}
 use Rattle.node.specs.Route.{asking}
 use Rattle.node.specs.Effect.{Effect, effect, only}
@@ -27,8 +29,15 @@ use Rattle.node.specs.declared.Turn.{Turn}
 abbrev pub ask : ℕ → ℕ → ℕ → Ask
 ask link slave at = record { link = link; slave = slave; at = at }
 
-abbrev pub gathering : ℕ → ℕ → Built → Gathering
-gathering set from b = record { set = set; from = from; built = b }
+abbrev pub received : ℕ → ℕ → Received
+received words status = record { words = words; «rx_status» = status }
+
+-- A slave's first packet is awaited.
+abbrev pub nothingReceived : Received
+nothingReceived = received 0 0
+
+abbrev pub gathering : ℕ → ℕ → Built → Received → Gathering
+gathering set from b r = record { set = set; from = from; built = b; received = r }
 
 abbrev pub heard : Bool → Bool → ℕ → ℕ → ℕ → Heard
 heard late errors status address bc = record { late = late; errors = errors; «rx_status» = status; «rx_address» = address; bc = bc }
@@ -44,20 +53,51 @@ sends s = only (Answer.Reply (s .reply)) Pending.Nothing (s .buffer)
 -- The node's turn where the next slave is asked: no lent run has a part in it.
 abbrev pub askedNext : Node → Ask → Gathering → ℕ → Built → ℕ → Turn
 askedNext n a g clock b s =
-    turn (withPending n (Pending.Group (ask (a .link) s clock) (gathering (g .set) (g .from) b))) (Answer.Ask (asking s (g .from)))
+    turn (withPending n (Pending.Group (ask (a .link) s clock) (gathering (g .set) (g .from) b nothingReceived))) (Answer.Ask (asking s (g .from)))
 
 -- After a slave's answer the next slave is asked, at the clock of this call; after the last one's the group ends.
 abbrev pub goesOn : Node → Ask → Gathering → ℕ → Assembly → Next → Effect
 goesOn n a g clock m (Next.Slave s) =
-    only (Answer.Ask (asking s (g .from))) (Pending.Group (ask (a .link) s clock) (gathering (g .set) (g .from) (m .built))) (m .reply)
+    only (Answer.Ask (asking s (g .from))) (Pending.Group (ask (a .link) s clock) (gathering (g .set) (g .from) (m .built) nothingReceived)) (m .reply)
 goesOn n a g clock m Next.Nobody = sends (endOf m (statusIn n))
 
--- The slave's answer taken into the assembly, with those above it yet to ask.
+-- A packet that is heard, behind those before it of the same reply. They stand in the buffer behind the words built, one word further on: where
+-- the fragment has them.
+abbrev pub packetIn : Gathering → Heard → List ℕ → List ℕ → SlaveAnswer
+packetIn g h words reply = packet h words (part reply (g .built .words + 1) (g .received .words)) (g .received .«rx_status»)
+
+-- How many slaves are yet to ask: those above the one that is asked.
+abbrev pub yetToAsk : Ask → Gathering → ℕ
+yetToAsk a g = length (above (g .set) (a .slave))
+
+-- The node's turn where NEXT is sent to the slave that is asked, after a packet of `count` words: it has 60 ticks anew.
+abbrev pub sentNext : Node → Ask → Gathering → ℕ → Heard → ℕ → Turn
+sentNext n a g clock h count =
+    turn
+    (withPending n
+    (Pending.Group (ask (a .link) (a .slave) clock)
+    (gathering (g .set) (g .from) (g .built) (received (g .received .words + count) (h .«rx_status»)))))
+    (Answer.Next (a .slave))
+
+-- A packet that another one follows is stored behind those before it, and NEXT is sent to the slave.
+abbrev pub awaits : Ask → Gathering → ℕ → Heard → List ℕ → List ℕ → Effect
+awaits a g clock h words reply =
+    only (Answer.Next (a .slave))
+    (Pending.Group (ask (a .link) (a .slave) clock)
+    (gathering (g .set) (g .from) (g .built) (received (g .received .words + length words) (h .«rx_status»))))
+    (laid reply (g .built .words + 1 + g .received .words) words)
+
+-- The packet that ends the slave's answer is taken into the assembly.
+abbrev pub gathersLast : Node → Ask → Gathering → ℕ → Heard → List ℕ → List ℕ → Effect
+gathersLast n a g clock h words reply =
+    goesOn n a g clock
+    (taken (assembly reply (g .built)) (yetToAsk a g) (a .slave) (packetIn g h words reply))
+    (nextOf (above (g .set) (a .slave)))
+
 abbrev pub gathers : Node → Ask → Gathering → ℕ → Heard → List ℕ → List ℕ → Effect
 gathers n a g clock h words reply =
-    goesOn n a g clock
-    (taken (assembly reply (g .built)) (length (above (g .set) (a .slave))) (a .slave) (answer h words))
-    (nextOf (above (g .set) (a .slave)))
+    pick (partBy h (g .received .words) (length words) (g .built .words) (yetToAsk a g)) (awaits a g clock h words reply)
+    (gathersLast n a g clock h words reply)
 
 -- A single slave's reply passes unchanged; a group's is assembled.
 abbrev pub hears : Pending → Node → ℕ → Heard → List ℕ → List ℕ → Effect

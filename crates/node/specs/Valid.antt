@@ -1,4 +1,4 @@
--- Which values are states of a node: all others are refused by 5. 01 'Call refusals', row 5, and 02, request 1. Assumes nothing.
+-- Which values are states of a node: all others are refused by 5. 01 'Call refusals', row 5, and 02, requests 1 and 8. Assumes nothing.
 use Prim.Native.Nat.{ℕ, _+_, _*_, _/_}
 use mathlib.Core.Bool.{Bool, true, _&&_, _||_}
 use mathlib.Core.List.{List, [], _∷_}
@@ -42,6 +42,13 @@ erasingOk words (Erasing.Sector p) = isSector (p .sector) && ltb (p .done) (size
 abbrev pub askOk : ℕ → Ask → Bool
 askOk ports a = ltb (a .link) ports && leb (a .slave) 23
 
+-- The words received of a reply in packets have room: w + received + 5k + 2 is at most 12,288. Where none are, no RX status is kept. 02,
+-- request 8.
+abbrev pub receivedOk : ℕ → Gathering → Bool
+receivedOk slave g =
+    leb (g .built .words + g .received .words + 5 * length (above (g .set) slave) + 2) 12288
+    && (ltb 0 (g .received .words) || eqb (g .received .«rx_status») 0)
+
 -- The asked slave is in the asked set, of 24 bits; w + 5(k + 1) + 2 is at most 12,288; the request is sent on from word 1 or 2.
 abbrev pub gatheringOk : ℕ → Gathering → Bool
 gatheringOk slave g =
@@ -49,6 +56,7 @@ gatheringOk slave g =
     && ltb (g .set) 16777216
     && leb (g .built .words + 5 * (length (above (g .set) slave) + 1) + 2) 12288
     && (eqb (g .from) 1 || eqb (g .from) 2)
+    && receivedOk slave g
 
 abbrev pub pendingOk : ℕ → Pending → Bool
 pendingOk ports Pending.Nothing = true

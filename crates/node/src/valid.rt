@@ -1,7 +1,7 @@
 // Whether a value is a state of a node.
 ghost use mathlib.Core.Path.{_≡_};
 ghost use Rattle.group.specs.Slaves.{hasSlave};
-ghost use Rattle.node.specs.Valid.{sizeOk, kindOk, portsOk, givenOk, masksOk, erasingOk, askOk, gatheringOk, pendingOk, writingOk, stateOk};
+ghost use Rattle.node.specs.Valid.{sizeOk, kindOk, portsOk, givenOk, masksOk, erasingOk, askOk, receivedOk, gatheringOk, pendingOk, writingOk, stateOk};
 use crate::Ask;
 use crate::Gathering;
 use crate::Given;
@@ -77,6 +77,20 @@ fn has_slave(set: u32, slave: u32) -> bool
     (set >> slave) % 2 == 1
 }
 
+fn received_ok(slave: u32, gathering: Gathering) -> bool
+    ensures { λ r. ⌜ r ≡ receivedOk slave gathering ⌝ }
+{
+    let built = gathering.built;
+    let received = gathering.received;
+    group::judge::has_room(
+        2,
+        built.words,
+        received.words,
+        group::slaves::slaves_above(gathering.set, slave),
+    )
+        & ((0 < received.words) | (received.rx_status == 0))
+}
+
 fn gathering_ok(slave: u32, gathering: Gathering) -> bool
     ensures { λ r. ⌜ r ≡ gatheringOk slave gathering ⌝ }
 {
@@ -90,6 +104,7 @@ fn gathering_ok(slave: u32, gathering: Gathering) -> bool
             group::slaves::slaves_above(gathering.set, slave),
         )
         & ((gathering.from == 1) | (gathering.from == 2))
+        & received_ok(slave, gathering)
 }
 
 fn pending_ok(ports: u16, pending: Pending) -> bool

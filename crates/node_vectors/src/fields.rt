@@ -1,4 +1,4 @@
-// The node's 96 words, and a node with one field changed.
+// The node's 99 words, and a node with one field changed.
 ghost use mathlib.Core.Path.{_≡_};
 ghost use Prim.Native.Nat.{_≤_, _<_};
 ghost use lib.ListN.{length};
@@ -9,6 +9,7 @@ use crate::reading::low;
 use flash::Erasing;
 use flash::Progress;
 use group::Built;
+use group::Received;
 use group::Tally;
 use group::ZeroLength;
 use group::judge::tally_number;
@@ -21,10 +22,10 @@ use node::Node;
 use node::Pending;
 use node::Writing;
 
-fn room() -> [u16; 96]
-    ensures { λ r. ⌜ length r ≡ 96 ⌝ }
+fn room() -> [u16; 99]
+    ensures { λ r. ⌜ length r ≡ 99 ⌝ }
 {
-    [0; 96]
+    [0; 99]
 }
 
 fn put_word(words: &mut [u16], at: usize, word: u16) {
@@ -97,6 +98,9 @@ fn put_gathering(words: &mut [u16], gathering: Gathering) {
     put_word(words, 88, low(gathering.from));
     put_number(words, 89, small(built.words));
     put_word(words, 91, tally_number(tally));
+    let received = gathering.received;
+    put_number(words, 92, small(received.words));
+    put_word(words, 94, received.rx_status);
 }
 
 fn put_pending(words: &mut [u16], pending: Pending) {
@@ -118,16 +122,16 @@ fn put_writing(words: &mut [u16], writing: Writing) {
     match writing {
         Writing::Nothing => {}
         Writing::File(joining) => {
-            put_word(words, 92, 1);
-            put_word(words, 93, low(joining.link));
-            put_number(words, 94, small(joining.words));
+            put_word(words, 95, 1);
+            put_word(words, 96, low(joining.link));
+            put_number(words, 97, small(joining.words));
         }
     }
 }
 
 // The node's words.
-pub fn words_of(node: Node) -> [u16; 96]
-    ensures { λ r. ⌜ length r ≡ 96 ⌝ }
+pub fn words_of(node: Node) -> [u16; 99]
+    ensures { λ r. ⌜ length r ≡ 99 ⌝ }
 {
     let masks = node.masks;
     let directory = node.directory;
@@ -236,6 +240,10 @@ fn gathering_of(line: &[u16]) -> Gathering {
         set: double(line, 6),
         from: feed::item(line, 8) as u32,
         built,
+        received: Received {
+            words: count(line, 12),
+            rx_status: feed::item(line, 14),
+        },
     }
 }
 

@@ -61,6 +61,10 @@ pub fn say_answer(answer: Answer, buffer: &[u16]) {
         }
         Answer::Reply(sent) => say_reply(sent, buffer),
         Answer::Ask(asking) => say_asking(asking),
+        Answer::Next(slave) => {
+            io::write_all(1, b" next");
+            say_number(slave as u64);
+        }
         Answer::Waiting => {
             io::write_all(1, b" waiting");
         }

@@ -40,5 +40,6 @@ bcIn (Answer.Reply r) = r .bc
 bcIn (Answer.Refused r) = 4
 bcIn Answer.Started = 4
 bcIn (Answer.Ask a) = 4
+bcIn (Answer.Next s) = 4
 bcIn Answer.Waiting = 4
 bcIn (Answer.Erased n) = 4

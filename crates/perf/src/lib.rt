@@ -70,7 +70,7 @@ pub extern "C" fn perf_take(
         rx_address: 0,
         bc: 3,
     };
-    let after = group::fragment::take_answer(reply, before, left, slave, heard, words);
+    let after = group::fragment::take_first(reply, before, left, slave, heard, words);
     after.words
 }
 

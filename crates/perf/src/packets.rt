@@ -92,6 +92,7 @@ fn bc_in(answer: Answer) -> u32
         Answer::Refused(_) => 4,
         Answer::Started => 4,
         Answer::Ask(_) => 4,
+        Answer::Next(_) => 4,
         Answer::Waiting => 4,
         Answer::Erased(_) => 4,
     }

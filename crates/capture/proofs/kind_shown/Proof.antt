@@ -43,7 +43,19 @@ returns-12 : tie.Need-returns-12
 returns-12 c = via shownBy (c .match .keys12) refl
 
 returns-13 : tie.Need-returns-13
-returns-13 c = no _ (ne-eqb _ _ (c .match .rest .0 .0 .0 .0 .0 .0 .0 .0 .0 .0 .0 .1)) (no _ (ne-eqb _ _ (c .match .rest .0 .0 .0 .0 .0 .0 .0 .0 .0 .0 .1)) (no _ (ne-eqb _ _ (c .match .rest .0 .0 .0 .0 .0 .0 .0 .0 .0 .1)) (no _ (ne-eqb _ _ (c .match .rest .0 .0 .0 .0 .0 .0 .0 .0 .1)) (no _ (ne-eqb _ _ (c .match .rest .0 .0 .0 .0 .0 .0 .0 .1)) (no _ (ne-eqb _ _ (c .match .rest .0 .0 .0 .0 .0 .0 .1)) (no _ (ne-eqb _ _ (c .match .rest .0 .0 .0 .0 .0 .1)) (no _ (ne-eqb _ _ (c .match .rest .0 .0 .0 .0 .1)) (no _ (ne-eqb _ _ (c .match .rest .0 .0 .0 .1)) (no _ (ne-eqb _ _ (c .match .rest .0 .0 .1)) (no _ (ne-eqb _ _ (c .match .rest .0 .1)) (no _ (ne-eqb _ _ (c .match .rest .1)) (refl))))))))))))
+returns-13 c = via shownBy (c .match .keys13) refl
+
+returns-14 : tie.Need-returns-14
+returns-14 c = via shownBy (c .match .keys14) refl
+
+returns-15 : tie.Need-returns-15
+returns-15 c = via shownBy (c .match .keys15) refl
+
+returns-16 : tie.Need-returns-16
+returns-16 c = via shownBy (c .match .keys16) refl
+
+returns-17 : tie.Need-returns-17
+returns-17 c = no _ (ne-eqb _ _ (c .match .rest .0 .0 .0 .0 .0 .0 .0 .0 .0 .0 .0 .0 .0 .0 .0 .1)) (no _ (ne-eqb _ _ (c .match .rest .0 .0 .0 .0 .0 .0 .0 .0 .0 .0 .0 .0 .0 .0 .1)) (no _ (ne-eqb _ _ (c .match .rest .0 .0 .0 .0 .0 .0 .0 .0 .0 .0 .0 .0 .0 .1)) (no _ (ne-eqb _ _ (c .match .rest .0 .0 .0 .0 .0 .0 .0 .0 .0 .0 .0 .0 .1)) (no _ (ne-eqb _ _ (c .match .rest .0 .0 .0 .0 .0 .0 .0 .0 .0 .0 .0 .1)) (no _ (ne-eqb _ _ (c .match .rest .0 .0 .0 .0 .0 .0 .0 .0 .0 .0 .1)) (no _ (ne-eqb _ _ (c .match .rest .0 .0 .0 .0 .0 .0 .0 .0 .0 .1)) (no _ (ne-eqb _ _ (c .match .rest .0 .0 .0 .0 .0 .0 .0 .0 .1)) (no _ (ne-eqb _ _ (c .match .rest .0 .0 .0 .0 .0 .0 .0 .1)) (no _ (ne-eqb _ _ (c .match .rest .0 .0 .0 .0 .0 .0 .1)) (no _ (ne-eqb _ _ (c .match .rest .0 .0 .0 .0 .0 .1)) (no _ (ne-eqb _ _ (c .match .rest .0 .0 .0 .0 .1)) (no _ (ne-eqb _ _ (c .match .rest .0 .0 .0 .1)) (no _ (ne-eqb _ _ (c .match .rest .0 .0 .1)) (no _ (ne-eqb _ _ (c .match .rest .0 .1)) (no _ (ne-eqb _ _ (c .match .rest .1)) (refl))))))))))))))))
 
 pub kind-shown-spec : {M : Type 1} → statement M
 kind-shown-spec =
@@ -61,4 +73,8 @@ kind-shown-spec =
     returns-10
     returns-11
     returns-12
-    returns-13)
+    returns-13
+    returns-14
+    returns-15
+    returns-16
+    returns-17)

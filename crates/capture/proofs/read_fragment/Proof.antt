@@ -1,49 +1,43 @@
--- `capture::read_fragment` meets its contract: its tests one after another. Assumes nothing.
-use mathlib.Core.Path.{refl, sym, _∙_}
-use borrow.Author.Tests.{le-leb, not-true, not-false}
+-- `capture::read_fragment` meets its contract, by the three words that it found. Assumes nothing.
+use Prim.Native.Nat.{ℕ, _+_}
+use mathlib.Core.Path.{refl, ap, _∙_}
 use borrow.Author.Needs.{needs}
-use Rattle.base.proofs.Pick.{yes}
-use Rattle.capture.specs.Reader.{readFragment}
-use Rattle.capture.proofs.Steps.{place-below, first-breaks, cut-inside, by-status}
+use lib.ListN.{getD}
+use Rattle.capture.proofs.Found.{fragment-cut, fragment-found}
 use Rattle.capture.proofs.read_fragment.Statement.{statement}
 use Rattle.capture.proofs.read_fragment.Tie as tie
 
 returns : tie.Need-returns
-unfolding readFragment
-returns c = yes _ (le-leb _ _ (c .if1 .taken)) refl
+returns c = let a = c .before .before .args in fragment-cut (a .words .now) _ refl (a .built) (a .s) (a .k) (c .if1 .taken)
 
 word-at-requires : tie.Need-word-at-requires
 word-at-requires c κs = search needs
 
-has-place-requires : tie.Need-has-place-requires
-has-place-requires c κs = search needs
-
-returns-2 : tie.Need-returns-2
-returns-2 c = first-breaks (c .before .before .before .before .before .args .words .now) (c .before .before .before .before .before .args .s) (c .before .before .before .before .before .args .k) (c .before .before .before .before .before .args .built) (c .before .before .before .if1 .left) (c .before .before .word-at .result) (c .before .before .word-at .ensures .0) (sym (c .before .has-place .ensures) ∙ not-true _ (c .if2 .taken))
-
-add-place : tie.Need-add-place
-add-place c = search needs
-
-returns-3 : tie.Need-returns-3
-returns-3 c = cut-inside (c .before .before .before .before .before .before .args .words .now) (c .before .before .before .before .before .before .args .s) (c .before .before .before .before .before .before .args .k) (c .before .before .before .before .before .before .args .built) (c .before .before .before .before .if1 .left) (c .before .before .before .word-at .result) (c .before .before .before .word-at .ensures .0) (sym (c .before .before .has-place .ensures) ∙ not-false _ (c .before .if2 .left)) (c .if3 .taken)
+add-word-at : tie.Need-add-word-at
+add-word-at c = search needs
 
 word-at-requires-2 : tie.Need-word-at-requires-2
 word-at-requires-2 c κs = search needs
 
-kind-shown-requires : tie.Need-kind-shown-requires
-kind-shown-requires c κs = search needs
+wide-requires : tie.Need-wide-requires
+wide-requires c κs = search needs
 
-add-word-at : tie.Need-add-word-at
-add-word-at c = search needs
+add-word-at-2 : tie.Need-add-word-at-2
+add-word-at-2 c = search needs
 
 word-at-requires-3 : tie.Need-word-at-requires-3
 word-at-requires-3 c κs = search needs
 
-read-status-requires : tie.Need-read-status-requires
-read-status-requires c κs = place-below (c .before .before .before .before .before .before .word-at .result) (c .before .before .before .before .before .before .before .before .before .args .built .words) (c .before .before .before .before .before .before .before .before .before .args .k) (sym (c .before .before .before .before .before .has-place .ensures) ∙ not-false _ (c .before .before .before .before .if2 .left))
+judge-fragment-requires : tie.Need-judge-fragment-requires
+judge-fragment-requires c κs = search needs
 
-returns-4 : tie.Need-returns-4
-returns-4 c = (c .read-status .ensures ∙ rw (c .before .before .kind-shown .ensures, c .before .before .before .word-at2 .ensures .0, c .before .word-at3 .ensures .0)) ∙ by-status (c .before .before .before .before .before .before .before .before .before .before .args .words .now) (c .before .before .before .before .before .before .before .before .before .before .args .s) (c .before .before .before .before .before .before .before .before .before .before .args .k) (c .before .before .before .before .before .before .before .before .before .before .args .built) (c .before .before .before .before .before .before .before .before .if1 .left) (c .before .before .before .before .before .before .before .word-at .result) (c .before .before .before .before .before .before .before .word-at .ensures .0) (sym (c .before .before .before .before .before .before .has-place .ensures) ∙ not-false _ (c .before .before .before .before .before .if2 .left)) (c .before .before .before .before .if3 .left)
+returns-2 : tie.Need-returns-2
+returns-2 c =
+    let a = c .before .before .before .before .before .before .before .args in
+    c .judge-fragment .ensures
+    ∙ fragment-found (a .words .now) _ refl (a .built) (a .s) (a .k) (c .before .before .before .before .before .if1 .left)
+    (c .before .before .before .before .word-at .ensures) (c .before .before .before .word-at2 .ensures)
+    (c .before .word-at3 .ensures ∙ ap (λ (x : ℕ). getD (a .words .now) (a .built .words + x) 0) (c .before .before .wide .ensures))
 
 pub read-fragment-spec : {M : Type 1} → statement M
 read-fragment-spec =
@@ -51,13 +45,10 @@ read-fragment-spec =
     (tie.spec
     returns
     word-at-requires
-    has-place-requires
-    returns-2
-    add-place
-    returns-3
-    word-at-requires-2
-    kind-shown-requires
     add-word-at
+    word-at-requires-2
+    wide-requires
+    add-word-at-2
     word-at-requires-3
-    read-status-requires
-    returns-4)
+    judge-fragment-requires
+    returns-2)

@@ -6,7 +6,7 @@ use Rattle.group_vectors.proofs.main.Statement.{statement}
 use Rattle.group_vectors.proofs.main.Tie as tie
 
 abbrev Inv-loop : tie.InvT-loop
-Inv-loop bytes₀ items₀ buffer₀ reply₀ line₀ turns₀ bytes items buffer reply line turns = ((length bytes ≡ 65536) × (length items ≡ 320)) × ((length buffer ≡ 12300) × (length reply ≡ 40000))
+Inv-loop bytes₀ items₀ buffer₀ reply₀ line₀ turns₀ bytes items buffer reply line turns = ((length bytes ≡ 65536) × (length items ≡ 600)) × ((length buffer ≡ 12300) × (length reply ≡ 65536))
 
 abbrev μ-loop : tie.MeasureT-loop
 μ-loop bytes₀ items₀ buffer₀ reply₀ line₀ turns₀ bytes items buffer reply line turns = turns

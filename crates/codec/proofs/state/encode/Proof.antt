@@ -57,14 +57,14 @@ part-store16-end c = search needs
 store16-requires : tie.Need-store16-requires
 store16-requires c κs = let long = directory-long (c .before .before .before .before .before .before .before .before .before .before .before .before .before .before) in omega (arith, length-part (putMid 44 64 (c .before .before .before .before .before .before .before .before .before .before .before .put-numbers .last .1 .0) (c .before .before .before .before .before .store32 .last .1 .0)) 108 64 (after-masks (c .before .before .before .before .before)))
 
-put-writing-requires : tie.Need-put-writing-requires
-put-writing-requires c κs = search needs
+put-tail-requires : tie.Need-put-tail-requires
+put-tail-requires c κs = search needs
 
 same-length : tie.Need-same-length
 same-length c = search needs
 
 returns : tie.Need-returns
-returns c = encoded (c .before .before .before .before .before .before .before .before .before .before .before .before .before .before .before .before .before .before .before .before .before .args .node) (c .before .before .before .before .before .before .before .before .before .before .before .before .before .before .before .before .before .before .before .before .before .args .bytes .now) (c .before .before .before .before .before .before .before .before .before .before .before .before .before .before .before .before .before .before .before .before .before .pre) (masks-long (c .before .before .before .before .before .before .before .before .before .before .before .before .before .before .before .before .before .before .before .before .before)) (directory-long (c .before .before .before .before .before .before .before .before .before .before .before .before .before .before .before .before .before .before .before .before .before)) (c .before .before .before .before .before .before .before .before .before .before .before .before .before .before .before .before .before .before .put-numbers .ensures) (c .before .before .before .before .before .before .before .before .before .before .before .before .store32 .ensures) (c .before .before .before .before .before .before .store16 .ensures) (c .before .before .put-writing .ensures)
+returns c = encoded (c .before .before .before .before .before .before .before .before .before .before .before .before .before .before .before .before .before .before .before .before .before .args .node) (c .before .before .before .before .before .before .before .before .before .before .before .before .before .before .before .before .before .before .before .before .before .args .bytes .now) (c .before .before .before .before .before .before .before .before .before .before .before .before .before .before .before .before .before .before .before .before .before .pre) (masks-long (c .before .before .before .before .before .before .before .before .before .before .before .before .before .before .before .before .before .before .before .before .before)) (directory-long (c .before .before .before .before .before .before .before .before .before .before .before .before .before .before .before .before .before .before .before .before .before)) (c .before .before .before .before .before .before .before .before .before .before .before .before .before .before .before .before .before .before .put-numbers .ensures) (c .before .before .before .before .before .before .before .before .before .before .before .before .store32 .ensures) (c .before .before .before .before .before .before .store16 .ensures) (c .before .before .put-tail .ensures)
 
 pub encode-spec : {M : Type 1} → statement M
 encode-spec =
@@ -81,6 +81,6 @@ encode-spec =
     part-store16-start
     part-store16-end
     store16-requires
-    put-writing-requires
+    put-tail-requires
     same-length
     returns)

@@ -4,7 +4,7 @@ use Rattle.base.proofs.Pick.{yes, no}
 use borrow.Author.Tests.{eq-eqb, ne-eqb}
 use Rattle.group.specs.declared.Tally.{Tally}
 use Rattle.group.specs.Fragment.{built}
-use Rattle.node.specs.Slaves.{ask, gathering}
+use Rattle.node.specs.Slaves.{ask, received, gathering}
 use Rattle.node.specs.declared.Pending.{Pending}
 use borrow.Author.Needs.{needs}
 use Rattle.codec.proofs.state.pending_of.Statement.{statement}
@@ -17,7 +17,7 @@ tally-of-requires : tie.Need-tally-of-requires
 tally-of-requires c κs = search needs
 
 returns-2 : tie.Need-returns-2
-returns-2 c = no _ (ne-eqb _ _ (c .before .before .before .if1 .left)) (yes _ (eq-eqb _ _ (c .before .if2 .taken)) (ap (λ (t : Tally). Pending.Group (ask (c .before .before .before .before .before .args .wait .link) (c .before .before .before .before .before .args .wait .slave) (c .before .before .before .before .before .args .wait .at)) (gathering (c .before .before .before .before .before .args .wait .set) (c .before .before .before .before .before .args .wait .from) (built (c .before .before .before .before .before .args .wait .words) t))) (c .tally-of .ensures)))
+returns-2 c = no _ (ne-eqb _ _ (c .before .before .before .if1 .left)) (yes _ (eq-eqb _ _ (c .before .if2 .taken)) (ap (λ (t : Tally). Pending.Group (ask (c .before .before .before .before .before .args .wait .link) (c .before .before .before .before .before .args .wait .slave) (c .before .before .before .before .before .args .wait .at)) (gathering (c .before .before .before .before .before .args .wait .set) (c .before .before .before .before .before .args .wait .from) (built (c .before .before .before .before .before .args .wait .words) t) (received (c .before .before .before .before .before .args .wait .received) (c .before .before .before .before .before .args .wait .«rx_status»)))) (c .tally-of .ensures)))
 
 returns-3 : tie.Need-returns-3
 returns-3 c = no _ (ne-eqb _ _ (c .before .before .if1 .left)) (no _ (ne-eqb _ _ (c .if2 .left)) refl)

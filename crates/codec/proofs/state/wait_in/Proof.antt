@@ -45,8 +45,17 @@ word32-requires-3 c κs = search needs
 cast-t15 : tie.Need-cast-t15
 cast-t15 c = search needs
 
+word32-requires-4 : tie.Need-word32-requires-4
+word32-requires-4 c κs = search needs
+
+cast-t17 : tie.Need-cast-t17
+cast-t17 c = search needs
+
+word16-requires : tie.Need-word16-requires
+word16-requires c κs = search needs
+
 returns : tie.Need-returns
-returns c = λ i. record { pending = (c .before .before .before .before .before .before .before .byte .ensures) i; link = (c .before .before .before .before .before .before .byte2 .ensures) i; slave = (c .before .before .before .before .before .byte3 .ensures) i; from = (c .before .before .before .before .byte4 .ensures) i; tally = (c .before .before .before .byte5 .ensures) i; set = (c .before .before .word32 .ensures) i; at = (c .before .word322 .ensures) i; words = (c .word323 .ensures) i }
+returns c = λ i. record { pending = (c .before .before .before .before .before .before .before .before .before .byte .ensures) i; link = (c .before .before .before .before .before .before .before .before .byte2 .ensures) i; slave = (c .before .before .before .before .before .before .before .byte3 .ensures) i; from = (c .before .before .before .before .before .before .byte4 .ensures) i; tally = (c .before .before .before .before .before .byte5 .ensures) i; set = (c .before .before .before .before .word32 .ensures) i; at = (c .before .before .before .word322 .ensures) i; words = (c .before .before .word323 .ensures) i; received = (c .before .word324 .ensures) i; «rx_status» = (c .word16 .ensures) i }
 
 pub wait-in-spec : {M : Type 1} → statement M
 wait-in-spec =
@@ -66,4 +75,7 @@ wait-in-spec =
     word32-requires-2
     word32-requires-3
     cast-t15
+    word32-requires-4
+    cast-t17
+    word16-requires
     returns)

@@ -26,7 +26,7 @@ returns-2 : tie.Need-returns-2
 returns-2 c = via waitOf (c .before .pending .given .1) refl
 
 returns-3 : tie.Need-returns-3
-returns-3 c = via waitOf (c .before .before .before .pending2 .given .1) (ap (λ (t : ℕ). wait 2 (c .before .before .before .pending2 .given .0 .0 .link) (c .before .before .before .pending2 .given .0 .0 .slave) (c .before .before .before .pending2 .given .0 .1 .0 .from) t (c .before .before .before .pending2 .given .0 .1 .0 .set) (c .before .before .before .pending2 .given .0 .0 .at) (c .before .before .before .pending2 .given .0 .1 .0 .built .words)) (c .tally-number .ensures))
+returns-3 c = via waitOf (c .before .before .before .before .pending2 .given .1) (ap (λ (t : ℕ). wait 2 (c .before .before .before .before .pending2 .given .0 .0 .link) (c .before .before .before .before .pending2 .given .0 .0 .slave) (c .before .before .before .before .pending2 .given .0 .1 .0 .from) t (c .before .before .before .before .pending2 .given .0 .1 .0 .set) (c .before .before .before .before .pending2 .given .0 .0 .at) (c .before .before .before .before .pending2 .given .0 .1 .0 .built .words) (c .before .before .before .before .pending2 .given .0 .1 .0 .received .words) (c .before .before .before .before .pending2 .given .0 .1 .0 .received .«rx_status»)) (c .tally-number .ensures))
 
 pub wait-of-spec : {M : Type 1} → statement M
 wait-of-spec =

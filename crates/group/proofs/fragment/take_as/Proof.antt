@@ -1,13 +1,15 @@
 -- `group::fragment::take_as` meets its contract: in each arm of the match, the data laid is that of the kind. Assumes nothing.
 use Prim.Native.Nat.{ℕ, min, _-_}
 use mathlib.Core.Path.{_≡_, refl, sym, ap, _∙_}
+use mathlib.Core.Bool.{false}
 use mathlib.Core.List.{List, _∷_, []}
 use native.Mathlib.Omega.{arith}
 use native.Mathlib.Nat.{sub-zero}
 use borrow.Author.Needs.{needs}
 use lib.ListN.{length, take, getD, length-take}
 use Rattle.group.specs.Kind.{Answer, answer, datOf}
-use Rattle.group.specs.Fragment.{dataOf, framed, Assembly, assembly, behind, takenAs}
+use Rattle.base.proofs.Pick.{no}
+use Rattle.group.specs.Fragment.{receivedOf, rxOf, dataOf, framed, Assembly, assembly, behind, takenAs}
 use Rattle.group.specs.declared.Kind.{Kind}
 use Rattle.group.proofs.Behind.{taken-kind}
 use Rattle.group.proofs.fragment.take_as.Statement.{statement}
@@ -37,10 +39,14 @@ by c kind ws e f =
     taken-kind (held c) (start c .args .slave) (said c) (start c .args .kind) (c .before .tallied .result) (c .status-of .result) ws
     (c .before .tallied .ensures) (c .status-of .ensures) (f ∙ sym (ap (λ (k : Kind). dataOf k (said c)) e))
 
--- the data of a fault, with the length as a word, and that of a whole reply, from its first word on
-few : (c : tie.After-status-of) (n : ℕ) → n ≡ min (length (said c .words)) 65535
-    → said c .heard .«rx_status» ∷ n ∷ getD (said c .words) 0 0 ∷ [] ≡ said c .heard .«rx_status» ∷ min (length (said c .words)) 65535 ∷ getD (said c .words) 0 0 ∷ []
-few c n e = ap (λ (x : ℕ). said c .heard .«rx_status» ∷ x ∷ getD (said c .words) 0 0 ∷ []) e
+-- the data of a fault, which came in time, with the length as a word; and that of a whole reply, from its first word on
+few : (c : tie.After-status-of) (n : ℕ) → said c .heard .late ≡ false → n ≡ min (length (said c .words)) 65535
+    → said c .heard .«rx_status» ∷ n ∷ getD (said c .words) 0 0 ∷ [] ≡ rxOf (said c) ∷ min (length (receivedOf (said c))) 65535 ∷ getD (receivedOf (said c)) 0 0 ∷ []
+few c n timely e =
+    let rx : said c .heard .«rx_status» ≡ rxOf (said c) = no 0 timely refl in
+    let got : said c .words ≡ receivedOf (said c) = no [] timely refl in
+    ap (λ (x : ℕ). said c .heard .«rx_status» ∷ x ∷ getD (said c .words) 0 0 ∷ []) e
+    ∙ (λ i. rx i ∷ min (length (got i)) 65535 ∷ getD (got i) 0 0 ∷ [])
 
 cut : (c : tie.After-status-of) → take (length (said c .words) - 2 - 0) (said c .words) ≡ dataOf Kind.Whole (said c)
 cut c = ap (λ (n : ℕ). take n (said c .words)) (sub-zero (length (said c .words) - 2))
@@ -91,7 +97,7 @@ counted-requires : tie.Need-counted-requires
 counted-requires c κs = search needs
 
 shared-slice-read-t32 : tie.Need-shared-slice-read-t32
-shared-slice-read-t32 c = c .before .before .before .before .before .before .before .before .pre .0 (ap datOf (c .before .before .enum-told4 .given .1))
+shared-slice-read-t32 c = c .before .before .before .before .before .before .before .before .pre .0 (ap datOf (c .before .before .enum-told4 .given .1)) .0
 
 slice-aggregate-lay-2 : tie.Need-slice-aggregate-lay-2
 slice-aggregate-lay-2 c = search needs
@@ -142,7 +148,7 @@ returns-4 : tie.Need-returns-4
 returns-4 c =
     c .before .before .lay4 .ensures
     ∙ by (c .before .before .before .before .before .before .before .before .before) _ _ (c .before .before .before .before .before .before .before .enum-told4 .given .1)
-    (few (c .before .before .before .before .before .before .before .before .before) _ (c .before .before .before .before .before .before .counted .ensures))
+    (few (c .before .before .before .before .before .before .before .before .before) _ (start (c .before .before .before .before .before .before .before .before .before) .pre .0 (ap datOf (c .before .before .before .before .before .before .before .enum-told4 .given .1)) .1) (c .before .before .before .before .before .before .counted .ensures))
 
 same-length-5 : tie.Need-same-length-5
 same-length-5 c = search needs

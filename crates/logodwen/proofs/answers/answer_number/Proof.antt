@@ -1,4 +1,4 @@
--- `logodwen::calls::answer_number` meets its contract. Assumes nothing.
+-- `logodwen::answers::answer_number` meets its contract: by the case of the answer. Assumes nothing.
 use Rattle.base.proofs.Pick.{via}
 use Rattle.logodwen.specs.Number.{answerNumber}
 use borrow.Author.Needs.{needs}
@@ -38,17 +38,26 @@ cast-done-3 c = search needs
 done-requires-2 : tie.Need-done-requires-2
 done-requires-2 c κs = search needs
 
-enum-told-2 : tie.Need-enum-told-2
-enum-told-2 c = search needs
+enum-known-answer-4 : tie.Need-enum-known-answer-4
+enum-known-answer-4 c = search needs
+
+cast-done-4 : tie.Need-cast-done-4
+cast-done-4 c = search needs
 
 done-requires-3 : tie.Need-done-requires-3
 done-requires-3 c κs = search needs
 
-enum-known-answer-4 : tie.Need-enum-known-answer-4
-enum-known-answer-4 c = search needs
+enum-told-2 : tie.Need-enum-told-2
+enum-told-2 c = search needs
 
 done-requires-4 : tie.Need-done-requires-4
 done-requires-4 c κs = search needs
+
+enum-known-answer-5 : tie.Need-enum-known-answer-5
+enum-known-answer-5 c = search needs
+
+done-requires-5 : tie.Need-done-requires-5
+done-requires-5 c κs = search needs
 
 returns : tie.Need-returns
 returns c = search needs
@@ -63,10 +72,13 @@ returns-4 : tie.Need-returns-4
 returns-4 c = via answerNumber (c .before .before .before .before .answer3 .given .1) (c .done2 .ensures)
 
 returns-5 : tie.Need-returns-5
-returns-5 c = search needs
+returns-5 c = via answerNumber (c .before .before .answer4 .given .1) (c .done3 .ensures)
 
 returns-6 : tie.Need-returns-6
-returns-6 c = via answerNumber (c .before .before .answer4 .given .1) (c .done4 .ensures)
+returns-6 c = search needs
+
+returns-7 : tie.Need-returns-7
+returns-7 c = via answerNumber (c .before .before .answer5 .given .1) (c .done5 .ensures)
 
 pub answer-number-spec : {M : Type 1} → statement M
 answer-number-spec =
@@ -83,13 +95,17 @@ answer-number-spec =
     cast-done-2
     cast-done-3
     done-requires-2
-    enum-told-2
-    done-requires-3
     enum-known-answer-4
+    cast-done-4
+    done-requires-3
+    enum-told-2
     done-requires-4
+    enum-known-answer-5
+    done-requires-5
     returns
     returns-2
     returns-3
     returns-4
     returns-5
-    returns-6)
+    returns-6
+    returns-7)

@@ -1,62 +1,115 @@
--- `logodwen::captured::read_bytes` meets its contract: of a run longer than any reply the first words say all. Assumes nothing.
-use Prim.Native.Nat.{_≤_}
-use mathlib.Core.Path.{_≡_, sym, ap, _∙_}
-use native.Mathlib.Omega.{arith}
-use lib.ListN.{length, take}
-use lib.Seq.{length-take-le}
-use Rattle.capture.specs.Reader.{readOf}
-use Rattle.capture.proofs.Local.{first-words}
-use Rattle.codec.specs.Bytes.{wordsOf}
-use Rattle.codec.proofs.Runs.{words-front}
+-- `logodwen::captured::read_bytes` meets its contract. The loop's invariant: the slaves of the mask are read as those from here on, behind what has been read. The measure is what is left of 24. Assumes nothing.
+use Prim.Native.Nat.{_-_}
+use mathlib.Core.Path.{_≡_, refl, sym, _∙_}
 use borrow.Author.Needs.{needs}
+use borrow.Author.Tests.{not-true, not-false}
+use Rattle.base.proofs.Pick.{yes, no}
+use Rattle.group.specs.Slaves.{slavesUp, slavesOf}
+use Rattle.group.specs.Fragment.{built}
+use Rattle.group.specs.declared.Tally.{Tally}
+use Rattle.capture.specs.Reader.{readFrom, readOf}
+use Rattle.capture.proofs.Steps.{slave-none, slave-read, slaves-over}
+use Rattle.codec.specs.Bytes.{wordsOf}
 use Rattle.logodwen.proofs.captured.read_bytes.Statement.{statement}
 use Rattle.logodwen.proofs.captured.read_bytes.Tie as tie
 
--- the first 12,289 words of a run that is longer
-front : (s : tie.Start) → 24578 ≤ length (s .args .bytes .now) → length (take 24578 (s .args .bytes .now)) ≡ 24578
-front s long = length-take-le 24578 (s .args .bytes .now) long
+abbrev Inv-loop : tie.InvT-loop
+Inv-loop mask bytes built₀ s₀ b s = readFrom (slavesOf mask) (wordsOf 2 bytes) (built 0 Tally.Nothing) ≡ readFrom (slavesUp mask s) (wordsOf 2 bytes) b
 
-read-64-requires : tie.Need-read-64-requires
-read-64-requires c κs = search needs
+abbrev μ-loop : tie.MeasureT-loop
+μ-loop mask bytes built₀ s₀ b s = 24 - s
 
-returns : tie.Need-returns
-returns c = search needs
+is-mask-requires : tie.Need-is-mask-requires Inv-loop μ-loop
+is-mask-requires c κs = search needs
 
-read-1024-requires : tie.Need-read-1024-requires
-read-1024-requires c κs = search needs
+returns : tie.Need-returns Inv-loop μ-loop
+unfolding readOf
+returns c = no _ (sym (c .before .is-mask .ensures) ∙ not-true _ (c .if1 .taken)) refl
 
-returns-2 : tie.Need-returns-2
-returns-2 c = search needs
+loop-holds : tie.Need-loop-holds Inv-loop μ-loop
+loop-holds c = refl
 
-read-12289-requires : tie.Need-read-12289-requires
-read-12289-requires c κs = search needs
+add-s : tie.Need-add-s Inv-loop μ-loop
+add-s c = search needs
 
-returns-3 : tie.Need-returns-3
-returns-3 c = search needs
+bit-requires : tie.Need-bit-requires Inv-loop μ-loop
+bit-requires c κs = search needs
 
-slice-aggregate-read-12289 : tie.Need-slice-aggregate-read-12289
-slice-aggregate-read-12289 c = sym (front (c .before .before .before .before .before) (omega (arith, c .before .if3 .left)))
+loop-less : tie.Need-loop-less Inv-loop μ-loop
+loop-less c = search needs
 
-read-12289-requires-2 : tie.Need-read-12289-requires-2
-read-12289-requires-2 c κs = omega (arith, front (c .before .before .before .before .before) (omega (arith, c .before .if3 .left)))
+loop-again : tie.Need-loop-again Inv-loop μ-loop
+loop-again c =
+    let a = c .before .before .before .before .before .before .before .args in
+    let l = c .before .before .before .loop in
+    l .inv ∙ slave-none (wordsOf 2 (a .bytes .now)) (a .mask) (l .s) (l .built) (c .before .before .loop-test .taken) (c .before .bit .result) (c .before .bit .ensures) (c .if2 .taken)
 
-returns-4 : tie.Need-returns-4
-returns-4 c =
+slaves-above-requires : tie.Need-slaves-above-requires Inv-loop μ-loop
+slaves-above-requires c κs = search needs
+
+read-fragment-requires : tie.Need-read-fragment-requires Inv-loop μ-loop
+read-fragment-requires c κs = search needs
+
+enum-known-next : tie.Need-enum-known-next Inv-loop μ-loop
+enum-known-next c = search needs
+
+loop-less-2 : tie.Need-loop-less-2 Inv-loop μ-loop
+loop-less-2 c = search needs
+
+loop-again-2 : tie.Need-loop-again-2 Inv-loop μ-loop
+loop-again-2 c =
+    let a = c .before .before .before .before .before .before .before .before .before .before .before .before .args in
+    let l = c .before .before .before .before .before .before .before .before .loop in
+    l .inv
+    ∙ slave-read (wordsOf 2 (a .bytes .now)) (a .mask) (l .s) (l .built) (c .before .before .before .before .before .before .before .loop-test .taken)
+    (c .before .before .before .before .before .before .bit .result) (c .before .before .before .before .before .before .bit .ensures) (c .before .before .before .before .before .if2 .left)
+    (sym (c .before .before .before .read-fragment .ensures ∙ rw (c .before .before .before .before .slaves-above .ensures)) ∙ c .before .next .given .1)
+
+enum-known-i : tie.Need-enum-known-i Inv-loop μ-loop
+enum-known-i c = search needs
+
+returns-2 : tie.Need-returns-2 Inv-loop μ-loop
+unfolding readOf
+returns-2 c =
+    let a = c .before .before .before .before .before .before .before .before .before .before .before .before .args in
+    let l = c .before .before .before .before .before .before .before .before .loop in
+    yes _ (sym (c .before .before .before .before .before .before .before .before .before .before .is-mask .ensures) ∙ not-false _ (c .before .before .before .before .before .before .before .before .before .if1 .left))
+    (sym
+    (l .inv
+    ∙ slave-read (wordsOf 2 (a .bytes .now)) (a .mask) (l .s) (l .built) (c .before .before .before .before .before .before .before .loop-test .taken)
+    (c .before .before .before .before .before .before .bit .result) (c .before .before .before .before .before .before .bit .ensures) (c .before .before .before .before .before .if2 .left)
+    (sym (c .before .before .before .read-fragment .ensures ∙ rw (c .before .before .before .before .slaves-above .ensures)) ∙ c .before .i .given .1)))
+
+read-end-requires : tie.Need-read-end-requires Inv-loop μ-loop
+read-end-requires c κs = search needs
+
+returns-3 : tie.Need-returns-3 Inv-loop μ-loop
+unfolding readOf
+returns-3 c =
     let a = c .before .before .before .before .before .before .args in
-    c .read-122892 .ensures
-    ∙ ap (readOf (a .mask)) (words-front 12289 (a .bytes .now) (omega (arith, c .before .before .if3 .left)))
-    ∙ first-words (a .mask) (wordsOf 2 (a .bytes .now))
+    let l = c .before .before .loop in
+    yes _ (sym (c .before .before .before .before .is-mask .ensures) ∙ not-false _ (c .before .before .before .if1 .left))
+    (c .read-end .ensures ∙ sym (l .inv ∙ slaves-over (wordsOf 2 (a .bytes .now)) (a .mask) (l .s) (l .built) (c .before .loop-test .left)))
 
 pub read-bytes-spec : {M : Type 1} → statement M
 read-bytes-spec =
     tie.close
     (tie.spec
-    read-64-requires
+    Inv-loop
+    μ-loop
+    is-mask-requires
     returns
-    read-1024-requires
+    loop-holds
+    add-s
+    bit-requires
+    loop-less
+    loop-again
+    slaves-above-requires
+    read-fragment-requires
+    enum-known-next
+    loop-less-2
+    loop-again-2
+    enum-known-i
     returns-2
-    read-12289-requires
-    returns-3
-    slice-aggregate-read-12289
-    read-12289-requires-2
-    returns-4)
+    read-end-requires
+    returns-3)

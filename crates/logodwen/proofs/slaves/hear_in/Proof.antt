@@ -1,5 +1,9 @@
 -- `logodwen::slaves::hear_in` meets its contract, by what is pending. Assumes nothing.
-use mathlib.Core.Path.{_≡_, ap}
+use mathlib.Core.Path.{_≡_, ap, subst}
+use mathlib.Core.Bool.{true}
+use Rattle.node.specs.Valid.{pendingOk}
+use Rattle.node.proofs.Hearing.{sends-told}
+use Rattle.node.proofs.Ranges.{pending-received}
 use native.Mathlib.Omega.{arith}
 use lib.ListN.{length}
 use Rattle.base.proofs.Pick.{via}
@@ -9,7 +13,6 @@ use Rattle.node.specs.Slaves.{hears}
 use Rattle.node.specs.Calls.{lentReply}
 use Rattle.node.specs.declared.Answer.{Answer}
 use Rattle.node.specs.declared.Pending.{Pending}
-use Rattle.node.proofs.Hearing.{sends-told, gathers-told}
 use Rattle.logodwen.specs.Held.{bufferWords}
 use Rattle.logodwen.proofs.Held.{rest-none, rest-then}
 use borrow.Author.Needs.{needs}
@@ -37,17 +40,11 @@ send-requires c κs = search needs
 enum-known-pending : tie.Need-enum-known-pending
 enum-known-pending c = search needs
 
-slaves-above-requires : tie.Need-slaves-above-requires
-slaves-above-requires c κs = search needs
-
-next-slave-requires : tie.Need-next-slave-requires
-next-slave-requires c κs = search needs
-
-take-in-requires : tie.Need-take-in-requires
-take-in-requires c κs = search needs
-
-go-on-in-requires : tie.Need-go-on-in-requires
-go-on-in-requires c κs = omega (arith, c .before .before .before .before .before .take-in .ensures .1 .size, c .before .before .before .before .before .before .before .before .before .before .before .before .before .before .before .before .before .pre .0)
+gather-in-requires : tie.Need-gather-in-requires
+gather-in-requires c κs = let s = (c .before .before .before .before .before .before .before .before) in
+    let a = s .args in
+    let ok = subst (λ (p : Pending). pendingOk (a .node .given .ports) p ≡ true) (c .before .before .before .pending .given .1) (s .pre .1) in
+    (s .pre .0, pending-received (a .node .given .ports) (c .before .before .before .pending .given .0 .0) (c .before .before .before .pending .given .0 .1 .0) ok)
 
 returns : tie.Need-returns
 returns c = let b = c .before .before .before .before .before .args .reply .now in (
@@ -70,11 +67,7 @@ same-length-3 : tie.Need-same-length-3
 same-length-3 c = search needs
 
 returns-3 : tie.Need-returns-3
-returns-3 c = let a = c .before .before .before .before .before .before .before .before .before .before .before .before .before .before .before .before .before .before .before .before .args in (
-  via (owed (c .before .before .before .before .before .before .before .before .before .before .before .before .before .before .before .before .before .before .before .before)) (c .before .before .before .before .before .before .before .before .before .before .before .before .before .before .before .pending .given .1)
-      (gathers-told (a .node) _ _ (a .clock) (a .heard) (a .words .now) (bufferWords (a .reply .now)) (c .before .before .go-on-in .ensures .0) (c .before .before .before .before .before .before .before .before .take-in .ensures .0) (c .before .before .before .before .before .before .before .before .before .before .before .before .before .slaves-above .ensures) (c .before .before .before .before .before .before .before .before .before .before .before .before .next-slave .ensures)),
-  rest-then 2 12288 (c .before .before .before .before .before .before .before .before .take-in .ensures .1) (c .before .before .go-on-in .ensures .1),
-)
+returns-3 c = let s = (c .before .before .before .before .before .before .before .before .before .before .before .before .before) in (via (owed s) (c .before .before .before .before .before .before .before .before .pending .given .1) (c .before .before .before .before .gather-in .ensures .0), c .before .before .before .before .gather-in .ensures .1)
 
 pub hear-in-spec : {M : Type 1} → statement M
 hear-in-spec =
@@ -85,10 +78,7 @@ hear-in-spec =
     pass-in-requires
     send-requires
     enum-known-pending
-    slaves-above-requires
-    next-slave-requires
-    take-in-requires
-    go-on-in-requires
+    gather-in-requires
     returns
     same-length
     returns-2

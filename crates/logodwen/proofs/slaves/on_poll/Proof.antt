@@ -1,4 +1,6 @@
 -- `logodwen::slaves::on_poll` meets its contract, by whether the slave is late. Assumes nothing.
+use Rattle.node.proofs.Verdicts.{poll-fine}
+use Rattle.node.proofs.Ranges.{ranges-tell}
 use Prim.Native.Nat.{ℕ}
 use mathlib.Core.Path.{_≡_, sym, ap, _∙_}
 use mathlib.Core.List.{List}
@@ -29,7 +31,8 @@ is-late-requires : tie.Need-is-late-requires
 is-late-requires c κs = search needs
 
 poll-taken-requires : tie.Need-poll-taken-requires
-poll-taken-requires c κs = search needs
+poll-taken-requires c κs = let s = (c .before .before .before .before .before) in
+    (s .pre .0, ranges-tell (s .args .node) (poll-fine (s .args .node) 12288 (s .pre .1) .state) .pending)
 
 same-length : tie.Need-same-length
 same-length c = search needs

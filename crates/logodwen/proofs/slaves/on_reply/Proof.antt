@@ -1,4 +1,6 @@
 -- `logodwen::slaves::on_reply` meets its contract: it is not refused. Assumes nothing.
+use Rattle.node.proofs.Verdicts.{reply-fine}
+use Rattle.node.proofs.Ranges.{ranges-tell}
 use Prim.Native.Nat.{ℕ}
 use mathlib.Core.List.{List}
 use native.Mathlib.Omega.{arith}
@@ -21,7 +23,8 @@ abbrev does : tie.Start → List ℕ → Effect
 does s reply = replyEffect (s .args .node) (s .args .clock) (s .args .errors) (s .args .status) (s .args .address) (s .args .bc) (wordsOf 2 (s .args .packet .now)) reply
 
 reply-taken-requires : tie.Need-reply-taken-requires
-reply-taken-requires c κs = search needs
+reply-taken-requires c κs = let s = (c .before .before .before) in
+    (s .pre .0, ranges-tell (s .args .node) (reply-fine (s .args .node) (s .args .slave) 12288 (s .pre .1) .state) .pending)
 
 same-length : tie.Need-same-length
 same-length c = search needs

@@ -14,7 +14,9 @@ slice-aggregate-hear-in-2 : tie.Need-slice-aggregate-hear-in-2
 slice-aggregate-hear-in-2 c = search needs
 
 hear-in-requires : tie.Need-hear-in-requires
-hear-in-requires c κs = (c .before .before .before .before .before .pre, omega (arith, c .before .before .before .room-5 .ensures), λ short. omega arith)
+hear-in-requires c κs =
+    let s = c .before .before .before .before .before in
+    ((s .pre .0, omega (arith, c .before .before .before .room-5 .ensures), λ short. omega arith), s .pre .1)
 
 same-length : tie.Need-same-length
 same-length c = search needs

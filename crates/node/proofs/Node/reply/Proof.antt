@@ -1,4 +1,7 @@
 -- `node::Node::reply` meets its contract: refused, or taken. Assumes nothing.
+use lib.ListN.{length}
+use Rattle.node.proofs.Verdicts.{reply-fine}
+use Rattle.node.proofs.Ranges.{ranges-tell}
 use mathlib.Core.Path.{sym, ap, _∙_}
 use Rattle.base.proofs.Pick.{via}
 use Rattle.node.specs.Effect.{Lent, outcome}
@@ -17,7 +20,9 @@ enum-told : tie.Need-enum-told
 enum-told c = search needs
 
 take-reply-requires : tie.Need-take-reply-requires
-take-reply-requires c κs = search needs
+take-reply-requires c κs = let a = (c .before .before .before .before .before .before) .args in
+    let fine = reply-fine (a .self) (a .slave) (length (a .reply .now)) (sym (c .before .before .before .reply-verdict .ensures) ∙ c .before .enum-told .given .1) in
+    (fine .buffer, ranges-tell (a .self) (fine .state) .pending)
 
 enum-known-verdict : tie.Need-enum-known-verdict
 enum-known-verdict c = search needs

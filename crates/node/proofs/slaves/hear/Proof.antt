@@ -1,13 +1,16 @@
 -- `node::slaves::hear` meets its contract, by what is pending. Assumes nothing.
-use mathlib.Core.Path.{ap}
+use mathlib.Core.Path.{_≡_, ap, subst}
+use mathlib.Core.Bool.{true}
 use Rattle.base.proofs.Pick.{via}
+use Rattle.node.specs.Valid.{pendingOk}
+use Rattle.node.proofs.Hearing.{sends-told}
+use Rattle.node.proofs.Ranges.{pending-received}
 use Rattle.node.specs.State.{turn, withPending}
 use Rattle.node.specs.Effect.{Outcome, outcome, applied}
 use Rattle.node.specs.Slaves.{hears}
 use Rattle.node.specs.Calls.{lentReply}
 use Rattle.node.specs.declared.Answer.{Answer}
 use Rattle.node.specs.declared.Pending.{Pending}
-use Rattle.node.proofs.Hearing.{sends-told, gathers-told}
 use borrow.Author.Needs.{needs}
 use Rattle.node.proofs.slaves.hear.Statement.{statement}
 use Rattle.node.proofs.slaves.hear.Tie as tie
@@ -33,17 +36,11 @@ send-requires c κs = search needs
 enum-known-pending : tie.Need-enum-known-pending
 enum-known-pending c = search needs
 
-slaves-above-requires : tie.Need-slaves-above-requires
-slaves-above-requires c κs = search needs
-
-next-slave-requires : tie.Need-next-slave-requires
-next-slave-requires c κs = search needs
-
-take-answer-requires : tie.Need-take-answer-requires
-take-answer-requires c κs = search needs
-
-go-on-requires : tie.Need-go-on-requires
-go-on-requires c κs = search needs
+gather-requires : tie.Need-gather-requires
+gather-requires c κs = let s = (c .before .before .before .before .before .before) in
+    let a = s .args in
+    let ok = subst (λ (p : Pending). pendingOk (a .node .given .ports) p ≡ true) (c .before .before .pending .given .1) (s .pre .1) in
+    (s .pre .0, pending-received (a .node .given .ports) (c .before .before .pending .given .0 .0) (c .before .before .pending .given .0 .1 .0) ok)
 
 returns : tie.Need-returns
 returns c =
@@ -63,10 +60,7 @@ same-length-2 : tie.Need-same-length-2
 same-length-2 c = search needs
 
 returns-3 : tie.Need-returns-3
-returns-3 c =
-    let s = c .before .before .before .before .before .before .before .before .before .before .before .before .before .before .before .before in
-    via (owed s) (c .before .before .before .before .before .before .before .before .before .before .before .before .pending .given .1)
-    (gathers-told (s .args .node) _ _ (s .args .clock) (s .args .heard) (s .args .words .now) (s .args .reply .now) (c .before .before .go-on .ensures) (c .before .before .before .before .before .before .take-answer .ensures) (c .before .before .before .before .before .before .before .before .before .before .slaves-above .ensures) (c .before .before .before .before .before .before .before .before .before .next-slave .ensures))
+returns-3 c = let s = (c .before .before .before .before .before .before .before .before .before) in via (owed s) (c .before .before .before .before .before .pending .given .1) (c .before .before .gather .ensures)
 
 pub hear-spec : {M : Type 1} → statement M
 hear-spec =
@@ -77,10 +71,7 @@ hear-spec =
     pass-on-requires
     send-requires
     enum-known-pending
-    slaves-above-requires
-    next-slave-requires
-    take-answer-requires
-    go-on-requires
+    gather-requires
     returns
     same-length
     returns-2

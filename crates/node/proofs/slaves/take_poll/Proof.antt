@@ -29,7 +29,7 @@ slice-aggregate-hear : tie.Need-slice-aggregate-hear
 slice-aggregate-hear c = search needs
 
 hear-requires : tie.Need-hear-requires
-hear-requires c κs = search needs
+hear-requires c κs = (c .before .before .before .before .before .before) .pre
 
 same-length : tie.Need-same-length
 same-length c = search needs

@@ -1,4 +1,6 @@
 -- `node::slaves::take_reply` meets its contract: the count of errors decides nothing of what is done. Assumes nothing.
+use Rattle.node.specs.Valid.{pendingOk}
+use Rattle.node.specs.declared.Node.{Node}
 use mathlib.Core.Path.{sym, ap, _∙_}
 use mathlib.Core.Bool.{Bool}
 use Rattle.base.proofs.Pick.{via}
@@ -32,7 +34,8 @@ count-error-requires : tie.Need-count-error-requires
 count-error-requires c κs = search needs
 
 hear-requires : tie.Need-hear-requires
-hear-requires c κs = search needs
+hear-requires c κs = let s = (c .before .before .before .before .before .before) in
+    (s .pre .0, ap (λ (n : Node). pendingOk (n .given .ports) (n .pending)) (c .before .count-error .ensures) ∙ s .pre .1)
 
 same-length : tie.Need-same-length
 same-length c = search needs
