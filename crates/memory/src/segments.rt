@@ -31,7 +31,7 @@ pub(crate) fn header_fits(len: usize, memory: Memory, first: u16, second: u16) -
 }
 
 // Whether the words are one valid segment and no more.
-pub(crate) fn is_segment(segment: &[u16]) -> bool
+pub fn is_segment(segment: &[u16]) -> bool
     ensures { λ r. ⌜ r ≡ isSegment (now (segment .entry)) ⌝ }
 {
     let end = image::segment_end(segment, 0);

@@ -1,0 +1,12 @@
+pub mod Closing
+pub mod Writing
+pub mod Clearing
+pub mod Reading
+pub mod Entries
+pub mod Lengths
+pub mod Ranges
+pub mod Conserved
+pub mod Windows
+pub mod Body
+pub mod Agree
+pub mod Walk
