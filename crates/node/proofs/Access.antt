@@ -47,7 +47,7 @@ length-given-back before front e =
 abbrev pub parameters : List ℕ → List ℕ
 parameters packet = part packet 1 (length packet - 1)
 
-parameters-drop : (packet : List ℕ) → parameters packet ≡ drop 1 packet
+pub parameters-drop : (packet : List ℕ) → parameters packet ≡ drop 1 packet
 parameters-drop packet = take-all (length packet - 1) (drop 1 packet) (omega (arith, length-drop 1 packet))
 
 -- what holds of a choice's value holds of the choice

@@ -13,4 +13,5 @@ pub mod Joined
 pub mod Why
 pub mod Directories
 pub mod Ranges
+pub mod QList
 pub mod Numbers

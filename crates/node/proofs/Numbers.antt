@@ -14,7 +14,7 @@ use Rattle.group.specs.declared.ZeroLength.{ZeroLength}
 use Rattle.group.proofs.Tallies.{zero-same}
 use Rattle.node.specs.State.{refusalNumber}
 use Rattle.node.specs.Valid.{sizeOk, kindOk, portsOk}
-use Rattle.node.specs.Refusals.{Cause, cause, firstOf, verdictNumber, flashCause, replyCause, memoryCause, areaCause, linkCause, slaveCause, stateCause, busyCause, pollCause, unaskedCause, requestVerdict, replyVerdict, pollVerdict, eraseVerdict, startVerdict}
+use Rattle.node.specs.Refusals.{Cause, cause, firstOf, verdictNumber, flashCause, replyCause, memoryCause, areaCause, listCause, linkCause, slaveCause, stateCause, busyCause, pollCause, unaskedCause, requestVerdict, replyVerdict, pollVerdict, eraseVerdict, slowVerdict, startVerdict}
 use Rattle.node.specs.Route.{routeNumber}
 use Rattle.node.specs.Effect.{Lent}
 use Rattle.node.specs.Files.{setTo}
@@ -39,15 +39,16 @@ verdict-rows (c ∷ causes) = by (c .holds) (verdict-rows causes)
     by true e = refl
     by false e = e
 
--- so the verdict on each call is by the numbers of 01's table, in its order, and 8 where 02, request 1, has it
-pub request-number : (n : Node) (link packet flash pm dm io area reply : ℕ)
-    → verdictNumber (requestVerdict n link packet flash pm dm io area reply)
+-- so the verdict on each call is by the numbers of 01's table, in its order, and 8 and 9 where 02, requests 1 and 7, have them
+pub request-number : (n : Node) (link packet flash pm dm io area records reply : ℕ)
+    → verdictNumber (requestVerdict n link packet flash pm dm io area records reply)
     ≡ pick (flashCause n flash .holds) 1 (pick (replyCause reply .holds) 2 (pick (memoryCause pm dm io .holds) 3 (pick (areaCause area .holds) 8
-    (pick (linkCause n link .holds) 4 (pick (stateCause n .holds) 5 (pick (busyCause n packet .holds) 6 0))))))
+    (pick (listCause n records .holds) 9 (pick (linkCause n link .holds) 4 (pick (stateCause n .holds) 5 (pick (busyCause n packet .holds) 6 0)))))))
 unfolding requestVerdict
-request-number n link packet flash pm dm io area reply =
+request-number n link packet flash pm dm io area records reply =
     verdict-rows
-    (flashCause n flash ∷ replyCause reply ∷ memoryCause pm dm io ∷ areaCause area ∷ linkCause n link ∷ stateCause n ∷ busyCause n packet ∷ [])
+    (flashCause n flash ∷ replyCause reply ∷ memoryCause pm dm io ∷ areaCause area ∷ listCause n records ∷ linkCause n link ∷ stateCause n
+    ∷ busyCause n packet ∷ [])
 
 pub reply-number : (n : Node) (slave reply : ℕ)
     → verdictNumber (replyVerdict n slave reply)
@@ -64,6 +65,11 @@ pub erase-number : (n : Node) (flash : ℕ)
     → verdictNumber (eraseVerdict n flash) ≡ pick (flashCause n flash .holds) 1 (pick (stateCause n .holds) 5 0)
 unfolding eraseVerdict
 erase-number n flash = verdict-rows (flashCause n flash ∷ stateCause n ∷ [])
+
+pub slow-number : (n : Node) (records : ℕ)
+    → verdictNumber (slowVerdict n records) ≡ pick (listCause n records .holds) 9 (pick (stateCause n .holds) 5 0)
+unfolding slowVerdict
+slow-number n records = verdict-rows (listCause n records ∷ stateCause n ∷ [])
 
 pub start-number : (kind ports subdetector flash : ℕ)
     → verdictNumber (startVerdict kind ports subdetector flash)

@@ -1,12 +1,12 @@
 -- A call that is taken hands on a state of a node: every part that refusal 5 looks at stays in its range. Assumes nothing.
 use Prim.Native.Nat.{ℕ, zero, suc, _+_, _*_, _/_, _≤_, _<_}
-use mathlib.Core.Path.{_≡_, refl, sym, ap, _∙_}
-use mathlib.Core.Bool.{Bool, true, false, _&&_, _||_}
+use mathlib.Core.Path.{_≡_, refl, sym, ap, _∙_, subst}
+use mathlib.Core.Bool.{Bool, true, false, _&&_, _||_, false≢true}
 use mathlib.Core.List.{List, [], _∷_}
 use native.Mathlib.Omega.{arith}
 use lib.ListN.{length, getD, drop, set, length-drop}
 use lib.Dec.{ltb, leb, eqb}
-use borrow.Author.Tests.{eqb-true, leb-true, leb-false, ltb-true, le-leb, lt-ltb}
+use borrow.Author.Tests.{eq-eqb, ne-eqb, eqb-true, leb-true, leb-false, ltb-true, le-leb, lt-ltb}
 use Rattle.base.specs.Pick.{pick}
 use Rattle.base.specs.Words.{Below}
 use Rattle.base.proofs.Pick.{pick-case, and-yes, and-left, and-right}
@@ -25,8 +25,13 @@ use Rattle.group.proofs.Answers.{part-tells}
 use Rattle.group.proofs.Sets.{up-tells, length-slaves}
 use Rattle.group.proofs.Rooms.{room-kept}
 use Rattle.group.proofs.Takes.{taken-fits}
-use Rattle.node.specs.Effect.{Effect, Lent, Change, erasingNext, Setup, modeAfter, masksAfter, Join, writingAfter}
-use Rattle.node.specs.Valid.{sizeOk, givenOk, masksOk, erasingOk, askOk, receivedOk, gatheringOk, pendingOk, writingOk, stateOk}
+use Rattle.qlist.specs.Words.{listing, recordsIn, movedOn, closeIn, clearIn}
+use Rattle.qlist.specs.Commands.{Changed, changed, countIn, isWrite, canWrite, writeIn, deleteIn}
+use Rattle.qlist.specs.declared.Listed.{Listed}
+use Rattle.qlist.specs.declared.Listing.{Listing}
+use Rattle.qlist.proofs.Lengths.{close-count}
+use Rattle.node.specs.Effect.{Effect, Lent, Change, erasingNext, Setup, modeAfter, masksAfter, Join, writingAfter, Relist, listingAfter}
+use Rattle.node.specs.Valid.{sizeOk, givenOk, masksOk, erasingOk, askOk, receivedOk, gatheringOk, pendingOk, writingOk, listingOk, stateOk}
 use Rattle.node.specs.Route.{asks, writes, routeOf}
 use Rattle.node.specs.Slaves.{received, nothingReceived, gathering, heard, silent, goesOn, packetIn, awaits, gathers, hears, askedAt, replyEffect, pollEffect}
 use Rattle.node.specs.Calls.{routed}
@@ -35,7 +40,7 @@ use Rattle.node.specs.declared.Gathering.{Gathering}
 use Rattle.node.specs.declared.Node.{Node}
 use Rattle.node.specs.declared.Pending.{Pending}
 use Rattle.node.proofs.Routes.{Named, joins-fit, route-case}
-use Rattle.node.proofs.Why.{Why, Sets}
+use Rattle.node.proofs.Why.{Why, Sets, Relisted, Relists}
 use Rattle.node.proofs.Directories.{some-words}
 
 -- two tests that hold
@@ -50,6 +55,7 @@ pub record Ranges (n : Node) : Type 0 where
   pub erasing : erasingOk (n .given .«flash_words») (n .erasing) ≡ true
   pub pending : pendingOk (n .given .ports) (n .pending) ≡ true
   pub writing : writingOk (n .given .ports) (n .writing) ≡ true
+  pub listing : listingOk (n .listing) ≡ true
 
 pub ranges-tell : (n : Node) → stateOk n ≡ true → Ranges n
 unfolding stateOk
@@ -60,7 +66,9 @@ ranges-tell n h =
     let d = erasingOk (n .given .«flash_words») (n .erasing) in
     let e = pendingOk (n .given .ports) (n .pending) in
     let f = writingOk (n .given .ports) (n .writing) in
-    let abcde = and-left (a && b && c && d && e) f h in
+    let g = listingOk (n .listing) in
+    let abcdef = and-left (a && b && c && d && e && f) g h in
+    let abcde = and-left (a && b && c && d && e) f abcdef in
     let abcd = and-left (a && b && c && d) e abcde in
     let abc = and-left (a && b && c) d abcd in
     let ab = and-left (a && b) c abc in
@@ -70,12 +78,14 @@ ranges-tell n h =
       masks = and-right (a && b) c abc;
       erasing = and-right (a && b && c) d abcd;
       pending = and-right (a && b && c && d) e abcde;
-      writing = and-right (a && b && c && d && e) f h;
+      writing = and-right (a && b && c && d && e) f abcdef;
+      listing = and-right (a && b && c && d && e && f) g h;
     }
 
 pub ranges-told : (n : Node) → Ranges n → stateOk n ≡ true
 unfolding stateOk
-ranges-told n r = and-both (and-both (and-both (and-both (and-both (r .given) (r .mode)) (r .masks)) (r .erasing)) (r .pending)) (r .writing)
+ranges-told n r =
+    and-both (and-both (and-both (and-both (and-both (and-both (r .given) (r .mode)) (r .masks)) (r .erasing)) (r .pending)) (r .writing)) (r .listing)
 
 -- a flash of either size has words for every sector
 pub size-some : (words : ℕ) → sizeOk words ≡ true → 0 < words / 16
@@ -249,6 +259,87 @@ request-writing n clock link bc errors packet l k h =
   where
     Ok : Join → Type 0
     Ok j = writingOk (n .given .ports) (writingAfter j (n .writing)) ≡ true
+
+-- what is listed: the entries that a write adds are lent, those that close up were listed, and the turn is at a listed place
+listing-told : (entries turn : ℕ) → entries ≤ 910 → (entries ≡ 0 → turn ≡ 0) → (0 < entries → turn < entries) → listingOk (listing entries turn) ≡ true
+listing-told entries turn m none some = and-both (le-leb entries 910 m) (by (eqb entries 0) refl)
+  where
+    not-zero : (k : ℕ) → eqb k 0 ≡ false → 0 < k
+    not-zero zero q = absurd (false≢true (sym q))
+    not-zero (suc k) q = omega arith
+
+    by : (t : Bool) → eqb entries 0 ≡ t → pick t (eqb turn 0) (ltb turn entries) ≡ true
+    by true q = eq-eqb turn 0 (none (eqb-true entries 0 q))
+    by false q = lt-ltb turn entries (some (not-zero entries q))
+
+pub record Listing-in (g : Listing) : Type 0 where
+  pub most : g .entries ≤ 910
+  pub none : g .entries ≡ 0 → g .turn ≡ 0
+  pub some : 0 < g .entries → g .turn < g .entries
+
+pub listing-tells : (g : Listing) → listingOk g ≡ true → Listing-in g
+listing-tells g h =
+    let rest = and-right (leb (g .entries) 910) (pick (eqb (g .entries) 0) (eqb (g .turn) 0) (ltb (g .turn) (g .entries))) h in
+    record {
+      most = leb-true (g .entries) 910 (and-left (leb (g .entries) 910) _ h);
+      none = λ e. eqb-true (g .turn) 0 (subst (λ (t : Bool). pick t (eqb (g .turn) 0) (ltb (g .turn) (g .entries)) ≡ true) (eq-eqb (g .entries) 0 e) rest);
+      some = λ l. ltb-true (g .turn) (g .entries) (subst (λ (t : Bool). pick t (eqb (g .turn) 0) (ltb (g .turn) (g .entries)) ≡ true) (ne-eqb (g .entries) 0 (λ e. omega (arith, e))) rest);
+    }
+
+pub slow-listing : (g : Listing) → listingOk g ≡ true → listingOk (movedOn g) ≡ true
+slow-listing g h = by (ltb (g .turn + 1) (g .entries)) refl
+  where
+    by : (t : Bool) → ltb (g .turn + 1) (g .entries) ≡ t → listingOk (listing (g .entries) (pick t (g .turn + 1) 0)) ≡ true
+    by true q =
+        let l = ltb-true (g .turn + 1) (g .entries) q in
+        listing-told (g .entries) (g .turn + 1) (listing-tells g h .most) (λ e. omega arith) (λ _. l)
+    by false q = listing-told (g .entries) 0 (listing-tells g h .most) (λ _. refl) (λ e. e)
+
+module _ (g : Listing) (ws : List ℕ) (lent : recordsIn ws ≤ 910) (ok : listingOk g ≡ true) where
+  -- what is then listed, of a command that changes the list
+  abbrev Fits : Changed → Type 0
+  Fits c = (next : Listing) (words : List ℕ) → c ≡ changed (Listed.Entries next) words → listingOk next ≡ true
+
+  abbrev entriesOf : Listed → Listing → Listing
+  entriesOf (Listed.Entries next) d = next
+  entriesOf Listed.Abort d = d
+
+  fits-entries : (next : Listing) (words : List ℕ) → listingOk next ≡ true → Fits (changed (Listed.Entries next) words)
+  fits-entries next words h next′ words′ e = subst (λ (x : Listing). listingOk x ≡ true) (ap (λ (c : Changed). entriesOf (c .listed) g) e) h
+
+  fits-abort : (words : List ℕ) → Fits (changed Listed.Abort words)
+  fits-abort words next words′ e = subst (λ (x : Listing). listingOk x ≡ true) (ap (λ (c : Changed). entriesOf (c .listed) g) e) ok
+
+  pub write-listing : (clock : ℕ) (segment : List ℕ) → Fits (writeIn g clock segment ws)
+  unfolding writeIn canWrite
+  write-listing clock segment =
+      pick-case Fits (canWrite (g .entries) (recordsIn ws) segment)
+      (λ q.
+      let room = leb-true (g .entries + countIn segment) (recordsIn ws) (and-left (leb (g .entries + countIn segment) (recordsIn ws)) _ (and-right (isWrite segment) _ q)) in
+      let t = listing-tells g ok in
+      fits-entries _ _
+      (listing-told (g .entries + countIn segment) (g .turn) (omega arith) (λ e. t .none (omega arith)) (λ s. grown (g .entries) (g .turn) (countIn segment) (t .none) (t .some) s)))
+      (λ _. fits-abort ws)
+    where
+      grown : (entries turn n : ℕ) → (entries ≡ 0 → turn ≡ 0) → (0 < entries → turn < entries) → 0 < entries + n → turn < entries + n
+      grown zero turn n none some s = let z = none refl in omega arith
+      grown (suc entries) turn n none some s = let z = some (omega arith) in omega arith
+
+  pub delete-listing : (parameters : List ℕ) → Fits (deleteIn g parameters ws)
+  unfolding deleteIn
+  delete-listing parameters =
+      pick-case Fits (eqb (length parameters) 0)
+      (λ _. fits-entries _ _ (listing-told (closeIn (g .entries) ws .count) 0 (omega (arith, close-count (g .entries) ws, listing-tells g ok .most)) (λ _. refl) (λ e. e)))
+      (λ _. pick-case Fits (eqb (length parameters) 1)
+      (λ _. pick-case Fits (eqb (getD parameters 0 0) 0xFFFF) (λ _. fits-entries (listing 0 0) ws refl)
+      (λ _. pick-case Fits (clearIn (g .entries) (getD parameters 0 0) ws .found) (λ _. fits-entries _ _ ok) (λ _. fits-abort ws)))
+      (λ _. fits-abort ws))
+
+pub relists-listing : (q : Relist) (n : Node) (clock : ℕ) (packet list : List ℕ) → recordsIn list ≤ 910 → Relists q n clock packet list
+    → listingOk (n .listing) ≡ true → listingOk (listingAfter q (n .listing)) ≡ true
+relists-listing Relist.Kept n clock packet list b w h = h
+relists-listing (Relist.Became g words) n clock packet list b (Relisted.Deleted c e) h = delete-listing (n .listing) list b h (drop 1 packet) g words e
+relists-listing (Relist.Became g words) n clock packet list b (Relisted.Wrote c e) h = write-listing (n .listing) list b h clock (drop 1 packet) g words e
 
 -- of a slave's answer, what is built leaves room for the slaves yet to ask, and what is stored of a packet has room
 module _ (ports : ℕ) (n : Node) (clock : ℕ) (h : Heard) (words reply : List ℕ) (big : 12288 ≤ length reply) where

@@ -8,7 +8,7 @@ use lib.Dec.{ltb, leb, eqb}
 use borrow.Author.Tests.{eqb-true, leb-false, ltb-false, not-false}
 use Rattle.base.proofs.Pick.{pick-second}
 use Rattle.node.specs.Valid.{sizeOk, kindOk, portsOk, stateOk}
-use Rattle.node.specs.Refusals.{Cause, cause, firstOf, isPending, flashCause, replyCause, memoryCause, areaCause, linkCause, slaveCause, stateCause, busyCause, pollCause, unaskedCause, requestVerdict, replyVerdict, pollVerdict, eraseVerdict, startVerdict}
+use Rattle.node.specs.Refusals.{Cause, cause, firstOf, isPending, flashCause, replyCause, memoryCause, areaCause, listCause, linkCause, slaveCause, stateCause, busyCause, pollCause, unaskedCause, requestVerdict, replyVerdict, pollVerdict, eraseVerdict, slowVerdict, startVerdict}
 use Rattle.node.specs.declared.Node.{Node}
 use Rattle.node.specs.declared.Refusal.{Refusal}
 use Rattle.node.specs.declared.Verdict.{Verdict}
@@ -43,23 +43,30 @@ fit n flash h s =
       state = not-false (stateOk n) s;
     }
 
-pub record RequestFine (n : Node) (link packet flash area reply : ℕ) : Type 0 where
+pub record RequestFine (n : Node) (link packet flash area records reply : ℕ) : Type 0 where
   pub fits : Fit n flash
   pub buffer : 12288 ≤ reply
   pub room : 32768 ≤ area
+  pub most : records ≤ 910
+  pub listed : n .listing .entries ≤ records
   pub below : link < n .given .ports
   pub free : (isPending (n .pending) && leb 1 packet) ≡ false
 
-pub request-fine : (n : Node) (link packet flash pm dm io area reply : ℕ) → requestVerdict n link packet flash pm dm io area reply ≡ Verdict.Fine → RequestFine n link packet flash area reply
+pub request-fine : (n : Node) (link packet flash pm dm io area records reply : ℕ) → requestVerdict n link packet flash pm dm io area records reply ≡ Verdict.Fine
+    → RequestFine n link packet flash area records reply
 unfolding requestVerdict
-request-fine n link packet flash pm dm io area reply h =
-    let none = fine-tells (flashCause n flash ∷ replyCause reply ∷ memoryCause pm dm io ∷ areaCause area ∷ linkCause n link ∷ stateCause n ∷ busyCause n packet ∷ []) h in
+request-fine n link packet flash pm dm io area records reply h =
+    let none =
+    fine-tells (flashCause n flash ∷ replyCause reply ∷ memoryCause pm dm io ∷ areaCause area ∷ listCause n records ∷ linkCause n link ∷ stateCause n ∷ busyCause n packet ∷ []) h in
+    let l = or-neither (ltb 910 records) (ltb records (n .listing .entries)) (none .1 .1 .1 .1 .0) in
     record {
-      fits = fit n flash (none .0) (none .1 .1 .1 .1 .1 .0);
+      fits = fit n flash (none .0) (none .1 .1 .1 .1 .1 .1 .0);
       buffer = ltb-false reply 12288 (none .1 .0);
       room = ltb-false area 32768 (none .1 .1 .1 .0);
-      below = leb-false (n .given .ports) link (none .1 .1 .1 .1 .0);
-      free = none .1 .1 .1 .1 .1 .1 .0;
+      most = ltb-false 910 records (l .0);
+      listed = ltb-false records (n .listing .entries) (l .1);
+      below = leb-false (n .given .ports) link (none .1 .1 .1 .1 .1 .0);
+      free = none .1 .1 .1 .1 .1 .1 .1 .0;
     }
 
 -- a reply and a poll
@@ -82,6 +89,22 @@ poll-fine n reply h =
 pub erase-fine : (n : Node) (flash : ℕ) → eraseVerdict n flash ≡ Verdict.Fine → Fit n flash
 unfolding eraseVerdict
 erase-fine n flash h = let none = fine-tells (flashCause n flash ∷ stateCause n ∷ []) h in fit n flash (none .0) (none .1 .0)
+
+pub record SlowFine (n : Node) (records : ℕ) : Type 0 where
+  pub most : records ≤ 910
+  pub listed : n .listing .entries ≤ records
+  pub state : stateOk n ≡ true
+
+pub slow-fine : (n : Node) (records : ℕ) → slowVerdict n records ≡ Verdict.Fine → SlowFine n records
+unfolding slowVerdict
+slow-fine n records h =
+    let none = fine-tells (listCause n records ∷ stateCause n ∷ []) h in
+    let l = or-neither (ltb 910 records) (ltb records (n .listing .entries)) (none .0) in
+    record {
+      most = ltb-false 910 records (l .0);
+      listed = ltb-false records (n .listing .entries) (l .1);
+      state = not-false (stateOk n) (none .1 .0);
+    }
 
 pub record StartFine (kind ports subdetector flash : ℕ) : Type 0 where
   pub sized : sizeOk flash ≡ true

@@ -36,11 +36,15 @@ use Rattle.group.specs.declared.Next.{Next}
 use Rattle.group.specs.declared.ZeroLength.{ZeroLength}
 use Rattle.memory.specs.Command.{readable, writable, performable}
 use Rattle.memory.specs.Load.{loadable}
-use Rattle.node.specs.Effect.{Effect, Did, Lent, says, Change, Setup, Join}
+use Rattle.qlist.specs.Commands.{Changed, changed, writeIn, deleteIn}
+use Rattle.qlist.specs.declared.Listed.{Listed}
+use Rattle.qlist.specs.declared.Listing.{Listing}
+use Rattle.node.specs.Effect.{Effect, Did, Lent, says, Change, Setup, Join, Relist}
 use Rattle.node.specs.Settings.{statusIn as ownStatus, statusOf as statusWordsOf, pingOf, modeReadOf, modeWriteOf, maskReadOf, maskWriteOf}
 use Rattle.node.specs.Files.{isErasing, unlessErasing, namedBy, seen, readBy, readAt, readOf, testAt, testOf, loadBy, loadAt, loadOf, isExact, isMissing, placedFor, writeAt, fileWriteOf, joined, foundBy, toErase, eraseAt, eraseStartOf, setTo, attributeBy, attributeAt, attributeSetOf, summaryOf}
 use Rattle.node.specs.Memories.{dataRoom, memoryReadOf, memoryWriteOf, performIoOf}
-use Rattle.node.specs.Own.{settingsOf, memoriesOf, filesOf, onFiles, onMemories, ownOf}
+use Rattle.node.specs.Lists.{relisted, changesList, listReadOf, listDeleteOf, listWriteOf}
+use Rattle.node.specs.Own.{settingsOf, memoriesOf, filesOf, listsOf, onFiles, onMemories, onList, ownOf}
 use Rattle.node.specs.Slaves.{heard, silent, goesOn, packetIn, yetToAsk, hears, askedAt, replyEffect, pollEffect}
 use Rattle.node.specs.Calls.{routed}
 use Rattle.node.specs.Route.{routeOf}
@@ -104,6 +108,15 @@ Sets Setup.Kept packet = Unit {0}
 Sets (Setup.Mode mode) packet = Moded packet mode
 Sets (Setup.Mask i mask) packet = Masked packet i mask
 
+-- the Q-List is changed by 5B, or by 5C
+pub data Relisted (n : Node) (clock : ℕ) (packet list : List ℕ) (g : Listing) (words : List ℕ) : Type 0 where
+  Deleted : Command packet 0x5B → deleteIn (n .listing) (drop 1 packet) list ≡ changed (Listed.Entries g) words → Relisted n clock packet list g words
+  Wrote : Command packet 0x5C → writeIn (n .listing) clock (drop 1 packet) list ≡ changed (Listed.Entries g) words → Relisted n clock packet list g words
+
+abbrev pub Relists : Relist → Node → ℕ → List ℕ → List ℕ → Type 0
+Relists Relist.Kept n clock packet list = Unit {0}
+Relists (Relist.Became g words) n clock packet list = Relisted n clock packet list g words
+
 -- the placing rule was asked for a valid file of an unused name
 exact-valid : (file : List ℕ) → isExact (fileEnd file) (length file) ≡ true → fileEnd file ≡ End.At (length file)
 exact-valid file h = by (fileEnd file) h
@@ -134,16 +147,16 @@ erase-sector n word s h = by (eqb (word % 16) 0) h
     by true q = found-tells (λ t. eqb (sectorAddress t) word) s q .sector
     by false q = target (namedBy n word) refl q
 
-module _ (n : Node) (link bc : ℕ) (packet : List ℕ) (l : Lent) where
+module _ (n : Node) (link bc : ℕ) (packet : List ℕ) (l : Lent) (clock : ℕ) where
   abbrev flash : List ℕ
   flash = l .flash
 
   -- why a command does what it does
   abbrev pub Reason : Did → Type 0
-  Reason d = Why (d .change) n link bc packet l × Sets (d .setup) packet
+  Reason d = Why (d .change) n link bc packet l × (Sets (d .setup) packet × Relists (d .list) n clock packet (l .further .list))
 
-  none : Unit {0} × Unit {0}
-  none = (tt, tt)
+  none : Unit {0} × (Unit {0} × Unit {0})
+  none = (tt, (tt, tt))
 
   idle-reason : (d : Did) → (n .erasing ≡ Erasing.Nothing → Reason d) → Reason (unlessErasing n d)
   unfolding none
@@ -216,7 +229,7 @@ module _ (n : Node) (link bc : ℕ) (packet : List ℕ) (l : Lent) where
     where
       by : n .erasing ≡ Erasing.Nothing → (f : Found) → placedFor n flash file ≡ f → Reason (writeAt file f)
       by e Found.Nothing h = none
-      by e (Found.At s) h = (placed-tells file s w e h, tt)
+      by e (Found.At s) h = (placed-tells file s w e h, (tt, tt))
 
   erase-reason : Whole n link bc → Command packet 0x47 → Reason (eraseStartOf n packet)
   unfolding eraseStartOf none
@@ -224,7 +237,7 @@ module _ (n : Node) (link bc : ℕ) (packet : List ℕ) (l : Lent) where
     where
       by : n .erasing ≡ Erasing.Nothing → (f : Found) → toErase n (getD packet 1 0) ≡ f → Reason (eraseAt f)
       by e Found.Nothing h = none
-      by e (Found.At s) h = (record { whole = w; command = c; idle = e; named = h; sector = erase-sector n (getD packet 1 0) s h }, tt)
+      by e (Found.At s) h = (record { whole = w; command = c; idle = e; named = h; sector = erase-sector n (getD packet 1 0) s h }, (tt, tt))
 
   attribute-reason : Whole n link bc → Command packet 0x48 → Reason (attributeSetOf n flash packet)
   unfolding attributeSetOf none
@@ -248,7 +261,7 @@ module _ (n : Node) (link bc : ℕ) (packet : List ℕ) (l : Lent) where
               good = g;
               set = ap (λ (x : ℕ). settingOf x (getD packet 2 0)) w ∙ q;
             },
-            tt,
+            (tt, tt),
           )
 
       by : n .erasing ≡ Erasing.Nothing → (s : ℕ) → namedBy n (getD packet 1 0) ≡ Target.At s → (x : Status) → seen n flash s ≡ x → Reason (attributeBy s (sectorOf flash s) (getD packet 2 0) x)
@@ -299,15 +312,15 @@ module _ (n : Node) (link bc : ℕ) (packet : List ℕ) (l : Lent) where
       writes memory words = pick-case Reason (writable memory (length words) (drop 1 packet)) (λ _. none) (λ _. none)
 
   -- the commands on the node itself leave the flash
-  settings-reason : (id clock : ℕ) → Command packet id → Reason (settingsOf id n clock link packet)
+  settings-reason : (id : ℕ) → Command packet id → Reason (settingsOf id n clock link packet)
   unfolding settingsOf statusWordsOf pingOf modeReadOf modeWriteOf maskReadOf maskWriteOf none
-  settings-reason id clock c =
+  settings-reason id c =
       pick-case Reason (eqb id 0x0C) (λ _. pick-case Reason (eqb (length packet) 1) (λ _. none) (λ _. none))
       (λ _. pick-case Reason (eqb id 0x0D) (λ _. pick-case Reason (leb (length packet) 8001) (λ _. none) (λ _. none))
       (λ _. pick-case Reason (eqb id 0x12) (λ _. pick-case Reason (eqb (length packet) 1) (λ _. none) (λ _. none))
       (λ _. pick-case Reason (eqb id 0x52)
       (λ e. pick-case Reason (eqb (length packet) 2)
-      (λ _. pick-case Reason (leb (getD packet 1 0) 3) (λ q. (tt, record { command = is 0x52 c e; most = leb-true (getD packet 1 0) 3 q })) (λ _. none))
+      (λ _. pick-case Reason (leb (getD packet 1 0) 3) (λ q. (tt, (record { command = is 0x52 c e; most = leb-true (getD packet 1 0) 3 q }, tt))) (λ _. none))
       (λ _. none))
       (λ _. pick-case Reason (eqb id 0x17)
       (λ _. pick-case Reason (eqb (n .given .kind) 2) (λ _. pick-case Reason (eqb (length packet) 1) (λ _. none) (λ _. none)) (λ _. none))
@@ -315,53 +328,72 @@ module _ (n : Node) (link bc : ℕ) (packet : List ℕ) (l : Lent) where
       (λ e. pick-case Reason (eqb (n .given .kind) 2)
       (λ _. pick-case Reason (eqb (length packet) 3)
       (λ _. pick-case Reason (ltb (getD packet 1 0) 4096)
-      (λ q. let b = ltb-true (getD packet 1 0) 4096 q in (tt, record { command = is 0x57 c e; below = omega arith; words = refl }))
+      (λ q. let b = ltb-true (getD packet 1 0) 4096 q in (tt, (record { command = is 0x57 c e; below = omega arith; words = refl }, tt)))
       (λ _. none))
       (λ _. none))
       (λ _. none))
       (λ _. none))))))
 
-  pub own-reason : (id clock : ℕ) → Whole n link bc → Command packet id → Reason (ownOf id n clock link packet l)
+  -- the commands on the Q-List leave flash and settings
+  lists-reason : (id : ℕ) → Command packet id → Reason (listsOf id n clock (l .further .list) packet)
+  unfolding listsOf listReadOf listDeleteOf listWriteOf none
+  lists-reason id c =
+      pick-case Reason (eqb id 0x1C) (λ _. pick-case Reason (eqb (length packet) 1) (λ _. none) (λ _. none))
+      (λ _. pick-case Reason (eqb id 0x5B) (λ e. by (deleteIn (n .listing) (drop 1 packet) (l .further .list)) (λ g words h. Relisted.Deleted (is 0x5B c e) h))
+      (λ _. pick-case Reason (eqb id 0x5C) (λ e. by (writeIn (n .listing) clock (drop 1 packet) (l .further .list)) (λ g words h. Relisted.Wrote (is 0x5C c e) h))
+      (λ _. none)))
+    where
+      by : (x : Changed) → ((g : Listing) (words : List ℕ) → x ≡ changed (Listed.Entries g) words → Relisted n clock packet (l .further .list) g words)
+          → Reason (changesList x)
+      by x f = at (x .listed) refl
+        where
+          at : (y : Listed) → x .listed ≡ y → Reason (relisted y (x .words))
+          at (Listed.Entries g) h = (tt, (tt, f g (x .words) (ap (λ (z : Listed). changed z (x .words)) h)))
+          at Listed.Abort h = none
+
+  pub own-reason : (id : ℕ) → Whole n link bc → Command packet id → Reason (ownOf id n clock link packet l)
   unfolding ownOf
-  own-reason id clock w c =
+  own-reason id w c =
       pick-case Reason (onFiles id) (λ _. files-reason id w c)
-      (λ _. pick-case Reason (onMemories id) (λ _. memories-reason id) (λ _. settings-reason id clock c))
+      (λ _. pick-case Reason (onMemories id) (λ _. memories-reason id)
+      (λ _. pick-case Reason (onList id) (λ _. lists-reason id c) (λ _. settings-reason id c)))
 
   -- and why a request does: own commands and the last packet of a write alone change anything
   abbrev pub Because : Effect → Type 0
-  Because e = Why (e .change) n link bc packet l × Sets (e .setup) packet
+  Because e = Why (e .change) n link bc packet l × (Sets (e .setup) packet × Relists (e .list) n clock packet (l .further .list))
 
-  pub request-why : (clock : ℕ) (errors : Bool) → Because (routed (routeOf n link bc errors packet) n clock link packet l)
+  pub request-why : (errors : Bool) → Because (routed (routeOf n link bc errors packet) n clock link packet l)
   unfolding none
-  request-why clock errors =
+  request-why errors =
       route-case (λ r. Because (routed r n clock link packet l)) n link bc errors packet none none (λ _ _. none) (λ _ _. none) (λ _ _. none)
       (λ from at j. none) (λ at w. write-reason (joined (l .further .area) at packet) (Source.last w))
-      (λ id w c. own-reason id clock w c) (λ s h. none) (λ set from s named e. none)
+      (λ id w c. own-reason id w c) (λ s h. none) (λ set from s named e. none)
 
--- a slave's answer changes neither flash nor settings nor the write that stands
+-- a slave's answer changes neither flash nor settings nor the write that stands nor the Q-List
 pub record Quiet (e : Effect) : Type 0 where
   pub change : e .change ≡ Change.Kept
   pub setup : e .setup ≡ Setup.Kept
   pub join : e .join ≡ Join.Kept
+  pub list : e .list ≡ Relist.Kept
 
 hears-quiet : (p : Pending) (n : Node) (clock : ℕ) (h : Heard) (words reply : List ℕ) → Quiet (hears p n clock h words reply)
-hears-quiet Pending.Nothing n clock h words reply = record { change = refl; setup = refl; join = refl }
-hears-quiet (Pending.Slave a) n clock h words reply = record { change = refl; setup = refl; join = refl }
+hears-quiet Pending.Nothing n clock h words reply = record { change = refl; setup = refl; join = refl; list = refl }
+hears-quiet (Pending.Slave a) n clock h words reply = record { change = refl; setup = refl; join = refl; list = refl }
 hears-quiet (Pending.Group a g) n clock h words reply =
     pick-case Quiet (partBy h (g .received .words) (length words) (g .built .words) (yetToAsk a g))
-    (λ _. record { change = refl; setup = refl; join = refl }) (λ _. by (nextOf (above (g .set) (a .slave))))
+    (λ _. record { change = refl; setup = refl; join = refl; list = refl }) (λ _. by (nextOf (above (g .set) (a .slave))))
   where
     by : (next : Next) → Quiet (goesOn n a g clock (taken (assembly reply (g .built)) (yetToAsk a g) (a .slave) (packetIn g h words reply)) next)
-    by Next.Nobody = record { change = refl; setup = refl; join = refl }
-    by (Next.Slave s) = record { change = refl; setup = refl; join = refl }
+    by Next.Nobody = record { change = refl; setup = refl; join = refl; list = refl }
+    by (Next.Slave s) = record { change = refl; setup = refl; join = refl; list = refl }
 
 pub reply-quiet : (n : Node) (clock : ℕ) (errors : Bool) (status address bc : ℕ) (words reply : List ℕ) → Quiet (replyEffect n clock errors status address bc words reply)
 unfolding replyEffect
 reply-quiet n clock errors status address bc words reply =
     let q = hears-quiet (n .pending) n clock (heard (isLate clock (askedAt (n .pending))) errors status address bc) words reply in
-    record { change = q .change; setup = q .setup; join = q .join }
+    record { change = q .change; setup = q .setup; join = q .join; list = q .list }
 
 pub poll-quiet : (n : Node) (clock : ℕ) (reply : List ℕ) → Quiet (pollEffect n clock reply)
 unfolding pollEffect
 poll-quiet n clock reply =
-    pick-case Quiet (isLate clock (askedAt (n .pending))) (λ _. hears-quiet (n .pending) n clock silent [] reply) (λ _. record { change = refl; setup = refl; join = refl })
+    pick-case Quiet (isLate clock (askedAt (n .pending))) (λ _. hears-quiet (n .pending) n clock silent [] reply) (λ _. record { change = refl; setup = refl; join = refl; list = refl })

@@ -1,4 +1,4 @@
--- What a call does, as values: its answer, what it changes of flash, memories, settings and the write that stands, the errors it counts.
+-- What a call does, as values: its answer, what it changes of flash, memories, settings, the write that stands and the Q-List, the errors it counts.
 -- A command that does not name a change does not make it. Assumes nothing.
 use Prim.Native.Nat.{ℕ, _+_}
 use mathlib.Core.Path.{_≡_}
@@ -19,6 +19,7 @@ use Rattle.group.specs.declared.Reply.{Reply}
 use Rattle.group.specs.declared.ZeroLength.{ZeroLength}
 use Rattle.memory.specs.Segment.{Memories, segmentStored}
 use Rattle.memory.specs.Load.{fileSegments, allStored}
+use Rattle.qlist.specs.declared.Listing.{Listing}
 use Rattle.report.specs.Status.{counted}
 use Rattle.node.specs.State.{node, turn, counts, joining}
 use Rattle.node.specs.declared.Answer.{Answer}
@@ -127,15 +128,32 @@ areaAfter Join.Dropped area = area
 areaAfter (Join.Joined link at words) area = laid area at words
 areaAfter (Join.Ended at words) area = laid area at words
 
--- The further runs of 02, which a request is lent: the area in which the packets of a file join (request 1).
+-- A change of the Q-List. 02, request 7.
+pub data Relist : Type 0 where
+  -- none
+  Kept : Relist
+  -- what is then listed, and the words of the list
+  Became : Listing → List ℕ → Relist
+
+abbrev pub listingAfter : Relist → Listing → Listing
+listingAfter Relist.Kept g = g
+listingAfter (Relist.Became g words) before = g
+
+abbrev pub listAfter : Relist → List ℕ → List ℕ
+listAfter Relist.Kept list = list
+listAfter (Relist.Became g words) list = words
+
+-- The further runs of 02, which a request is lent: the area in which the packets of a file join (request 1), and the Q-List, seven words a
+-- record (request 7).
 pub record Further : Type 0 where
   pub area : List ℕ
+  pub list : List ℕ
 
-abbrev pub further : List ℕ → Further
-further area = record { area = area }
+abbrev pub further : List ℕ → List ℕ → Further
+further area list = record { area = area; list = list }
 
-abbrev pub furtherAfter : Join → Further → Further
-furtherAfter j x = further (areaAfter j (x .area))
+abbrev pub furtherAfter : Join → Relist → Further → Further
+furtherAfter j q x = further (areaAfter j (x .area)) (listAfter q (x .list))
 
 -- What an own command does: its reply, the words that it lays at the front of the reply buffer, its changes, and whether it
 -- counts a FLASH error.
@@ -146,9 +164,11 @@ pub record Did : Type 0 where
   pub store : Store
   pub setup : Setup
   pub fault : Bool
+  pub list : Relist
 
+-- One that leaves the Q-List.
 abbrev pub did : Reply → List ℕ → Change → Store → Setup → Bool → Did
-did r ws c s u fault = record { reply = r; words = ws; change = c; store = s; setup = u; fault = fault }
+did r ws c s u fault = record { reply = r; words = ws; change = c; store = s; setup = u; fault = fault; list = Relist.Kept }
 
 -- A 0-length reply and nothing else.
 abbrev pub says : ZeroLength → Did
@@ -167,6 +187,18 @@ stores s = did (zeroReply ZeroLength.End) [] Change.Kept s Setup.Kept false
 
 abbrev pub sets : Setup → Did
 sets u = did (zeroReply ZeroLength.End) [] Change.Kept Store.Kept u false
+
+abbrev pub relists : Listing → List ℕ → Did
+relists g words =
+    record {
+      reply = zeroReply ZeroLength.End;
+      words = [];
+      change = Change.Kept;
+      store = Store.Kept;
+      setup = Setup.Kept;
+      fault = false;
+      list = Relist.Became g words;
+    }
 
 -- A read reply is data, reply status, FCS, in one packet.
 abbrev pub sealedWords : ℕ → List ℕ → List ℕ
@@ -200,18 +232,19 @@ pub record Effect : Type 0 where
   pub store : Store
   pub setup : Setup
   pub join : Join
+  pub list : Relist
   pub amswire : Bool
   pub fault : Bool
   pub pending : Pending
   pub reply : List ℕ
 
-abbrev pub effect : Answer → Change → Store → Setup → Join → Bool → Bool → Pending → List ℕ → Effect
-effect a c s u j amswire fault p r =
-    record { answer = a; change = c; store = s; setup = u; join = j; amswire = amswire; fault = fault; pending = p; reply = r }
+abbrev pub effect : Answer → Change → Store → Setup → Join → Relist → Bool → Bool → Pending → List ℕ → Effect
+effect a c s u j q amswire fault p r =
+    record { answer = a; change = c; store = s; setup = u; join = j; list = q; amswire = amswire; fault = fault; pending = p; reply = r }
 
 -- Nothing but an answer, what is then pending, and the reply buffer.
 abbrev pub only : Answer → Pending → List ℕ → Effect
-only a p r = effect a Change.Kept Store.Kept Setup.Kept Join.Kept false false p r
+only a p r = effect a Change.Kept Store.Kept Setup.Kept Join.Kept Relist.Kept false false p r
 
 -- One function applies it.
 abbrev pub nodeAfter : Node → List ℕ → Effect → Node
@@ -220,17 +253,18 @@ nodeAfter n flash e =
     (modeAfter (e .setup) (n .mode))
     (counts (counted (e .amswire) (n .counts .amswire)) (counted (e .fault) (n .counts .flash)))
     (erasingNext (e .change) (n .erasing) (unitOf flash)) (e .pending) (writingAfter (e .join) (n .writing))
+    (listingAfter (e .list) (n .listing))
 
 abbrev pub applied : Node → Lent → Effect → Outcome
 applied n l e =
     outcome (turn (nodeAfter n (l .flash) e) (e .answer))
-    (lent (flashAfter (e .change) (n .erasing) (l .flash)) (memoriesAfter (e .store) (l .memories)) (furtherAfter (e .join) (l .further))
-    (e .reply))
+    (lent (flashAfter (e .change) (n .erasing) (l .flash)) (memoriesAfter (e .store) (l .memories))
+    (furtherAfter (e .join) (e .list) (l .further)) (e .reply))
 
 -- An own command's outcome: its words are laid at the front of the reply buffer, and what is pending stays.
 abbrev pub owns : Node → Lent → Did → Effect
 owns n l d =
-    effect (Answer.Reply (d .reply)) (d .change) (d .store) (d .setup) Join.Kept false (d .fault) (n .pending) (laid (l .reply) 0 (d .words))
+    effect (Answer.Reply (d .reply)) (d .change) (d .store) (d .setup) Join.Kept (d .list) false (d .fault) (n .pending) (laid (l .reply) 0 (d .words))
 
 abbrev pub ownOutcome : Node → Lent → Did → Outcome
 ownOutcome n l d = applied n l (owns n l d)
@@ -261,6 +295,12 @@ Replies n d before r after =
 abbrev pub Changes : Node → Did → List ℕ → Turn → List ℕ → Type 0
 Changes n d before r after =
     (m : Memories) (x : Further) (reply : List ℕ) → outcome r (lent after m x reply) ≡ ownOutcome n (lent before m x reply) d
+
+-- .. the Q-List alone ..
+abbrev pub Lists : Node → Did → List ℕ → Turn → List ℕ → Type 0
+Lists n d before r after =
+    (flash : List ℕ) (m : Memories) (area reply : List ℕ)
+    → outcome r (lent flash m (further area after) reply) ≡ ownOutcome n (lent flash m (further area before) reply) d
 
 -- .. the memories alone.
 abbrev pub Stores : Node → Did → Memories → Turn → Memories → Type 0

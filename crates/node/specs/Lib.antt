@@ -7,6 +7,7 @@ pub mod Effect
 pub mod Settings
 pub mod Files
 pub mod Memories
+pub mod Lists
 pub mod Own
 pub mod Slaves
 pub mod Calls

@@ -11,7 +11,7 @@ use Rattle.group.specs.Ending.{zeroReply, sealed}
 use Rattle.memory.specs.declared.Answer as memory
 use Rattle.memory.specs.Command.{readable, readAnswer, writable, performable, performAnswer}
 use Rattle.node.specs.State.{turn}
-use Rattle.node.specs.Effect.{Did, did, says, stores, answers, Store, Said, said, told}
+use Rattle.node.specs.Effect.{Did, says, stores, answers, Store, Said, said, told}
 use Rattle.node.specs.Settings.{statusIn}
 use Rattle.node.specs.declared.Answer.{Answer}
 use Rattle.node.specs.declared.Node.{Node}
@@ -36,7 +36,8 @@ memoryWriteOf memory words packet =
 
 -- 0F: Perform IO takes an IO segment, and answers it with the read values filled in.
 abbrev pub withStore : Did → Store → Did
-withStore d s = did (d .reply) (d .words) (d .change) s (d .setup) (d .fault)
+withStore d s =
+    record { reply = d .reply; words = d .words; change = d .change; store = s; setup = d .setup; fault = d .fault; list = d .list }
 
 unfoldable pub performIoOf : ℕ → List ℕ → List ℕ → Did
 performIoOf status io packet =

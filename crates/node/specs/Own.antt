@@ -1,4 +1,4 @@
--- The node's own commands by ID: 01 'Covered' and step 6 of 'Requests'. An ID that is not in the list is ABORT. Assumes nothing.
+-- The node's own commands by ID: 01 'Covered' and step 6 of 'Requests', and 02, request 7. An ID that is not in the list is ABORT. Assumes nothing.
 use Prim.Native.Nat.{ℕ}
 use mathlib.Core.Bool.{Bool, _||_}
 use mathlib.Core.List.{List}
@@ -10,6 +10,7 @@ use Rattle.node.specs.Effect.{Did, says, Lent}
 use Rattle.node.specs.Settings.{statusIn, statusOf, pingOf, modeReadOf, modeWriteOf, maskReadOf, maskWriteOf}
 use Rattle.node.specs.Files.{readOf, testOf, loadOf, writeOf, eraseStartOf, attributeSetOf, summaryOf}
 use Rattle.node.specs.Memories.{memoryReadOf, memoryWriteOf, performIoOf}
+use Rattle.node.specs.Lists.{listWriteOf, listDeleteOf, listReadOf}
 use Rattle.node.specs.declared.Node.{Node}
 
 unfoldable pub settingsOf : ℕ → Node → ℕ → ℕ → List ℕ → Did
@@ -42,7 +43,14 @@ filesOf id n l packet =
     (pick (eqb id 0x48) (attributeSetOf n (l .flash) packet)
     (says ZeroLength.Abort)))))))
 
--- The commands on files and on memories; the others, and IDs that are not in the list, stand with the settings.
+unfoldable pub listsOf : ℕ → Node → ℕ → List ℕ → List ℕ → Did
+listsOf id n clock list packet =
+    pick (eqb id 0x1C) (listReadOf n list packet)
+    (pick (eqb id 0x5B) (listDeleteOf n list packet)
+    (pick (eqb id 0x5C) (listWriteOf n clock list packet)
+    (says ZeroLength.Abort)))
+
+-- The commands on files, on memories and on the Q-List; the others, and IDs that are not in the list, stand with the settings.
 abbrev pub onFiles : ℕ → Bool
 onFiles id =
     eqb id 0x05 || eqb id 0x45 || eqb id 0x06 || eqb id 0x46 || eqb id 0x07 || eqb id 0x47 || eqb id 0x48
@@ -50,6 +58,11 @@ onFiles id =
 abbrev pub onMemories : ℕ → Bool
 onMemories id = eqb id 0x0F || eqb id 0x10 || eqb id 0x50 || eqb id 0x11 || eqb id 0x51
 
+abbrev pub onList : ℕ → Bool
+onList id = eqb id 0x1C || eqb id 0x5B || eqb id 0x5C
+
 unfoldable pub ownOf : ℕ → Node → ℕ → ℕ → List ℕ → Lent → Did
 ownOf id n clock link packet l =
-    pick (onFiles id) (filesOf id n l packet) (pick (onMemories id) (memoriesOf id n l packet) (settingsOf id n clock link packet))
+    pick (onFiles id) (filesOf id n l packet)
+    (pick (onMemories id) (memoriesOf id n l packet)
+    (pick (onList id) (listsOf id n clock (l .further .list) packet) (settingsOf id n clock link packet)))

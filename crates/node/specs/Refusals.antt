@@ -1,4 +1,4 @@
--- When a call is refused, and by what: 01 'Call refusals', and 8 of 02, request 1. Each call has a list of causes in the table's order,
+-- When a call is refused, and by what: 01 'Call refusals', and 8 and 9 of 02, requests 1 and 7. Each call has a list of causes in the table's order,
 -- each where the call has that input; it is refused by the first that holds. Assumes nothing.
 use Prim.Native.Nat.{ℕ}
 use mathlib.Core.Bool.{Bool, true, false, _&&_, _||_, not}
@@ -46,6 +46,10 @@ memoryCause pm dm io = cause Refusal.MemorySize (ltb 32768 pm || ltb 32768 dm ||
 abbrev pub areaCause : ℕ → Cause
 areaCause area = cause Refusal.AreaSize (ltb area 32768)
 
+-- 9: more than 910 records are lent, or fewer than are listed. 02, request 7, has it after 8.
+abbrev pub listCause : Node → ℕ → Cause
+listCause n records = cause Refusal.ListSize (ltb 910 records || ltb records (n .listing .entries))
+
 -- 4: the link isn't below the port count; the slave is above 23.
 abbrev pub linkCause : Node → ℕ → Cause
 linkCause n link = cause Refusal.Number (leb (n .given .ports) link)
@@ -81,10 +85,11 @@ unaskedCause n slave = cause Refusal.Unasked (not (isAsked (n .pending) slave))
 
 -- The calls, by the numbers they are given and the lengths of what they are lent.
 
-unfoldable pub requestVerdict : Node → ℕ → ℕ → ℕ → ℕ → ℕ → ℕ → ℕ → ℕ → Verdict
-requestVerdict n link packet flash pm dm io area reply =
+unfoldable pub requestVerdict : Node → ℕ → ℕ → ℕ → ℕ → ℕ → ℕ → ℕ → ℕ → ℕ → Verdict
+requestVerdict n link packet flash pm dm io area records reply =
     firstOf
-    (flashCause n flash ∷ replyCause reply ∷ memoryCause pm dm io ∷ areaCause area ∷ linkCause n link ∷ stateCause n ∷ busyCause n packet ∷ [])
+    (flashCause n flash ∷ replyCause reply ∷ memoryCause pm dm io ∷ areaCause area ∷ listCause n records ∷ linkCause n link ∷ stateCause n
+    ∷ busyCause n packet ∷ [])
 
 unfoldable pub replyVerdict : Node → ℕ → ℕ → Verdict
 replyVerdict n slave reply = firstOf (replyCause reply ∷ slaveCause slave ∷ stateCause n ∷ unaskedCause n slave ∷ [])
@@ -94,6 +99,9 @@ pollVerdict n reply = firstOf (replyCause reply ∷ stateCause n ∷ pollCause n
 
 unfoldable pub eraseVerdict : Node → ℕ → Verdict
 eraseVerdict n flash = firstOf (flashCause n flash ∷ stateCause n ∷ [])
+
+unfoldable pub slowVerdict : Node → ℕ → Verdict
+slowVerdict n records = firstOf (listCause n records ∷ stateCause n ∷ [])
 
 -- At start, 1: the flash has neither size; 4: ports not 1 to 4, kind unknown or sub-detector above 7.
 unfoldable pub startVerdict : ℕ → ℕ → ℕ → ℕ → Verdict

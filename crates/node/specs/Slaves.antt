@@ -113,7 +113,7 @@ askedAt (Pending.Group a g) = a .at
 
 -- A slave reply taken, before its timeout, with receive errors counts one AMSWire error.
 abbrev pub withAmswire : Bool → Effect → Effect
-withAmswire errors e = effect (e .answer) (e .change) (e .store) (e .setup) (e .join) errors (e .fault) (e .pending) (e .reply)
+withAmswire errors e = effect (e .answer) (e .change) (e .store) (e .setup) (e .join) (e .list) errors (e .fault) (e .pending) (e .reply)
 
 abbrev pub errorIn : Heard → Bool
 errorIn h = not (h .late) && h .errors

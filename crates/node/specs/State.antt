@@ -3,6 +3,7 @@ use Prim.Native.Nat.{ℕ}
 use mathlib.Core.Bool.{Bool}
 use mathlib.Core.List.{List}
 use Rattle.flash.specs.declared.Erasing.{Erasing}
+use Rattle.qlist.specs.declared.Listing.{Listing}
 use Rattle.report.specs.Status.{counted}
 use Rattle.node.specs.declared.Answer.{Answer}
 use Rattle.node.specs.declared.Counts.{Counts}
@@ -14,7 +15,7 @@ use Rattle.node.specs.declared.Refusal.{Refusal}
 use Rattle.node.specs.declared.Turn.{Turn}
 use Rattle.node.specs.declared.Writing.{Writing}
 
--- The paper's number of each refusal: 01 'Call refusals', and 8 of 02, request 1.
+-- The paper's number of each refusal: 01 'Call refusals', and 8 and 9 of 02, requests 1 and 7.
 abbrev pub refusalNumber : Refusal → ℕ
 refusalNumber Refusal.FlashSize = 1
 refusalNumber Refusal.ReplySize = 2
@@ -24,10 +25,11 @@ refusalNumber Refusal.State = 5
 refusalNumber Refusal.Busy = 6
 refusalNumber Refusal.Unasked = 7
 refusalNumber Refusal.AreaSize = 8
+refusalNumber Refusal.ListSize = 9
 
-abbrev pub node : List ℕ → List ℕ → Given → ℕ → Counts → Erasing → Pending → Writing → Node
-node masks directory given mode counts erasing pending writing =
-    record { masks = masks; directory = directory; given = given; mode = mode; counts = counts; erasing = erasing; pending = pending; writing = writing }
+abbrev pub node : List ℕ → List ℕ → Given → ℕ → Counts → Erasing → Pending → Writing → Listing → Node
+node masks directory given mode counts erasing pending writing listing =
+    record { masks = masks; directory = directory; given = given; mode = mode; counts = counts; erasing = erasing; pending = pending; writing = writing; listing = listing }
 
 abbrev pub joining : ℕ → ℕ → Joining
 joining link words = record { link = link; words = words }
@@ -40,28 +42,32 @@ counts amswire flash = record { amswire = amswire; flash = flash }
 
 -- The node with other masks and another mode.
 abbrev pub withSettings : Node → List ℕ → ℕ → Node
-withSettings n masks mode = node masks (n .directory) (n .given) mode (n .counts) (n .erasing) (n .pending) (n .writing)
+withSettings n masks mode = node masks (n .directory) (n .given) mode (n .counts) (n .erasing) (n .pending) (n .writing) (n .listing)
 
 -- The node with another directory and another erasure.
 abbrev pub withFlash : Node → List ℕ → Erasing → Node
-withFlash n directory erasing = node (n .masks) directory (n .given) (n .mode) (n .counts) erasing (n .pending) (n .writing)
+withFlash n directory erasing = node (n .masks) directory (n .given) (n .mode) (n .counts) erasing (n .pending) (n .writing) (n .listing)
 
 -- The node with one FLASH error more, where there is one.
 abbrev pub faulted : Bool → Node → Node
 faulted fault n =
     node (n .masks) (n .directory) (n .given) (n .mode) (counts (n .counts .amswire) (counted fault (n .counts .flash))) (n .erasing)
-    (n .pending) (n .writing)
+    (n .pending) (n .writing) (n .listing)
 
 -- The node with one AMSWire error more, where there is one.
 abbrev pub errored : Bool → Node → Node
 errored error n =
     node (n .masks) (n .directory) (n .given) (n .mode) (counts (counted error (n .counts .amswire)) (n .counts .flash)) (n .erasing)
-    (n .pending) (n .writing)
+    (n .pending) (n .writing) (n .listing)
 
 -- The node with something else pending, or nothing.
 abbrev pub withPending : Node → Pending → Node
-withPending n pending = node (n .masks) (n .directory) (n .given) (n .mode) (n .counts) (n .erasing) pending (n .writing)
+withPending n pending = node (n .masks) (n .directory) (n .given) (n .mode) (n .counts) (n .erasing) pending (n .writing) (n .listing)
 
 -- The node with another write standing, or none.
 abbrev pub withWriting : Node → Writing → Node
-withWriting n writing = node (n .masks) (n .directory) (n .given) (n .mode) (n .counts) (n .erasing) (n .pending) writing
+withWriting n writing = node (n .masks) (n .directory) (n .given) (n .mode) (n .counts) (n .erasing) (n .pending) writing (n .listing)
+
+-- The node with other entries listed, or another turn. 02, request 7.
+abbrev pub withListing : Node → Listing → Node
+withListing n listing = node (n .masks) (n .directory) (n .given) (n .mode) (n .counts) (n .erasing) (n .pending) (n .writing) listing

@@ -1,4 +1,4 @@
--- Which values are states of a node: all others are refused by 5. 01 'Call refusals', row 5, and 02, requests 1 and 8. Assumes nothing.
+-- Which values are states of a node: all others are refused by 5. 01 'Call refusals', row 5, and 02, requests 1, 7 and 8. Assumes nothing.
 use Prim.Native.Nat.{ℕ, _+_, _*_, _/_}
 use mathlib.Core.Bool.{Bool, true, _&&_, _||_}
 use mathlib.Core.List.{List, [], _∷_}
@@ -6,7 +6,9 @@ use lib.ListN.{length}
 use lib.Dec.{ltb, leb, eqb}
 use Rattle.flash.specs.Geometry.{isSector, sizeOf}
 use Rattle.flash.specs.declared.Erasing.{Erasing}
+use Rattle.base.specs.Pick.{pick}
 use Rattle.group.specs.Slaves.{hasSlave, above}
+use Rattle.qlist.specs.declared.Listing.{Listing}
 use Rattle.node.specs.declared.Ask.{Ask}
 use Rattle.node.specs.declared.Gathering.{Gathering}
 use Rattle.node.specs.declared.Given.{Given}
@@ -68,6 +70,10 @@ abbrev pub writingOk : ℕ → Writing → Bool
 writingOk ports Writing.Nothing = true
 writingOk ports (Writing.File j) = ltb (j .link) ports && leb (j .words) 32768
 
+-- At most 910 entries are listed, and the turn is at a listed place; at 0 where none is. 02, request 7.
+abbrev pub listingOk : Listing → Bool
+listingOk g = leb (g .entries) 910 && pick (eqb (g .entries) 0) (eqb (g .turn) 0) (ltb (g .turn) (g .entries))
+
 unfoldable pub stateOk : Node → Bool
 stateOk n =
     givenOk (n .given)
@@ -76,3 +82,4 @@ stateOk n =
     && erasingOk (n .given .«flash_words») (n .erasing)
     && pendingOk (n .given .ports) (n .pending)
     && writingOk (n .given .ports) (n .writing)
+    && listingOk (n .listing)

@@ -38,6 +38,7 @@ pub fn with_flash(node: Node, directory: [u16; 32], erasing: Erasing) -> Node
     let counts = node.counts;
     let pending = node.pending;
     let writing = node.writing;
+    let listing = node.listing;
     Node {
         masks,
         directory,
@@ -47,6 +48,7 @@ pub fn with_flash(node: Node, directory: [u16; 32], erasing: Erasing) -> Node
         erasing,
         pending,
         writing,
+        listing,
     }
 }
 

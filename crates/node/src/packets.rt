@@ -29,6 +29,7 @@ pub fn with_writing(node: Node, writing: Writing) -> Node
     let counts = node.counts;
     let erasing = node.erasing;
     let pending = node.pending;
+    let listing = node.listing;
     Node {
         masks,
         directory,
@@ -38,6 +39,7 @@ pub fn with_writing(node: Node, writing: Writing) -> Node
         erasing,
         pending,
         writing,
+        listing,
     }
 }
 
@@ -67,7 +69,7 @@ pub fn end_writing(done: Turn) -> Turn
 pub fn join(node: Node, link: u32, from: usize, at: usize, packet: &[u16], area: &mut [u16]) -> Turn
     requires { ⌜ from ≤ length (now packet) ⌝ }
     requires { ⌜ at + length (now packet) ≤ length (now area) ⌝ }
-    ensures { λ r. ⌜ ((clock : ℕ) (flash : List ℕ) (m : Memories) (reply : List ℕ) → outcome r (lent flash m (further (now (area .exit))) reply) ≡ applied node (lent flash m (further (now (area .entry))) reply) (routed (Route.Join from at) node clock link (now (packet .entry)) (lent flash m (further (now (area .entry))) reply))) ⌝ }
+    ensures { λ r. ⌜ ((clock : ℕ) (flash : List ℕ) (m : Memories) (list reply : List ℕ) → outcome r (lent flash m (further (now (area .exit)) list) reply) ≡ applied node (lent flash m (further (now (area .entry)) list) reply) (routed (Route.Join from at) node clock link (now (packet .entry)) (lent flash m (further (now (area .entry)) list) reply))) ⌝ }
 {
     let words = &packet[from..];
     base::copy(area, at, words);
@@ -83,7 +85,7 @@ pub fn write_last(
     area: &mut [u16],
 ) -> Turn
     requires { ⌜ at + length (now packet) ≤ length (now area) ⌝ }
-    ensures { λ r. ⌜ ((clock link : ℕ) (m : Memories) (reply : List ℕ) → outcome r (lent (now (flash .exit)) m (further (now (area .exit))) reply) ≡ applied node (lent (now (flash .entry)) m (further (now (area .entry))) reply) (routed (Route.Last at) node clock link (now (packet .entry)) (lent (now (flash .entry)) m (further (now (area .entry))) reply))) ⌝ }
+    ensures { λ r. ⌜ ((clock link : ℕ) (m : Memories) (list reply : List ℕ) → outcome r (lent (now (flash .exit)) m (further (now (area .exit)) list) reply) ≡ applied node (lent (now (flash .entry)) m (further (now (area .entry)) list) reply) (routed (Route.Last at) node clock link (now (packet .entry)) (lent (now (flash .entry)) m (further (now (area .entry)) list) reply))) ⌝ }
 {
     base::copy(area, at, packet);
     let end = at + packet.len();

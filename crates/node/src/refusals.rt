@@ -1,7 +1,7 @@
 // When a call is refused: by numbers alone, before any lent word is looked at.
 ghost use mathlib.Core.Path.{_≡_};
 ghost use Rattle.node.specs.State.{refusalNumber};
-ghost use Rattle.node.specs.Refusals.{isPending, isAsked, requestVerdict, replyVerdict, pollVerdict, eraseVerdict, startVerdict};
+ghost use Rattle.node.specs.Refusals.{isPending, isAsked, requestVerdict, replyVerdict, pollVerdict, eraseVerdict, slowVerdict, startVerdict};
 use crate::Node;
 use crate::Pending;
 use crate::Refusal;
@@ -24,6 +24,7 @@ pub fn refusal_number(refusal: Refusal) -> u32
         Refusal::Busy => 6,
         Refusal::Unasked => 7,
         Refusal::AreaSize => 8,
+        Refusal::ListSize => 9,
     }
 }
 
@@ -58,12 +59,14 @@ pub fn request_verdict(
     dm: usize,
     io: usize,
     area: usize,
+    records: usize,
     reply: usize,
 ) -> Verdict
-    ensures { λ r. ⌜ r ≡ requestVerdict node link packet flash pm dm io area reply ⌝ }
+    ensures { λ r. ⌜ r ≡ requestVerdict node link packet flash pm dm io area records reply ⌝ }
 {
     let given = node.given;
     let pending = node.pending;
+    let listing = node.listing;
     if !size_ok(flash) | (flash != given.flash_words) {
         return Verdict::No(Refusal::FlashSize);
     }
@@ -75,6 +78,9 @@ pub fn request_verdict(
     }
     if area < 32768 {
         return Verdict::No(Refusal::AreaSize);
+    }
+    if (910 < records) | (records < listing.entries) {
+        return Verdict::No(Refusal::ListSize);
     }
     if given.ports as u32 <= link {
         return Verdict::No(Refusal::Number);
@@ -129,6 +135,19 @@ pub fn erase_verdict(node: Node, flash: usize) -> Verdict
     let given = node.given;
     if !size_ok(flash) | (flash != given.flash_words) {
         return Verdict::No(Refusal::FlashSize);
+    }
+    if !state_ok(node) {
+        return Verdict::No(Refusal::State);
+    }
+    Verdict::Fine
+}
+
+pub fn slow_verdict(node: Node, records: usize) -> Verdict
+    ensures { λ r. ⌜ r ≡ slowVerdict node records ⌝ }
+{
+    let listing = node.listing;
+    if (910 < records) | (records < listing.entries) {
+        return Verdict::No(Refusal::ListSize);
     }
     if !state_ok(node) {
         return Verdict::No(Refusal::State);

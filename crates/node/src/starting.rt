@@ -7,6 +7,7 @@ use crate::Node;
 use crate::Pending;
 use crate::Writing;
 use flash::Erasing;
+use qlist::Listing;
 
 // The masks at start: mask 0 of a CDDC names all slaves. 02, request 2.
 fn start_masks(kind: u16) -> [u32; 16]
@@ -37,6 +38,10 @@ pub fn begin(given: Given, flash: &[u16]) -> Node
         erasing: Erasing::Nothing,
         pending: Pending::Nothing,
         writing: Writing::Nothing,
+        listing: Listing {
+            entries: 0,
+            turn: 0,
+        },
     }
 }
 
@@ -65,5 +70,9 @@ pub fn no_node() -> Node
         erasing: Erasing::Nothing,
         pending: Pending::Nothing,
         writing: Writing::Nothing,
+        listing: Listing {
+            entries: 0,
+            turn: 0,
+        },
     }
 }

@@ -1,7 +1,7 @@
 // Whether a value is a state of a node.
 ghost use mathlib.Core.Path.{_≡_};
 ghost use Rattle.group.specs.Slaves.{hasSlave};
-ghost use Rattle.node.specs.Valid.{sizeOk, kindOk, portsOk, givenOk, masksOk, erasingOk, askOk, receivedOk, gatheringOk, pendingOk, writingOk, stateOk};
+ghost use Rattle.node.specs.Valid.{sizeOk, kindOk, portsOk, givenOk, masksOk, erasingOk, askOk, receivedOk, gatheringOk, pendingOk, writingOk, listingOk, stateOk};
 use crate::Ask;
 use crate::Gathering;
 use crate::Given;
@@ -9,6 +9,7 @@ use crate::Node;
 use crate::Pending;
 use crate::Writing;
 use flash::Erasing;
+use qlist::Listing;
 
 pub fn size_ok(words: usize) -> bool
     ensures { λ r. ⌜ r ≡ sizeOk words ⌝ }
@@ -126,6 +127,18 @@ fn writing_ok(ports: u16, writing: Writing) -> bool
     }
 }
 
+fn listing_ok(listing: Listing) -> bool
+    ensures { λ r. ⌜ r ≡ listingOk listing ⌝ }
+{
+    if 910 < listing.entries {
+        return false;
+    }
+    if listing.entries == 0 {
+        return listing.turn == 0;
+    }
+    listing.turn < listing.entries
+}
+
 // Whether this is a state of a node.
 pub fn state_ok(node: Node) -> bool
     ensures { λ r. ⌜ r ≡ stateOk node ⌝ }
@@ -135,10 +148,12 @@ pub fn state_ok(node: Node) -> bool
     let erasing = node.erasing;
     let pending = node.pending;
     let writing = node.writing;
+    let listing = node.listing;
     given_ok(given)
         & (node.mode <= 3)
         & masks_ok(&masks)
         & erasing_ok(given.flash_words, erasing)
         & pending_ok(given.ports, pending)
         & writing_ok(given.ports, writing)
+        & listing_ok(listing)
 }

@@ -4,6 +4,7 @@ use native.Mathlib.Omega.{arith}
 use lib.ListN.{length}
 use Rattle.base.proofs.Pick.{via}
 use Rattle.memory.specs.Segment.{memories}
+use Rattle.qlist.specs.Words.{recordsIn}
 use Rattle.node.specs.Effect.{Lent, lent, further, Outcome, outcome}
 use Rattle.node.specs.Route.{routeOf}
 use Rattle.node.specs.Calls.{judged, routed, requestOf}
@@ -18,7 +19,7 @@ use Rattle.node.proofs.Node.request.Tie as tie
 
 -- what is lent, and what is owed by the verdict and the route
 abbrev given : tie.Start → Lent
-given s = lent (s .args .flash .now) (memories (s .args .pm .now) (s .args .dm .now) (s .args .io .now)) (further (s .args .area .now)) (s .args .reply .now)
+given s = lent (s .args .flash .now) (memories (s .args .pm .now) (s .args .dm .now) (s .args .io .now)) (further (s .args .area .now) (s .args .list .now)) (s .args .reply .now)
 
 abbrev route : tie.Start → Route
 route s = routeOf (s .args .self) (s .args .link) (s .args .bc) (s .args .errors) (s .args .packet .now)
@@ -43,12 +44,12 @@ route-of-requires c κs = search needs
 
 take-request-requires : tie.Need-take-request-requires
 take-request-requires c κs =
-    let s = c .before .before .before .before .before .before .before .before .before .before .before .before .before .before .before .before .before in
+    let s = c .before .before .before .before .before .before .before .before .before .before .before .before .before .before .before .before .before .before .before in
     let a = s .args in
-    let fine = request-fine (a .self) (a .link) (length (a .packet .now)) (length (a .flash .now)) (length (a .pm .now)) (length (a .dm .now)) (length (a .io .now)) (length (a .area .now)) (length (a .reply .now)) (sym (c .before .before .before .before .before .before .before .before .before .request-verdict .ensures) ∙ c .before .before .before .before .before .before .before .enum-told .given .1) in
+    let fine = request-fine (a .self) (a .link) (length (a .packet .now)) (length (a .flash .now)) (length (a .pm .now)) (length (a .dm .now)) (length (a .io .now)) (length (a .area .now)) (recordsIn (a .list .now)) (length (a .reply .now)) (sym (c .before .before .before .before .before .before .before .before .before .before .request-verdict .ensures) ∙ c .before .before .before .before .before .before .before .before .enum-told .given .1) in
     let room = fine .room in
-    let told = c .before .before .before .before .before .before .route-of .ensures in
-    ((λ id e. fits s told e), ((λ from at e. let f = fits s told e in (f .0, omega (arith, f .1, room))), ((λ at e. omega (arith, fits s told e, room)), fine .buffer)))
+    let told = c .before .before .before .before .before .before .before .route-of .ensures in
+    ((λ id e. fits s told e), ((λ from at e. let f = fits s told e in (f .0, omega (arith, f .1, room))), ((λ at e. omega (arith, fits s told e, room)), (fine .buffer, (omega (arith, fine .most, fine .listed), fine .listed)))))
 
 enum-known-verdict : tie.Need-enum-known-verdict
 enum-known-verdict c = search needs
@@ -74,17 +75,20 @@ same-length-5 c = search needs
 same-length-6 : tie.Need-same-length-6
 same-length-6 c = search needs
 
+same-length-7 : tie.Need-same-length-7
+same-length-7 c = search needs
+
 returns : tie.Need-returns
 unfolding requestOf
 returns c =
-    let s = c .before .before .before .before .before .before .before .before .before .before .before .before .before .before .before .before .before .before .before .before .before .before .before .before .before .before .before .before .before .before in
-    via (λ (v : Verdict). owed s v (route s)) (sym (c .before .before .before .before .before .before .before .before .before .before .before .before .before .before .before .before .before .before .before .before .before .before .request-verdict .ensures) ∙ c .before .before .before .before .before .before .before .before .before .before .before .before .before .before .before .before .before .before .before .before .enum-told .given .1)
-    (c .before .before .before .before .before .before .before .before .before .before .before .before .take-request .ensures ∙ ap (owed s Verdict.Fine) (c .before .before .before .before .before .before .before .before .before .before .before .before .before .before .before .before .before .before .before .route-of .ensures))
+    let s = c .before .before .before .before .before .before .before .before .before .before .before .before .before .before .before .before .before .before .before .before .before .before .before .before .before .before .before .before .before .before .before .before .before .before in
+    via (λ (v : Verdict). owed s v (route s)) (sym (c .before .before .before .before .before .before .before .before .before .before .before .before .before .before .before .before .before .before .before .before .before .before .before .before .before .request-verdict .ensures) ∙ c .before .before .before .before .before .before .before .before .before .before .before .before .before .before .before .before .before .before .before .before .before .before .before .enum-told .given .1)
+    (c .before .before .before .before .before .before .before .before .before .before .before .before .before .before .take-request .ensures ∙ ap (owed s Verdict.Fine) (c .before .before .before .before .before .before .before .before .before .before .before .before .before .before .before .before .before .before .before .before .before .before .route-of .ensures))
 
 returns-2 : tie.Need-returns-2
 unfolding requestOf
 returns-2 c =
-    let s = c .before .before .before .before .before .before .before .before .before .before .before .before in
+    let s = c .before .before .before .before .before .before .before .before .before .before .before .before .before in
     via (λ (v : Verdict). owed s v (route s)) (sym (c .before .before .before .before .request-verdict .ensures) ∙ c .before .before .verdict .given .1)
     (ap (λ (t : Turn). outcome t (given s)) (c .refuse .ensures))
 
@@ -104,5 +108,6 @@ request-spec =
     same-length-4
     same-length-5
     same-length-6
+    same-length-7
     returns
     returns-2)

@@ -58,7 +58,7 @@ returns-2 c = let n = c .before .before .before .before .before .before .before 
     let status-is : ℕ → ℕ → ℕ → List ℕ = λ (a t s : ℕ). n .given .«program_version» ∷ a ∷ n .given .«subdetector_version» ∷ t % 65536 ∷ t / 65536 ∷ s ∷ 0 ∷ 0 ∷ n .counts .amswire ∷ n .counts .flash ∷ [] in
     closes n false (statusWords (n .given) (n .counts) (c .before .before .before .before .before .before .before .before .before .before .before .before .before .before .before .before .before .args .clock) (c .before .before .before .before .before .before .before .before .before .before .before .before .before .before .before .before .before .args .link)) w (c .before .before .close .ensures)
     (c .before .before .before .before .before .before .copy .ensures ∙ ap (λ (x : ℕ). laid w 0 (status-is x (c .before .before .before .before .before .before .before .before .before .before .before .ticks-since .result) (c .before .before .before .before .before .before .before .before .before .node-status .result))) (c .before .before .before .before .before .before .before .before .before .before .attributes .ensures) ∙ ap₂ (λ (t s : ℕ). laid w 0 (status-is (attributesOf (n .given .kind) (n .given .subdetector) (n .given .ports)) t s)) (c .before .before .before .before .before .before .before .before .before .before .before .ticks-since .ensures) (c .before .before .before .before .before .before .before .before .before .node-status .ensures))
-    refl (omega arith) (yes _ (eq-eqb _ _ (c .before .before .before .before .before .before .before .before .before .before .before .before .before .before .if1 .left)) refl)
+    refl (omega (arith, c .before .before .before .before .before .before .before .before .before .before .before .before .before .before .before .before .before .pre)) (yes _ (eq-eqb _ _ (c .before .before .before .before .before .before .before .before .before .before .before .before .before .before .if1 .left)) refl)
 
 pub status-spec : {M : Type 1} → statement M
 status-spec =

@@ -7,6 +7,7 @@ use Rattle.flash.specs.declared.Erasing.{Erasing}
 use Rattle.node.specs.declared.Pending.{Pending}
 use Rattle.node.specs.declared.Writing.{Writing}
 use Rattle.node.specs.Calls.{given}
+use Rattle.qlist.specs.Words.{listing}
 use borrow.Author.Needs.{needs}
 use Rattle.node.proofs.starting.begin.Statement.{statement}
 use Rattle.node.proofs.starting.begin.Tie as tie
@@ -18,10 +19,10 @@ start-masks-requires : tie.Need-start-masks-requires
 start-masks-requires c κs = search needs
 
 returns : tie.Need-returns
-returns c i = node (c .before .before .start-masks .ensures i) (c .before .before .before .scan .ensures i) (c .before .before .before .before .before .args .given) (yes {r = 2} 0 (eq-eqb _ _ (c .if1 .taken)) refl i) (counts 0 0) Erasing.Nothing Pending.Nothing Writing.Nothing
+returns c i = node (c .before .before .start-masks .ensures i) (c .before .before .before .scan .ensures i) (c .before .before .before .before .before .args .given) (yes {r = 2} 0 (eq-eqb _ _ (c .if1 .taken)) refl i) (counts 0 0) Erasing.Nothing Pending.Nothing Writing.Nothing (listing 0 0)
 
 returns-2 : tie.Need-returns-2
-returns-2 c i = node (c .before .before .start-masks .ensures i) (c .before .before .before .scan .ensures i) (c .before .before .before .before .before .args .given) (no {r = 0} 2 (ne-eqb _ _ (c .if1 .left)) refl i) (counts 0 0) Erasing.Nothing Pending.Nothing Writing.Nothing
+returns-2 c i = node (c .before .before .start-masks .ensures i) (c .before .before .before .scan .ensures i) (c .before .before .before .before .before .args .given) (no {r = 0} 2 (ne-eqb _ _ (c .if1 .left)) refl i) (counts 0 0) Erasing.Nothing Pending.Nothing Writing.Nothing (listing 0 0)
 
 pub begin-spec : {M : Type 1} → statement M
 begin-spec = tie.close (tie.spec scan-requires start-masks-requires returns returns-2)

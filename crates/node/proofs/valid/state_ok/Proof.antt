@@ -25,14 +25,19 @@ pending-ok-requires c κs = search needs
 writing-ok-requires : tie.Need-writing-ok-requires
 writing-ok-requires c κs = search needs
 
+listing-ok-requires : tie.Need-listing-ok-requires
+listing-ok-requires c κs = search needs
+
 returns : tie.Need-returns
 unfolding stateOk
 returns c =
     ap₂ _&&_
     (ap₂ _&&_
-    (ap₂ _&&_ (ap₂ (λ (x y : Bool). x && leb (c .before .before .before .before .before .before .before .before .before .args .node .mode) 3 && y) (c .before .before .before .before .before .before .given-ok .ensures) (c .before .before .before .masks-ok .ensures)) (c .before .before .erasing-ok .ensures))
-    (c .before .pending-ok .ensures))
-    (c .writing-ok .ensures)
+    (ap₂ _&&_
+    (ap₂ _&&_ (ap₂ (λ (x y : Bool). x && leb (c .before .before .before .before .before .before .before .before .before .before .before .args .node .mode) 3 && y) (c .before .before .before .before .before .before .before .given-ok .ensures) (c .before .before .before .before .masks-ok .ensures)) (c .before .before .before .erasing-ok .ensures))
+    (c .before .before .pending-ok .ensures))
+    (c .before .writing-ok .ensures))
+    (c .listing-ok .ensures)
 
 pub state-ok-spec : {M : Type 1} → statement M
 state-ok-spec =
@@ -44,4 +49,5 @@ state-ok-spec =
     erasing-ok-requires
     pending-ok-requires
     writing-ok-requires
+    listing-ok-requires
     returns)
