@@ -16,6 +16,7 @@ use Rattle.base.proofs.Laid.{length-laid, take-laid, part-laid, part-laid-befor
 use Rattle.node.specs.declared.Node.{Node}
 use Rattle.node.specs.declared.Pending.{Pending}
 use Rattle.node.specs.declared.Writing.{Writing}
+use Rattle.qlist.specs.declared.Listing.{Listing}
 use Rattle.codec.specs.Bytes.{wordsIn, bytesOf, storeWords}
 use Rattle.codec.specs.Places.{packed, total}
 use Rattle.codec.specs.StateBytes.{sizes, numbersOf, waitOf, standingOf, tailSizes, tailNumbers, tailBytes, encodeOf, nodeIn, alike}
@@ -32,34 +33,34 @@ pub length-numbers : (n : Node) → length (packed sizes (numbersOf n)) ≡ 44
 unfolding total
 length-numbers n = length-packed sizes (numbersOf n) refl
 
-pub length-tail : (w : Writing) (p : Pending) → length (tailBytes w p) ≡ 16
+pub length-tail : (w : Writing) (p : Pending) (g : Listing) → length (tailBytes w p g) ≡ 20
 unfolding total
-length-tail w p = length-packed tailSizes (tailNumbers (standingOf w) (waitOf p)) refl
+length-tail w p g = length-packed tailSizes (tailNumbers (standingOf w) (waitOf p) g) refl
 
-pub encoded : (n : Node) (bs : List ℕ) {b s t end : List ℕ} → length bs ≡ 188 → length (n .masks) ≡ 16 → length (n .directory) ≡ 32
+pub encoded : (n : Node) (bs : List ℕ) {b s t end : List ℕ} → length bs ≡ 192 → length (n .masks) ≡ 16 → length (n .directory) ≡ 32
     → b ≡ laid bs 0 (packed sizes (numbersOf n))
     → s ≡ storeWords 4 (n .masks) (part b 44 64)
     → t ≡ storeWords 2 (n .directory) (part (putMid 44 64 b s) 108 64)
-    → end ≡ laid (putMid 108 64 (putMid 44 64 b s) t) 172 (tailBytes (n .writing) (n .pending))
+    → end ≡ laid (putMid 108 64 (putMid 44 64 b s) t) 172 (tailBytes (n .writing) (n .pending) (n .listing))
     → end ≡ encodeOf n
 unfolding encodeOf
 encoded n bs {b} {s} {t} long ms ds eb es et ew =
     let p = packed sizes (numbersOf n) in
     let m = bytesOf 4 (n .masks) in
     let d = bytesOf 2 (n .directory) in
-    let w = tailBytes (n .writing) (n .pending) in
+    let w = tailBytes (n .writing) (n .pending) (n .listing) in
     let lp : length p ≡ 44 = length-numbers n in
     let lm : length m ≡ 64 = length-bytes 4 (n .masks) ∙ ap (_* 4) ms in
     let ld : length d ≡ 64 = length-bytes 2 (n .directory) ∙ ap (_* 2) ds in
-    let lw : length w ≡ 16 = length-tail (n .writing) (n .pending) in
+    let lw : length w ≡ 20 = length-tail (n .writing) (n .pending) (n .listing) in
     let lpm : length (p ++ m) ≡ 108 = length-append p m ∙ omega arith in
     let lpmd : length (p ++ m ++ d) ≡ 172 = length-append (p ++ m) d ∙ omega arith in
-    let all : length (p ++ m ++ d ++ w) ≡ 188 = length-append (p ++ m ++ d) w ∙ omega arith in
-    let lb : length b ≡ 188 = ap length eb ∙ length-laid bs 0 p (omega arith) ∙ long in
+    let all : length (p ++ m ++ d ++ w) ≡ 192 = length-append (p ++ m ++ d) w ∙ omega arith in
+    let lb : length b ≡ 192 = ap length eb ∙ length-laid bs 0 p (omega arith) ∙ long in
     let first : putMid 44 64 b s ≡ laid b 44 m = put-part b 44 64 m s (omega arith) lm es in
     let both : putMid 44 64 b s ≡ laid bs 0 (p ++ m) =
     first ∙ ap (λ (l : List ℕ). laid l 44 m) eb ∙ ap (λ (i : ℕ). laid (laid bs 0 p) i m) (omega arith) ∙ laid-laid bs 0 p m (omega arith) in
-    let lc : length (putMid 44 64 b s) ≡ 188 = ap length both ∙ length-laid bs 0 (p ++ m) (omega arith) ∙ long in
+    let lc : length (putMid 44 64 b s) ≡ 192 = ap length both ∙ length-laid bs 0 (p ++ m) (omega arith) ∙ long in
     let second : putMid 108 64 (putMid 44 64 b s) t ≡ laid (putMid 44 64 b s) 108 d = put-part (putMid 44 64 b s) 108 64 d t (omega arith) ld et in
     let three : putMid 108 64 (putMid 44 64 b s) t ≡ laid bs 0 (p ++ m ++ d) =
     second ∙ ap (λ (l : List ℕ). laid l 108 d) both ∙ ap (λ (i : ℕ). laid (laid bs 0 (p ++ m)) i d) (omega arith) ∙ laid-laid bs 0 (p ++ m) d (omega arith) in
@@ -82,47 +83,47 @@ alike-both (x ∷ a) (y ∷ b) c d h = ap (λ (t : Bool). eqb x y && t) (alike-b
 alike-behind : (a c d : List ℕ) → alike (a ++ c) (a ++ d) ≡ alike c d
 alike-behind a c d = alike-both a a c d refl ∙ ap (λ (t : Bool). t && alike c d) (alike-same a)
 
-between : (bytes : List ℕ) → length bytes ≡ 188 → Below 256 bytes
+between : (bytes : List ℕ) → length bytes ≡ 192 → Below 256 bytes
     → bytesOf 4 (wordsIn 4 16 (drop 44 bytes)) ++ bytesOf 2 (wordsIn 2 32 (drop 108 bytes)) ≡ part bytes 44 128
 between bytes long b =
-    let l44 : length (drop 44 bytes) ≡ 144 = length-drop 44 bytes ∙ omega arith in
-    let l108 : length (drop 108 bytes) ≡ 80 = length-drop 108 bytes ∙ omega arith in
+    let l44 : length (drop 44 bytes) ≡ 148 = length-drop 44 bytes ∙ omega arith in
+    let l108 : length (drop 108 bytes) ≡ 84 = length-drop 108 bytes ∙ omega arith in
     let m : bytesOf 4 (wordsIn 4 16 (drop 44 bytes)) ≡ take 64 (drop 44 bytes) = bytes-words 4 16 (drop 44 bytes) (omega arith) (below-drop 44 bytes b) in
     let d : bytesOf 2 (wordsIn 2 32 (drop 108 bytes)) ≡ take 64 (drop 64 (drop 44 bytes)) =
     bytes-words 2 32 (drop 108 bytes) (omega arith) (below-drop 108 bytes b) ∙ ap (take 64) (sym (drop-drop 64 44 bytes)) in
     (λ i. m i ++ d i) ∙ sym (take-add 64 64 (drop 44 bytes))
 
 -- the numbers of a state stored at the front of some bytes, and what 02 adds at their end
-module _ (n : Node) (bs : List ℕ) {b after : List ℕ} (long : length bs ≡ 188) (eb : b ≡ laid bs 0 (packed sizes (numbersOf n))) (ew : after ≡ laid b 172 (tailBytes (n .writing) (n .pending))) where
-  middle-long : length b ≡ 188
+module _ (n : Node) (bs : List ℕ) {b after : List ℕ} (long : length bs ≡ 192) (eb : b ≡ laid bs 0 (packed sizes (numbersOf n))) (ew : after ≡ laid b 172 (tailBytes (n .writing) (n .pending) (n .listing))) where
+  middle-long : length b ≡ 192
   middle-long = ap length eb ∙ length-laid bs 0 (packed sizes (numbersOf n)) (omega (arith, length-numbers n)) ∙ long
 
-  pub after-long : length after ≡ 188
-  after-long = ap length ew ∙ length-laid b 172 (tailBytes (n .writing) (n .pending)) (omega (arith, length-tail (n .writing) (n .pending), middle-long)) ∙ middle-long
+  pub after-long : length after ≡ 192
+  after-long = ap length ew ∙ length-laid b 172 (tailBytes (n .writing) (n .pending) (n .listing)) (omega (arith, length-tail (n .writing) (n .pending) (n .listing), middle-long)) ∙ middle-long
 
   pub numbers-front : take 44 after ≡ packed sizes (numbersOf n)
   numbers-front =
-      ap (take 44) ew ∙ part-laid-before b 0 44 172 (tailBytes (n .writing) (n .pending)) (omega (arith, length-tail (n .writing) (n .pending), middle-long)) (omega arith)
+      ap (take 44) ew ∙ part-laid-before b 0 44 172 (tailBytes (n .writing) (n .pending) (n .listing)) (omega (arith, length-tail (n .writing) (n .pending) (n .listing), middle-long)) (omega arith)
       ∙ ap (take 44) eb ∙ take-laid bs 0 (packed sizes (numbersOf n)) 44 (omega (arith, length-numbers n)) (omega arith)
 
-  pub tail-back : part after 172 16 ≡ tailBytes (n .writing) (n .pending)
+  pub tail-back : part after 172 20 ≡ tailBytes (n .writing) (n .pending) (n .listing)
   tail-back =
-      ap (λ (l : List ℕ). part l 172 16) ew ∙ part-laid b 172 (tailBytes (n .writing) (n .pending)) 16 (length-tail (n .writing) (n .pending)) (omega (arith, middle-long))
+      ap (λ (l : List ℕ). part l 172 20) ew ∙ part-laid b 172 (tailBytes (n .writing) (n .pending) (n .listing)) 20 (length-tail (n .writing) (n .pending) (n .listing)) (omega (arith, middle-long))
 
-pub ends-alike : (bytes front back : List ℕ) → length bytes ≡ 188 → Below 256 bytes → front ≡ packed sizes (numbersOf (nodeIn bytes))
-    → back ≡ tailBytes (nodeIn bytes .writing) (nodeIn bytes .pending)
-    → (alike front (take 44 bytes) && alike back (part bytes 172 16)) ≡ alike (encodeOf (nodeIn bytes)) bytes
+pub ends-alike : (bytes front back : List ℕ) → length bytes ≡ 192 → Below 256 bytes → front ≡ packed sizes (numbersOf (nodeIn bytes))
+    → back ≡ tailBytes (nodeIn bytes .writing) (nodeIn bytes .pending) (nodeIn bytes .listing)
+    → (alike front (take 44 bytes) && alike back (part bytes 172 20)) ≡ alike (encodeOf (nodeIn bytes)) bytes
 unfolding encodeOf nodeIn
 ends-alike bytes front back long b ef eb =
     let n = nodeIn bytes in
     let p : List ℕ = packed sizes (numbersOf n) in
-    let w : List ℕ = tailBytes (n .writing) (n .pending) in
+    let w : List ℕ = tailBytes (n .writing) (n .pending) (n .listing) in
     let mid : List ℕ = part bytes 44 128 in
-    let last : List ℕ = part bytes 172 16 in
+    let last : List ℕ = part bytes 172 20 in
     let lt : length (take 44 bytes) ≡ 44 = length-take-le 44 bytes (omega arith) in
-    let l172 : length (drop 172 bytes) ≡ 16 = length-drop 172 bytes ∙ omega arith in
+    let l172 : length (drop 172 bytes) ≡ 20 = length-drop 172 bytes ∙ omega arith in
     let whole : take 44 bytes ++ (mid ++ last) ≡ bytes =
-    ap (λ (l : List ℕ). take 44 bytes ++ (mid ++ l)) (take-all 16 (drop 172 bytes) (omega arith)) ∙ sym (part-split bytes 44 128) in
+    ap (λ (l : List ℕ). take 44 bytes ++ (mid ++ l)) (take-all 20 (drop 172 bytes) (omega arith)) ∙ sym (part-split bytes 44 128) in
     let inner : mid ++ w ≡ bytesOf 4 (n .masks) ++ (bytesOf 2 (n .directory) ++ w) =
     ap (λ (l : List ℕ). l ++ w) (sym (between bytes long b)) ∙ append-assoc (bytesOf 4 (n .masks)) (bytesOf 2 (n .directory)) w in
     (λ i. alike (ef i) (take 44 bytes) && alike (eb i) last)

@@ -5,17 +5,19 @@ use mathlib.Core.Path.{_≡_, refl}
 use mathlib.Core.Bool.{Bool, true, false, _&&_, _||_, false≢true}
 use lib.Dec.{ltb, leb, eqb}
 use borrow.Author.Tests.{eqb-true, leb-true, ltb-true}
+use Rattle.base.specs.Pick.{pick}
 use Rattle.base.proofs.Pick.{pick-case, and-left, and-right}
 use Rattle.flash.specs.Geometry.{isSector, bySector, sizeOf}
 use Rattle.flash.specs.declared.Erasing.{Erasing}
 use Rattle.group.specs.Tally.{tallyNumber}
 use Rattle.group.specs.declared.Tally.{Tally}
 use Rattle.group.specs.declared.ZeroLength.{ZeroLength}
-use Rattle.node.specs.Valid.{sizeOk, kindOk, portsOk, givenOk, erasingOk, askOk, gatheringOk, pendingOk, writingOk}
+use Rattle.node.specs.Valid.{sizeOk, kindOk, portsOk, givenOk, erasingOk, askOk, gatheringOk, pendingOk, writingOk, listingOk}
 use Rattle.node.specs.declared.Ask.{Ask}
 use Rattle.node.specs.declared.Given.{Given}
 use Rattle.node.specs.declared.Pending.{Pending}
 use Rattle.node.specs.declared.Writing.{Writing}
+use Rattle.qlist.specs.declared.Listing.{Listing}
 use Rattle.node.proofs.Ranges.{gathered-tells}
 use Rattle.codec.specs.StateBytes.{progressOf, waitOf, standingOf}
 
@@ -120,3 +122,17 @@ write-small ports Writing.Nothing b h = record { write = omega arith; link = ome
 write-small ports (Writing.File j) b h =
     let l = ltb-true (j .link) ports (and-left (ltb (j .link) ports) (leb (j .words) 32768) h) in
     record { write = omega arith; link = omega arith; words = leb-true (j .words) 32768 (and-right (ltb (j .link) ports) (leb (j .words) 32768) h) }
+
+pub record ListSmall (g : Listing) : Type 0 where
+  pub entries : g .entries ≤ 910
+  pub turn : g .turn ≤ 910
+
+pub list-small : (g : Listing) → listingOk g ≡ true → ListSmall g
+list-small g h =
+    let few = leb-true (g .entries) 910 (and-left (leb (g .entries) 910) (pick (eqb (g .entries) 0) (eqb (g .turn) 0) (ltb (g .turn) (g .entries))) h) in
+    let next = and-right (leb (g .entries) 910) (pick (eqb (g .entries) 0) (eqb (g .turn) 0) (ltb (g .turn) (g .entries))) h in
+    record { entries = few; turn = by (eqb (g .entries) 0) next few }
+  where
+    by : (t : Bool) → pick t (eqb (g .turn) 0) (ltb (g .turn) (g .entries)) ≡ true → g .entries ≤ 910 → g .turn ≤ 910
+    by true k few = omega (arith, eqb-true (g .turn) 0 k)
+    by false k few = omega (arith, ltb-true (g .turn) (g .entries) k)

@@ -22,6 +22,7 @@ use Rattle.node.specs.Valid.{stateOk, erasingOk}
 use Rattle.node.specs.declared.Node.{Node}
 use Rattle.node.specs.declared.Pending.{Pending}
 use Rattle.node.specs.declared.Writing.{Writing}
+use Rattle.qlist.specs.Words.{listing}
 use Rattle.node.proofs.Ranges.{and-both, ranges-tell, mask-below}
 use Rattle.codec.specs.Bytes.{wordsIn, wordsOf, bytesOf}
 use Rattle.codec.specs.Places.{packed, numbersIn, Fit}
@@ -31,7 +32,7 @@ use Rattle.codec.proofs.Runs.{length-bytes, words-bytes, store-words}
 use Rattle.codec.proofs.Alike.{alike-tells, alike-same}
 use Rattle.codec.proofs.Packing.{numbers-packed}
 use Rattle.codec.proofs.Encoding.{length-numbers, length-tail}
-use Rattle.codec.proofs.Small.{given-small, sector-from, progress-small, wait-small, write-small}
+use Rattle.codec.proofs.Small.{given-small, sector-from, progress-small, wait-small, write-small, list-small}
 
 -- the cases
 
@@ -77,7 +78,7 @@ nodeFrom xs masks directory ys =
     })
     (getD xs 3 0) (counts (getD xs 7 0) (getD xs 8 0)) (erasingOf (progress (getD xs 9 0) (getD xs 13 0)))
     (pendingOf (wait (getD xs 10 0) (getD xs 14 0) (getD xs 15 0) (getD xs 16 0) (getD xs 17 0) (getD xs 18 0) (getD xs 19 0) (getD xs 20 0) (getD ys 4 0) (getD ys 5 0)))
-    (writingOf (standing (getD ys 0 0) (getD ys 1 0) (getD ys 3 0)))
+    (writingOf (standing (getD ys 0 0) (getD ys 1 0) (getD ys 3 0))) (listing (getD ys 7 0) (getD ys 8 0))
 
 node-from : (bytes : List ℕ) → nodeIn bytes ≡ nodeFrom (numbersIn 0 sizes bytes) (wordsIn 4 16 (drop 44 bytes)) (wordsIn 2 32 (drop 108 bytes)) (numbersIn 172 tailSizes bytes)
 unfolding nodeIn numbersIn
@@ -97,15 +98,16 @@ fits n ok t =
     let m = leb-true (n .mode) 3 (r .mode) in
     (omega (arith, g .kind), (omega (arith, g .ports), (omega (arith, g .subdetector), (omega (arith, m), (omega (arith, t .program), (omega (arith, t .version), (omega (arith, t .tests), (omega (arith, t .amswire), (omega (arith, t .flash), (omega (arith, p .0), (omega (arith, w .pending), (omega (arith, t .clock), (omega (arith, g .size), (omega (arith, p .1), (omega (arith, w .link), (omega (arith, w .slave), (omega (arith, w .from), (omega (arith, w .tally), (omega (arith, w .set), (omega (arith, t .asked), (omega (arith, w .words), tt)))))))))))))))))))))
 
-tail-fits : (n : Node) → stateOk n ≡ true → Typed n → Fit tailSizes (tailNumbers (standingOf (n .writing)) (waitOf (n .pending)))
+tail-fits : (n : Node) → stateOk n ≡ true → Typed n → Fit tailSizes (tailNumbers (standingOf (n .writing)) (waitOf (n .pending)) (n .listing))
 unfolding Fit
 tail-fits n ok t =
     let r = ranges-tell n ok in
     let g = given-small (n .given) (r .given) in
     let w = write-small (n .given .ports) (n .writing) (g .ports) (r .writing) in
-    let p = wait-small (n .given .ports) (n .pending) (g .ports) (r .pending) in (
+    let p = wait-small (n .given .ports) (n .pending) (g .ports) (r .pending) in
+    let l = list-small (n .listing) (r .listing) in (
       omega (arith, w .write),
-      (omega (arith, w .link), (omega arith, (omega (arith, w .words), (omega (arith, p .received), (omega (arith, t .received), (omega arith, tt)))))),
+      (omega (arith, w .link), (omega arith, (omega (arith, w .words), (omega (arith, p .received), (omega (arith, t .received), (omega arith, (omega (arith, l .entries), (omega (arith, l .turn), tt)))))))),
     )
 
 node-back : (n : Node) → stateOk n ≡ true → Typed n → nodeIn (encodeOf n) ≡ n
@@ -115,7 +117,7 @@ node-back n ok t =
     let p = packed sizes (numbersOf n) in
     let ms = bytesOf 4 (n .masks) in
     let ds = bytesOf 2 (n .directory) in
-    let w = tailBytes (n .writing) (n .pending) in
+    let w = tailBytes (n .writing) (n .pending) (n .listing) in
     let lp : length p ≡ 44 = length-numbers n in
     let lm : length ms ≡ 64 = length-bytes 4 (n .masks) ∙ ap (_* 4) (t .masks) in
     let ld : length ds ≡ 64 = length-bytes 2 (n .directory) ∙ ap (_* 2) (t .directory) in
@@ -131,23 +133,23 @@ node-back n ok t =
     let directory : wordsIn 2 32 (drop 108 (p ++ (ms ++ (ds ++ w)))) ≡ n .directory =
     ap (λ (l : List ℕ). wordsIn 2 32 (drop 108 l)) two ∙ ap (wordsIn 2 32) (drop-at (p ++ ms) (ds ++ w) 108 lpm)
     ∙ words-back 2 32 (n .directory) w (t .directory) (t .entries) in
-    let tail : numbersIn 172 tailSizes (p ++ (ms ++ (ds ++ w))) ≡ tailNumbers (standingOf (n .writing)) (waitOf (n .pending)) =
+    let tail : numbersIn 172 tailSizes (p ++ (ms ++ (ds ++ w))) ≡ tailNumbers (standingOf (n .writing)) (waitOf (n .pending)) (n .listing) =
     ap (numbersIn 172 tailSizes) three
-    ∙ numbers-packed tailSizes (tailNumbers (standingOf (n .writing)) (waitOf (n .pending))) (p ++ ms ++ ds) [] 172 lpmd (tail-fits n ok t) in
+    ∙ numbers-packed tailSizes (tailNumbers (standingOf (n .writing)) (waitOf (n .pending)) (n .listing)) (p ++ ms ++ ds) [] 172 lpmd (tail-fits n ok t) in
     node-from (p ++ (ms ++ (ds ++ w)))
     ∙ (λ i. nodeFrom (numbers i) (masks i) (directory i) (tail i))
-    ∙ (λ i. node (n .masks) (n .directory) (n .given) (n .mode) (n .counts) (erasing-back (n .given .«flash_words») (n .erasing) (r .erasing) i) (pending-back (n .pending) i) (writing-back (n .writing) i))
+    ∙ (λ i. node (n .masks) (n .directory) (n .given) (n .mode) (n .counts) (erasing-back (n .given .«flash_words») (n .erasing) (r .erasing) i) (pending-back (n .pending) i) (writing-back (n .writing) i) (n .listing))
 
-length-encoded : (n : Node) → Typed n → length (encodeOf n) ≡ 188
+length-encoded : (n : Node) → Typed n → length (encodeOf n) ≡ 192
 unfolding encodeOf
 length-encoded n t =
     let ms = bytesOf 4 (n .masks) in
     let ds = bytesOf 2 (n .directory) in
-    let w = tailBytes (n .writing) (n .pending) in
+    let w = tailBytes (n .writing) (n .pending) (n .listing) in
     let lm : length ms ≡ 64 = length-bytes 4 (n .masks) ∙ ap (_* 4) (t .masks) in
     let ld : length ds ≡ 64 = length-bytes 2 (n .directory) ∙ ap (_* 2) (t .directory) in
-    let a : length (ds ++ w) ≡ 80 = length-append ds w ∙ omega (arith, length-tail (n .writing) (n .pending)) in
-    let b : length (ms ++ (ds ++ w)) ≡ 144 = length-append ms (ds ++ w) ∙ omega arith in
+    let a : length (ds ++ w) ≡ 84 = length-append ds w ∙ omega (arith, length-tail (n .writing) (n .pending) (n .listing)) in
+    let b : length (ms ++ (ds ++ w)) ≡ 148 = length-append ms (ds ++ w) ∙ omega arith in
     length-append (packed sizes (numbersOf n)) (ms ++ (ds ++ w)) ∙ omega (arith, length-numbers n)
 
 pub decoded-encoded : DecodedEncoded
@@ -155,12 +157,12 @@ unfolding areState
 decoded-encoded n ok t =
     let back : nodeIn (encodeOf n) ≡ n = node-back n ok t in
     let same : alike (encodeOf (nodeIn (encodeOf n))) (encodeOf n) ≡ true = ap (λ (m : Node). alike (encodeOf m) (encodeOf n)) back ∙ alike-same (encodeOf n) in
-    (and-both (eq-eqb (length (encodeOf n)) 188 (length-encoded n t)) (and-both same (ap stateOk back ∙ ok)), back)
+    (and-both (eq-eqb (length (encodeOf n)) 192 (length-encoded n t)) (and-both same (ap stateOk back ∙ ok)), back)
 
 pub encoded-decoded : EncodedDecoded
 unfolding areState
 encoded-decoded bytes h =
-    let rest = and-right (eqb (length bytes) 188) (alike (encodeOf (nodeIn bytes)) bytes && stateOk (nodeIn bytes)) h in
+    let rest = and-right (eqb (length bytes) 192) (alike (encodeOf (nodeIn bytes)) bytes && stateOk (nodeIn bytes)) h in
     alike-tells (encodeOf (nodeIn bytes)) bytes (and-left (alike (encodeOf (nodeIn bytes)) bytes) (stateOk (nodeIn bytes)) rest)
 
 pub words-read : (k : ℕ) → 0 < k → WordsBack k

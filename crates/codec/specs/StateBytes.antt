@@ -1,5 +1,5 @@
--- The state bytes: the 188 bytes by which a host keeps a node's state. Numbers stand low byte first, and what a case does not use
--- is 0. 01 'Covered' and 'Call refusals', row 5; from 172 on they are 02's, requests 1 and 8. Assumes nothing.
+-- The state bytes: the 192 bytes by which a host keeps a node's state. Numbers stand low byte first, and what a case does not use
+-- is 0. 01 'Covered' and 'Call refusals', row 5; from 172 on they are 02's, requests 1, 8 and 7. Assumes nothing.
 use Prim.Native.Nat.{ℕ}
 use mathlib.Core.Bool.{Bool, true, false, _&&_}
 use mathlib.Core.List.{List, [], _∷_, _++_}
@@ -21,6 +21,8 @@ use Rattle.node.specs.declared.Given.{Given}
 use Rattle.node.specs.declared.Node.{Node}
 use Rattle.node.specs.declared.Pending.{Pending}
 use Rattle.node.specs.declared.Writing.{Writing}
+use Rattle.qlist.specs.Words.{listing}
+use Rattle.qlist.specs.declared.Listing.{Listing}
 use Rattle.codec.specs.Bytes.{numberAt, wordsIn, bytesOf}
 use Rattle.codec.specs.Places.{packed}
 use Rattle.codec.specs.declared.Standing.{Standing}
@@ -108,20 +110,21 @@ numbersOf n =
     ++ (middleNumbers (n .given) (progressOf (n .erasing)) (waitOf (n .pending)) ++ lastNumbers (waitOf (n .pending)))
 
 -- What 02 adds: at 172, whether a write stands, its link, two bytes that are always 0, and its words joined (request 1); at 180, of a group, the
--- words received of a reply in packets, the RX status of the last packet, and two bytes that are always 0 (request 8).
+-- words received of a reply in packets, the RX status of the last packet, and two bytes that are always 0 (request 8); at 188, the entries
+-- listed and the place whose turn is next (request 7).
 abbrev pub tailSizes : List ℕ
-tailSizes = 1 ∷ 1 ∷ 2 ∷ 4 ∷ 4 ∷ 2 ∷ 2 ∷ []
+tailSizes = 1 ∷ 1 ∷ 2 ∷ 4 ∷ 4 ∷ 2 ∷ 2 ∷ 2 ∷ 2 ∷ []
 
-abbrev pub tailNumbers : Standing → Wait → List ℕ
-tailNumbers s w = s .write ∷ s .link ∷ 0 ∷ s .words ∷ w .received ∷ w .«rx_status» ∷ 0 ∷ []
+abbrev pub tailNumbers : Standing → Wait → Listing → List ℕ
+tailNumbers s w g = s .write ∷ s .link ∷ 0 ∷ s .words ∷ w .received ∷ w .«rx_status» ∷ 0 ∷ g .entries ∷ g .turn ∷ []
 
-abbrev pub tailBytes : Writing → Pending → List ℕ
-tailBytes w p = packed tailSizes (tailNumbers (standingOf w) (waitOf p))
+abbrev pub tailBytes : Writing → Pending → Listing → List ℕ
+tailBytes w p g = packed tailSizes (tailNumbers (standingOf w) (waitOf p) g)
 
 -- The bytes of a state: its numbers; at 44 the masks, four bytes each; at 108 the directory's words; at 172 what 02 adds.
 unfoldable pub encodeOf : Node → List ℕ
 encodeOf n =
-    packed sizes (numbersOf n) ++ (bytesOf 4 (n .masks) ++ (bytesOf 2 (n .directory) ++ tailBytes (n .writing) (n .pending)))
+    packed sizes (numbersOf n) ++ (bytesOf 4 (n .masks) ++ (bytesOf 2 (n .directory) ++ tailBytes (n .writing) (n .pending) (n .listing)))
 
 -- The node that bytes stand for.
 abbrev pub portsIn : List ℕ → ℕ
@@ -154,11 +157,17 @@ waitIn bytes =
 abbrev pub standingIn : List ℕ → Standing
 standingIn bytes = standing (numberAt 1 172 bytes) (numberAt 1 173 bytes) (numberAt 4 176 bytes)
 
+abbrev pub listedIn : List ℕ → ℕ
+listedIn bytes = numberAt 2 188 bytes
+
+abbrev pub listingIn : List ℕ → Listing
+listingIn bytes = listing (listedIn bytes) (numberAt 2 190 bytes)
+
 unfoldable pub nodeIn : List ℕ → Node
 nodeIn bytes =
     node (wordsIn 4 16 (drop 44 bytes)) (wordsIn 2 32 (drop 108 bytes)) (givenIn bytes) (numberAt 1 3 bytes)
     (counts (numberAt 2 10 bytes) (numberAt 2 12 bytes)) (erasingOf (progressIn bytes)) (pendingOf (waitIn bytes))
-    (writingOf (standingIn bytes))
+    (writingOf (standingIn bytes)) (listingIn bytes)
 
 -- Two runs of bytes are the same.
 unfoldable pub alike : List ℕ → List ℕ → Bool
@@ -167,6 +176,6 @@ alike [] (y ∷ ys) = false
 alike (x ∷ xs) [] = false
 alike (x ∷ xs) (y ∷ ys) = eqb x y && alike xs ys
 
--- Bytes are those of a state: they are 188, they are the very bytes of the node that they stand for, and its state is one of 01's and 02's.
+-- Bytes are those of a state: they are 192, they are the very bytes of the node that they stand for, and its state is one of 01's and 02's.
 unfoldable pub areState : List ℕ → Bool
-areState bytes = eqb (length bytes) 188 && (alike (encodeOf (nodeIn bytes)) bytes && stateOk (nodeIn bytes))
+areState bytes = eqb (length bytes) 192 && (alike (encodeOf (nodeIn bytes)) bytes && stateOk (nodeIn bytes))

@@ -1,10 +1,10 @@
-// The state bytes: a node's state to its 188 bytes and back.
+// The state bytes: a node's state to its 192 bytes and back.
 ghost use mathlib.Core.Path.{_≡_};
 ghost use lib.ListN.{length, drop};
 ghost use Rattle.codec.specs.Bytes.{wordsIn};
 ghost use Rattle.codec.specs.Places.{putAll, packed};
 ghost use Rattle.base.specs.Words.{laid};
-ghost use Rattle.codec.specs.StateBytes.{tallyOf, progressOf, erasingOf, waitOf, pendingOf, standingOf, writingOf, firstSizes, firstNumbers, middleSizes, middleNumbers, lastSizes, lastNumbers, sizes, numbersOf, tailBytes, encodeOf, givenIn, progressIn, waitIn, standingIn, nodeIn, alike, areState};
+ghost use Rattle.codec.specs.StateBytes.{tallyOf, progressOf, erasingOf, waitOf, pendingOf, standingOf, writingOf, firstSizes, firstNumbers, middleSizes, middleNumbers, lastSizes, lastNumbers, sizes, numbersOf, tailBytes, encodeOf, givenIn, progressIn, waitIn, standingIn, listingIn, nodeIn, alike, areState};
 use crate::Standing;
 use crate::Wait;
 use crate::words::byte;
@@ -32,6 +32,7 @@ use node::Joining;
 use node::Node;
 use node::Pending;
 use node::Writing;
+use qlist::Listing;
 
 fn tally_of(x: u16) -> Tally
     ensures { λ r. ⌜ r ≡ tallyOf x ⌝ }
@@ -174,7 +175,7 @@ fn writing_of(standing: Standing) -> Writing
 }
 
 fn put_first(given: Given, mode: u16, counts: Counts, bytes: &mut [u8])
-    requires { ⌜ length (now bytes) ≡ 188 ⌝ }
+    requires { ⌜ length (now bytes) ≡ 192 ⌝ }
     ensures { λ _. ⌜ now (bytes .exit) ≡ putAll 0 firstSizes (firstNumbers given mode counts) (now (bytes .entry)) ⌝ }
 {
     put8(bytes, 0, given.kind as u64);
@@ -189,7 +190,7 @@ fn put_first(given: Given, mode: u16, counts: Counts, bytes: &mut [u8])
 }
 
 fn put_middle(given: Given, progress: Progress, wait: Wait, bytes: &mut [u8])
-    requires { ⌜ length (now bytes) ≡ 188 ⌝ }
+    requires { ⌜ length (now bytes) ≡ 192 ⌝ }
     ensures { λ _. ⌜ now (bytes .exit) ≡ putAll 14 middleSizes (middleNumbers given progress wait) (now (bytes .entry)) ⌝ }
 {
     put8(bytes, 14, progress.sector as u64);
@@ -204,7 +205,7 @@ fn put_middle(given: Given, progress: Progress, wait: Wait, bytes: &mut [u8])
 }
 
 fn put_last(wait: Wait, bytes: &mut [u8])
-    requires { ⌜ length (now bytes) ≡ 188 ⌝ }
+    requires { ⌜ length (now bytes) ≡ 192 ⌝ }
     ensures { λ _. ⌜ now (bytes .exit) ≡ putAll 32 lastSizes (lastNumbers wait) (now (bytes .entry)) ⌝ }
 {
     put32(bytes, 32, wait.set as u64);
@@ -214,7 +215,7 @@ fn put_last(wait: Wait, bytes: &mut [u8])
 
 // Stores a state's numbers.
 fn put_numbers(node: Node, bytes: &mut [u8])
-    requires { ⌜ length (now bytes) ≡ 188 ⌝ }
+    requires { ⌜ length (now bytes) ≡ 192 ⌝ }
     ensures { λ _. ⌜ now (bytes .exit) ≡ laid (now (bytes .entry)) 0 (packed sizes (numbersOf node)) ⌝ }
 {
     let given = node.given;
@@ -228,10 +229,10 @@ fn put_numbers(node: Node, bytes: &mut [u8])
     put_last(wait, bytes);
 }
 
-// Stores what 02 adds: the write that stands, and what is received of a reply in packets.
-fn put_tail(writing: Writing, pending: Pending, bytes: &mut [u8])
-    requires { ⌜ length (now bytes) ≡ 188 ⌝ }
-    ensures { λ _. ⌜ now (bytes .exit) ≡ laid (now (bytes .entry)) 172 (tailBytes writing pending) ⌝ }
+// Stores what 02 adds: the write that stands, what is received of a reply in packets, and what is listed.
+fn put_tail(writing: Writing, pending: Pending, listing: Listing, bytes: &mut [u8])
+    requires { ⌜ length (now bytes) ≡ 192 ⌝ }
+    ensures { λ _. ⌜ now (bytes .exit) ≡ laid (now (bytes .entry)) 172 (tailBytes writing pending listing) ⌝ }
 {
     let standing = standing_of(writing);
     let wait = wait_of(pending);
@@ -242,11 +243,13 @@ fn put_tail(writing: Writing, pending: Pending, bytes: &mut [u8])
     put32(bytes, 180, wait.received as u64);
     put16(bytes, 184, wait.rx_status as u64);
     put16(bytes, 186, 0);
+    put16(bytes, 188, listing.entries as u64);
+    put16(bytes, 190, listing.turn as u64);
 }
 
 // Stores a state's bytes.
 pub fn encode(node: Node, bytes: &mut [u8])
-    requires { ⌜ length (now bytes) ≡ 188 ⌝ }
+    requires { ⌜ length (now bytes) ≡ 192 ⌝ }
     ensures { λ _. ⌜ now (bytes .exit) ≡ encodeOf node ⌝ }
 {
     put_numbers(node, bytes);
@@ -256,11 +259,12 @@ pub fn encode(node: Node, bytes: &mut [u8])
     store16(&directory, &mut bytes[108..172]);
     let writing = node.writing;
     let pending = node.pending;
-    put_tail(writing, pending, bytes);
+    let listing = node.listing;
+    put_tail(writing, pending, listing, bytes);
 }
 
 fn masks_in(bytes: &[u8]) -> [u32; 16]
-    requires { ⌜ length (now bytes) ≡ 188 ⌝ }
+    requires { ⌜ length (now bytes) ≡ 192 ⌝ }
     ensures { λ r. ⌜ r ≡ wordsIn 4 16 (drop 44 (now (bytes .entry))) ⌝ }
 {
     let mut words = [0u32; 16];
@@ -269,7 +273,7 @@ fn masks_in(bytes: &[u8]) -> [u32; 16]
 }
 
 fn directory_in(bytes: &[u8]) -> [u16; 32]
-    requires { ⌜ length (now bytes) ≡ 188 ⌝ }
+    requires { ⌜ length (now bytes) ≡ 192 ⌝ }
     ensures { λ r. ⌜ r ≡ wordsIn 2 32 (drop 108 (now (bytes .entry))) ⌝ }
 {
     let mut words = [0u16; 32];
@@ -278,7 +282,7 @@ fn directory_in(bytes: &[u8]) -> [u16; 32]
 }
 
 fn given_in(bytes: &[u8]) -> Given
-    requires { ⌜ length (now bytes) ≡ 188 ⌝ }
+    requires { ⌜ length (now bytes) ≡ 192 ⌝ }
     ensures { λ r. ⌜ r ≡ givenIn (now (bytes .entry)) ⌝ }
 {
     Given {
@@ -294,7 +298,7 @@ fn given_in(bytes: &[u8]) -> Given
 }
 
 fn progress_in(bytes: &[u8]) -> Progress
-    requires { ⌜ length (now bytes) ≡ 188 ⌝ }
+    requires { ⌜ length (now bytes) ≡ 192 ⌝ }
     ensures { λ r. ⌜ r ≡ progressIn (now (bytes .entry)) ⌝ }
 {
     Progress {
@@ -304,7 +308,7 @@ fn progress_in(bytes: &[u8]) -> Progress
 }
 
 fn wait_in(bytes: &[u8]) -> Wait
-    requires { ⌜ length (now bytes) ≡ 188 ⌝ }
+    requires { ⌜ length (now bytes) ≡ 192 ⌝ }
     ensures { λ r. ⌜ r ≡ waitIn (now (bytes .entry)) ⌝ }
 {
     Wait {
@@ -322,7 +326,7 @@ fn wait_in(bytes: &[u8]) -> Wait
 }
 
 fn standing_in(bytes: &[u8]) -> Standing
-    requires { ⌜ length (now bytes) ≡ 188 ⌝ }
+    requires { ⌜ length (now bytes) ≡ 192 ⌝ }
     ensures { λ r. ⌜ r ≡ standingIn (now (bytes .entry)) ⌝ }
 {
     Standing {
@@ -332,9 +336,19 @@ fn standing_in(bytes: &[u8]) -> Standing
     }
 }
 
+fn listing_in(bytes: &[u8]) -> Listing
+    requires { ⌜ length (now bytes) ≡ 192 ⌝ }
+    ensures { λ r. ⌜ r ≡ listingIn (now (bytes .entry)) ⌝ }
+{
+    Listing {
+        entries: word16(bytes, 188) as usize,
+        turn: word16(bytes, 190) as usize,
+    }
+}
+
 // The node that bytes stand for.
 pub fn node_in(bytes: &[u8]) -> Node
-    requires { ⌜ length (now bytes) ≡ 188 ⌝ }
+    requires { ⌜ length (now bytes) ≡ 192 ⌝ }
     ensures { λ r. ⌜ r ≡ nodeIn (now (bytes .entry)) ⌝ }
 {
     let masks = masks_in(bytes);
@@ -343,6 +357,7 @@ pub fn node_in(bytes: &[u8]) -> Node
     let erasing = erasing_of(progress_in(bytes));
     let pending = pending_of(wait_in(bytes));
     let writing = writing_of(standing_in(bytes));
+    let listing = listing_in(bytes);
     let counts = Counts {
         amswire: word16(bytes, 10),
         flash: word16(bytes, 12),
@@ -356,6 +371,7 @@ pub fn node_in(bytes: &[u8]) -> Node
         erasing,
         pending,
         writing,
+        listing,
     }
 }
 
@@ -378,16 +394,17 @@ fn same(a: &[u8], b: &[u8]) -> bool
 pub fn is_state(bytes: &[u8]) -> bool
     ensures { λ r. ⌜ r ≡ areState (now (bytes .entry)) ⌝ }
 {
-    if bytes.len() != 188 {
+    if bytes.len() != 192 {
         return false;
     }
     let node = node_in(bytes);
-    let mut again = [0u8; 188];
+    let mut again = [0u8; 192];
     let writing = node.writing;
     let pending = node.pending;
+    let listing = node.listing;
     put_numbers(node, &mut again);
-    put_tail(writing, pending, &mut again);
+    put_tail(writing, pending, listing, &mut again);
     same(&again[..44], &bytes[..44])
-        & same(&again[172..188], &bytes[172..188])
+        & same(&again[172..192], &bytes[172..192])
         & node::valid::state_ok(node)
 }

@@ -21,7 +21,7 @@ use Rattle.node.specs.declared.Verdict.{Verdict}
 use Rattle.node.proofs.Verdicts.{or-neither}
 use Rattle.codec.specs.StateBytes.{encodeOf, nodeIn, alike, areState}
 use Rattle.logodwen.specs.Number.{answerNumber}
-use Rattle.logodwen.specs.Causes.{keptOk, linkOk, requestCheck, replyCheck, pollCheck, eraseCheck}
+use Rattle.logodwen.specs.Causes.{keptOk, recordsOk, linkOk, requestCheck, replyCheck, pollCheck, eraseCheck, slowCheck}
 use Rattle.codec.proofs.Small.{one-of}
 use Rattle.logodwen.specs.Entry.{answered, inBytes, told, entered}
 
@@ -35,11 +35,11 @@ pub entered-refused : (v : Verdict) (state : List ℕ) (runs : Lent) (o : Outcom
 entered-refused v state runs o r e numbered =
     ap (λ (n : ℕ). answered n state runs) numbered ∙ sym (ap (λ (w : Verdict). entered w state runs o) e)
 
--- bytes of a state are 188
-pub state-long : (bytes : List ℕ) → areState bytes ≡ true → length bytes ≡ 188
+-- bytes of a state are 192
+pub state-long : (bytes : List ℕ) → areState bytes ≡ true → length bytes ≡ 192
 unfolding areState
 state-long bytes h =
-    eqb-true (length bytes) 188 (and-left (eqb (length bytes) 188) (alike (encodeOf (nodeIn bytes)) bytes && stateOk (nodeIn bytes)) h)
+    eqb-true (length bytes) 192 (and-left (eqb (length bytes) 192) (alike (encodeOf (nodeIn bytes)) bytes && stateOk (nodeIn bytes)) h)
 
 -- where the verdict is fine no cause holds
 
@@ -50,24 +50,28 @@ fine-then false r v e = (refl, e)
 bench-size : (state : List ℕ) (flash : ℕ) → (not (eqb flash 32768) || not (keptOk state flash)) ≡ false → flash ≡ 32768
 bench-size state flash h = eqb-true flash 32768 (not-false (eqb flash 32768) (or-neither (not (eqb flash 32768)) (not (keptOk state flash)) h .0))
 
-pub record RequestFine (state : List ℕ) (flash pm dm io area reply : ℕ) : Type 0 where
+pub record RequestFine (state : List ℕ) (flash pm dm io area records reply : ℕ) : Type 0 where
   pub bench : flash ≡ 32768
   pub buffer : 12288 ≤ reply
   pub pm-short : pm ≤ 8192
   pub dm-short : dm ≤ 8192
   pub io-short : io ≤ 4096
   pub room : 32768 ≤ area
+  pub most : records ≤ 910
+  pub listed : recordsOk state records ≡ true
   pub bytes : areState state ≡ true
 
-pub request-fine : (link packet : ℕ) (state : List ℕ) (flash pm dm io area reply : ℕ) → requestCheck link packet state flash pm dm io area reply ≡ Verdict.Fine
-    → RequestFine state flash pm dm io area reply
+pub request-fine : (link packet : ℕ) (state : List ℕ) (flash pm dm io area records reply : ℕ) → requestCheck link packet state flash pm dm io area records reply ≡ Verdict.Fine
+    → RequestFine state flash pm dm io area records reply
 unfolding requestCheck
-request-fine link packet state flash pm dm io area reply h =
+request-fine link packet state flash pm dm io area records reply h =
     let a = fine-then (not (eqb flash 32768) || not (keptOk state flash)) _ _ h in
     let b = fine-then (ltb reply 12288) _ _ (a .1) in
     let c = fine-then (ltb 8192 pm || ltb 8192 dm || ltb 4096 io) _ _ (b .1) in
     let d = fine-then (ltb area 32768) _ _ (c .1) in
-    let e = fine-then (not (linkOk state link)) _ _ (d .1) in
+    let g = fine-then (ltb 910 records || not (recordsOk state records)) _ _ (d .1) in
+    let e = fine-then (not (linkOk state link)) _ _ (g .1) in
+    let q = or-neither (ltb 910 records) (not (recordsOk state records)) (g .0) in
     let f = fine-then (not (areState state)) _ _ (e .1) in
     let m = or-neither (ltb 8192 pm || ltb 8192 dm) (ltb 4096 io) (c .0) in
     let k = or-neither (ltb 8192 pm) (ltb 8192 dm) (m .0) in
@@ -78,6 +82,8 @@ request-fine link packet state flash pm dm io area reply h =
       dm-short = ltb-false 8192 dm (k .1);
       io-short = ltb-false 4096 io (m .1);
       room = ltb-false area 32768 (d .0);
+      most = ltb-false 910 records (q .0);
+      listed = not-false (recordsOk state records) (q .1);
       bytes = not-false (areState state) (f .0);
     }
 
@@ -112,6 +118,13 @@ erase-fine state flash h =
     let a = fine-then (not (eqb flash 32768) || not (keptOk state flash)) _ _ h in
     let b = fine-then (not (areState state)) _ _ (a .1) in
     (bench-size state flash (a .0), not-false (areState state) (b .0))
+
+pub slow-fine : (state : List ℕ) (records : ℕ) → slowCheck state records ≡ Verdict.Fine → areState state ≡ true
+unfolding slowCheck
+slow-fine state records h =
+    let a = fine-then (ltb 910 records || not (recordsOk state records)) _ _ h in
+    let b = fine-then (not (areState state)) _ _ (a .1) in
+    not-false (areState state) (b .0)
 
 -- start's numbers are small where they are not refused, and the node's start is then done
 

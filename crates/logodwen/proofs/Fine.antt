@@ -6,16 +6,17 @@ use mathlib.Core.Path.{_≡_, refl, sym, ap, _∙_}
 use mathlib.Core.Bool.{Bool, true, false, _&&_, _||_, not}
 use mathlib.Core.List.{List, [], _∷_}
 use lib.ListN.{length}
-use lib.Dec.{ltb, eqb}
-use borrow.Author.Tests.{ltb-true, ltb-false, le-ltb, lt-leb, eqb-true, eq-eqb, not-false}
+use lib.Dec.{ltb, leb, eqb}
+use borrow.Author.Tests.{ltb-true, ltb-false, leb-true, le-ltb, lt-leb, eqb-true, eq-eqb, not-false}
 use Rattle.base.specs.Pick.{pick}
 use Rattle.base.proofs.Pick.{no, and-right}
 use Rattle.node.specs.Valid.{sizeOk, stateOk}
-use Rattle.node.specs.Refusals.{Cause, firstOf, flashCause, replyCause, memoryCause, areaCause, linkCause, slaveCause, stateCause, busyCause, pollCause, unaskedCause, requestVerdict, replyVerdict, pollVerdict, eraseVerdict}
+use Rattle.node.specs.Refusals.{Cause, firstOf, flashCause, replyCause, memoryCause, areaCause, listCause, linkCause, slaveCause, stateCause, busyCause, pollCause, unaskedCause, requestVerdict, replyVerdict, pollVerdict, eraseVerdict, slowVerdict}
+use Rattle.node.specs.declared.Node.{Node}
 use Rattle.node.specs.declared.Verdict.{Verdict}
 use Rattle.node.proofs.Verdicts.{NoneHolds, fine-tells, or-neither}
-use Rattle.codec.specs.StateBytes.{sizeIn, portsIn, encodeOf, nodeIn, alike, areState}
-use Rattle.logodwen.specs.Causes.{keptOk, linkOk, benchCause, memoriesCause, lengthCause, portCause, bytesCause, requestCheck, replyCheck, pollCheck, eraseCheck}
+use Rattle.codec.specs.StateBytes.{sizeIn, portsIn, listedIn, encodeOf, nodeIn, alike, areState}
+use Rattle.logodwen.specs.Causes.{keptOk, recordsOk, linkOk, benchCause, memoriesCause, lengthCause, recordsCause, portCause, bytesCause, requestCheck, replyCheck, pollCheck, eraseCheck, slowCheck}
 use Rattle.logodwen.proofs.Entering.{state-long}
 
 -- where no cause holds, none refuses
@@ -28,11 +29,11 @@ pub state-sound : (state : List ℕ) → areState state ≡ true → stateOk (no
 unfolding areState
 state-sound state h =
     let same = alike (encodeOf (nodeIn state)) state in
-    and-right same (stateOk (nodeIn state)) (and-right (eqb (length state) 188) (same && stateOk (nodeIn state)) h)
+    and-right same (stateOk (nodeIn state)) (and-right (eqb (length state) 192) (same && stateOk (nodeIn state)) h)
 
 -- what is read off the state bytes as they are is what their node keeps
-where-long : (state : List ℕ) (t : Bool) → areState state ≡ true → pick (eqb (length state) 188) t true ≡ true → t ≡ true
-where-long state t h e = sym (ap (λ (b : Bool). pick b t true) (eq-eqb (length state) 188 (state-long state h))) ∙ e
+where-long : (state : List ℕ) (t : Bool) → areState state ≡ true → pick (eqb (length state) 192) t true ≡ true → t ≡ true
+where-long state t h e = sym (ap (λ (b : Bool). pick b t true) (eq-eqb (length state) 192 (state-long state h))) ∙ e
 
 -- cause by cause
 
@@ -65,22 +66,40 @@ link-no state link s h =
     where-long state (ltb link (portsIn state)) (not-false (areState state) s) (not-false (linkOk state link) h) in
     lt-leb (portsIn state) link (ltb-true link (portsIn state) below)
 
--- each call; a request, whatever area is lent that is long enough
+-- the entries listed are at most the records lent
+pub records-listed : (state : List ℕ) (records : ℕ) → areState state ≡ true → recordsOk state records ≡ true → nodeIn state .listing .entries ≤ records
+unfolding nodeIn
+records-listed state records s h = leb-true (listedIn state) records (where-long state (leb (listedIn state) records) s h)
 
-pub request-verdict : (link packet : ℕ) (state : List ℕ) (flash pm dm io area reply : ℕ) → requestCheck link packet state flash pm dm io area reply ≡ Verdict.Fine
-    → (room : ℕ) → 32768 ≤ room → requestVerdict (nodeIn state) link packet flash pm dm io room 12288 ≡ Verdict.Fine
+pub list-no : (n : Node) (records : ℕ) → records ≤ 910 → n .listing .entries ≤ records → listCause n records .holds ≡ false
+list-no n records most few = λ i. le-ltb 910 records most i || le-ltb records (n .listing .entries) few i
+
+pub records-no : (state : List ℕ) (records : ℕ) → bytesCause state .holds ≡ false → recordsCause state records .holds ≡ false
+    → listCause (nodeIn state) records .holds ≡ false
+records-no state records s h =
+    let both = or-neither (ltb 910 records) (not (recordsOk state records)) h in
+    list-no (nodeIn state) records (ltb-false 910 records (both .0))
+    (records-listed state records (not-false (areState state) s) (not-false (recordsOk state records) (both .1)))
+
+-- each call; a request, whatever further runs are lent that pass 8 and 9
+
+pub request-verdict : (link packet : ℕ) (state : List ℕ) (flash pm dm io area records reply : ℕ)
+    → requestCheck link packet state flash pm dm io area records reply ≡ Verdict.Fine
+    → (room list : ℕ) → 32768 ≤ room → list ≤ 910 → nodeIn state .listing .entries ≤ list
+    → requestVerdict (nodeIn state) link packet flash pm dm io room list 12288 ≡ Verdict.Fine
 unfolding requestCheck requestVerdict
-request-verdict link packet state flash pm dm io area reply h room long =
+request-verdict link packet state flash pm dm io area records reply h room list long most few =
     let n = nodeIn state in
     let none =
     fine-tells
-    (benchCause state flash ∷ replyCause reply ∷ memoriesCause pm dm io ∷ areaCause area ∷ portCause state link ∷ bytesCause state
-    ∷ busyCause n packet ∷ [])
+    (benchCause state flash ∷ replyCause reply ∷ memoriesCause pm dm io ∷ areaCause area ∷ recordsCause state records ∷ portCause state link
+    ∷ bytesCause state ∷ busyCause n packet ∷ [])
     h in
-    let s = none .1 .1 .1 .1 .1 .0 in
+    let s = none .1 .1 .1 .1 .1 .1 .0 in
     none-refuses
-    (flashCause n flash ∷ replyCause 12288 ∷ memoryCause pm dm io ∷ areaCause room ∷ linkCause n link ∷ stateCause n ∷ busyCause n packet ∷ [])
-    (flash-no state flash s (none .0), (refl, (memory-no pm dm io (none .1 .1 .0), (le-ltb room 32768 long, (link-no state link s (none .1 .1 .1 .1 .0), (state-no state s, (none .1 .1 .1 .1 .1 .1 .0, tt)))))))
+    (flashCause n flash ∷ replyCause 12288 ∷ memoryCause pm dm io ∷ areaCause room ∷ listCause n list ∷ linkCause n link ∷ stateCause n
+    ∷ busyCause n packet ∷ [])
+    (flash-no state flash s (none .0), (refl, (memory-no pm dm io (none .1 .1 .0), (le-ltb room 32768 long, (list-no n list most few, (link-no state link s (none .1 .1 .1 .1 .1 .0), (state-no state s, (none .1 .1 .1 .1 .1 .1 .1 .0, tt))))))))
 
 pub reply-verdict : (slave packet : ℕ) (state : List ℕ) (reply : ℕ) → replyCheck slave packet state reply ≡ Verdict.Fine → replyVerdict (nodeIn state) slave 12288 ≡ Verdict.Fine
 unfolding replyCheck replyVerdict
@@ -104,3 +123,10 @@ erase-verdict state flash h bench =
     let none = fine-tells (benchCause state flash ∷ bytesCause state ∷ []) h in
     ap (eraseVerdict n) (sym bench)
     ∙ none-refuses (flashCause n flash ∷ stateCause n ∷ []) (flash-no state flash (none .1 .0) (none .0), (state-no state (none .1 .0), tt))
+
+pub slow-verdict : (state : List ℕ) (records : ℕ) → slowCheck state records ≡ Verdict.Fine → slowVerdict (nodeIn state) records ≡ Verdict.Fine
+unfolding slowCheck slowVerdict
+slow-verdict state records h =
+    let n = nodeIn state in
+    let none = fine-tells (recordsCause state records ∷ bytesCause state ∷ []) h in
+    none-refuses (listCause n records ∷ stateCause n ∷ []) (records-no state records (none .1 .0) (none .0), (state-no state (none .1 .0), tt))

@@ -19,7 +19,7 @@ use Rattle.node.specs.declared.Turn.{Turn}
 use Rattle.node.specs.declared.Verdict.{Verdict}
 use Rattle.codec.specs.Bytes.{wordsOf}
 use Rattle.logodwen.specs.Entry.{runWords, inBytes}
-use Rattle.logodwen.specs.Apart.{needsMemories, needsFlash}
+use Rattle.logodwen.specs.Apart.{needsMemories, needsFlash, needsList}
 use Rattle.logodwen.specs.Touch.{isQuiet, quietOf, Quiet}
 use Rattle.logodwen.proofs.Touch.{Lends, Plain, answers-plain, quiet-left, says-plain, sets-plain}
 use Rattle.logodwen.proofs.Taken.{asked, routeIn, taken-in, verdictIn}
@@ -70,9 +70,9 @@ or-right : (t u : Bool) → (t || u) ≡ false → u ≡ false
 or-right true u e = absurd (false≢true (sym e))
 or-right false u e = e
 
-pub own-quiet : (id : ℕ) (n : Node) (clock link : ℕ) (packet : List ℕ) (l : Lent) → isQuiet id ≡ true → ownOf id n clock link packet l ≡ quietOf id n clock link packet
+pub own-quiet : (id : ℕ) (n : Node) (clock link : ℕ) (packet : List ℕ) (l : Lent) → isQuiet id ≡ true → needsList id ≡ false → ownOf id n clock link packet l ≡ quietOf id n clock link packet
 unfolding ownOf filesOf
-own-quiet id n clock link packet l q =
+own-quiet id n clock link packet l q g =
     let m : needsMemories id ≡ false = either-left (needsMemories id) (needsFlash id) q in
     let f : needsFlash id ≡ false = either-right (needsMemories id) (needsFlash id) q in
     let f48 : eqb id 0x48 ≡ false = or-right (eqb id 0x05 || eqb id 0x45 || eqb id 0x06 || eqb id 0x46 || eqb id 0x47) (eqb id 0x48) f in
@@ -86,7 +86,7 @@ own-quiet id n clock link packet l q =
     let f05 : eqb id 0x05 ≡ false = or-left (eqb id 0x05) (eqb id 0x45) b in
     let f45 : eqb id 0x45 ≡ false = or-right (eqb id 0x05) (eqb id 0x45) b in
     let none : onMemories id ≡ false = or-left (onMemories id) (eqb id 0x46) m in
-    rw (none, f05, f45, f06, f46, f47, f48) (by (eqb id 0x07))
+    rw (none, g, f05, f45, f06, f46, f47, f48) (by (eqb id 0x07))
   where
     by : (t : Bool) → pick (t || false || false) (pick t (summaryOf n packet) (says ZeroLength.Abort)) (settingsOf id n clock link packet) ≡ pick t (summaryOf n packet) (settingsOf id n clock link packet)
     by true = refl
@@ -99,11 +99,11 @@ quiet-as n id clock link before {r = r} {after = after} e q = subst (λ (x : Lis
 
 -- the whole request
 pub quiet-request : (n : Node) (clock link bc : ℕ) (errors : Bool) (packet : List ℕ) (l : Lent) → Lends l → verdictIn n clock link bc errors packet l ≡ Verdict.Fine
-    → (id : ℕ) → routeIn n clock link bc errors packet l ≡ Route.Own id → isQuiet id ≡ true → {r : Turn} {end : List ℕ}
+    → (id : ℕ) → routeIn n clock link bc errors packet l ≡ Route.Own id → isQuiet id ≡ true → needsList id ≡ false → {r : Turn} {end : List ℕ}
     → Quiet n (quietOf id n clock link (wordsOf 2 packet)) (l .reply) r end
     → outcome r (lent (l .flash) (l .memories) (l .further) end) ≡ inBytes (asked n clock link bc errors packet l) l
-quiet-request n clock link bc errors packet l b v id e h q =
+quiet-request n clock link bc errors packet l b v id e h g q =
     quiet-left n (quietOf id n clock link (wordsOf 2 packet)) l b (quiet-plain n (wordsOf 2 packet) id clock link) q
     ∙ ap (λ (o : Outcome). inBytes o l)
-    (ap (ownOutcome n (runWords l)) (sym (own-quiet id n clock link (wordsOf 2 packet) (runWords l) h))
+    (ap (ownOutcome n (runWords l)) (sym (own-quiet id n clock link (wordsOf 2 packet) (runWords l) h g))
     ∙ sym (taken-in n clock link bc errors packet l b v e))

@@ -1,20 +1,21 @@
--- When an entry is refused, and by what: 01 'Call refusals', with the limits that 'Covered' sets at the C border, and 8 of 02, request 1.
--- 1 and 4 read the kept size and the ports off the state bytes as they are, where there are 188. Assumes nothing.
+-- When an entry is refused, and by what: 01 'Call refusals', with the limits that 'Covered' sets at the C border, and 8 and 9 of 02,
+-- requests 1 and 7. 1, 9 and 4 read the kept size, the entries listed and the ports off the state bytes as they are, where there are 192.
+-- Assumes nothing.
 use Prim.Native.Nat.{ℕ}
 use mathlib.Core.Bool.{Bool, true, _||_, not}
 use mathlib.Core.List.{List, [], _∷_}
 use lib.ListN.{length}
-use lib.Dec.{ltb, eqb}
+use lib.Dec.{ltb, leb, eqb}
 use Rattle.base.specs.Pick.{pick}
 use Rattle.node.specs.Valid.{kindOk, portsOk}
 use Rattle.node.specs.Refusals.{Cause, cause, firstOf, replyCause, areaCause, slaveCause, busyCause, pollCause, unaskedCause}
 use Rattle.node.specs.declared.Refusal.{Refusal}
 use Rattle.node.specs.declared.Verdict.{Verdict}
-use Rattle.codec.specs.StateBytes.{sizeIn, portsIn, nodeIn, areState}
+use Rattle.codec.specs.StateBytes.{sizeIn, portsIn, listedIn, nodeIn, areState}
 
 -- 1: the flash isn't bench size, or isn't the size used at start.
 abbrev pub keptOk : List ℕ → ℕ → Bool
-keptOk state flash = pick (eqb (length state) 188) (eqb flash (sizeIn state)) true
+keptOk state flash = pick (eqb (length state) 192) (eqb flash (sizeIn state)) true
 
 abbrev pub benchCause : List ℕ → ℕ → Cause
 benchCause state flash = cause Refusal.FlashSize (not (eqb flash 32768) || not (keptOk state flash))
@@ -26,9 +27,16 @@ memoriesCause pm dm io = cause Refusal.MemorySize (ltb 8192 pm || ltb 8192 dm ||
 abbrev pub lengthCause : ℕ → Cause
 lengthCause packet = cause Refusal.MemorySize (ltb 32768 packet)
 
+-- 9: more than 910 records are lent, or fewer than are listed. 02, request 7.
+abbrev pub recordsOk : List ℕ → ℕ → Bool
+recordsOk state records = pick (eqb (length state) 192) (leb (listedIn state) records) true
+
+abbrev pub recordsCause : List ℕ → ℕ → Cause
+recordsCause state records = cause Refusal.ListSize (ltb 910 records || not (recordsOk state records))
+
 -- 4: the link isn't below the port count.
 abbrev pub linkOk : List ℕ → ℕ → Bool
-linkOk state link = pick (eqb (length state) 188) (ltb link (portsIn state)) true
+linkOk state link = pick (eqb (length state) 192) (ltb link (portsIn state)) true
 
 abbrev pub portCause : List ℕ → ℕ → Cause
 portCause state link = cause Refusal.Number (not (linkOk state link))
@@ -37,13 +45,13 @@ portCause state link = cause Refusal.Number (not (linkOk state link))
 abbrev pub bytesCause : List ℕ → Cause
 bytesCause state = cause Refusal.State (not (areState state))
 
--- The entries, by the numbers they are given, the state bytes, and the lengths in words of what they are lent.
+-- The entries, by the numbers they are given, the state bytes, and the lengths of what they are lent: in words, and of the Q-List in records.
 
-unfoldable pub requestCheck : ℕ → ℕ → List ℕ → ℕ → ℕ → ℕ → ℕ → ℕ → ℕ → Verdict
-requestCheck link packet state flash pm dm io area reply =
+unfoldable pub requestCheck : ℕ → ℕ → List ℕ → ℕ → ℕ → ℕ → ℕ → ℕ → ℕ → ℕ → Verdict
+requestCheck link packet state flash pm dm io area records reply =
     firstOf
-    (benchCause state flash ∷ replyCause reply ∷ memoriesCause pm dm io ∷ areaCause area ∷ portCause state link ∷ bytesCause state
-    ∷ busyCause (nodeIn state) packet ∷ [])
+    (benchCause state flash ∷ replyCause reply ∷ memoriesCause pm dm io ∷ areaCause area ∷ recordsCause state records ∷ portCause state link
+    ∷ bytesCause state ∷ busyCause (nodeIn state) packet ∷ [])
 
 unfoldable pub replyCheck : ℕ → ℕ → List ℕ → ℕ → Verdict
 replyCheck slave packet state reply =
@@ -55,11 +63,14 @@ pollCheck state reply = firstOf (replyCause reply ∷ bytesCause state ∷ pollC
 unfoldable pub eraseCheck : List ℕ → ℕ → Verdict
 eraseCheck state flash = firstOf (benchCause state flash ∷ bytesCause state ∷ [])
 
--- At start, 5: room for other than 188 state bytes. What stands in them isn't looked at.
+unfoldable pub slowCheck : List ℕ → ℕ → Verdict
+slowCheck state records = firstOf (recordsCause state records ∷ bytesCause state ∷ [])
+
+-- At start, 5: room for other than 192 state bytes. What stands in them isn't looked at.
 unfoldable pub startCheck : ℕ → ℕ → ℕ → List ℕ → ℕ → Verdict
 startCheck kind ports subdetector state flash =
     firstOf
     (cause Refusal.FlashSize (not (eqb flash 32768))
     ∷ cause Refusal.Number (not (portsOk ports) || not (kindOk kind) || ltb 7 subdetector)
-    ∷ cause Refusal.State (not (eqb (length state) 188))
+    ∷ cause Refusal.State (not (eqb (length state) 192))
     ∷ [])

@@ -1,6 +1,6 @@
--- The five entries of the C border: what each answers, and the bytes that it leaves in every run that it is lent. An entry is refused
+-- The six entries of the C border: what each answers, and the bytes that it leaves in every run that it is lent. An entry is refused
 -- by the first cause that holds, and then every byte stays; or it is the node's call on the words of the lent bytes. 01 'Covered',
--- and 02, request 1, which lends a request the area. Assumes nothing.
+-- and 02, requests 1 and 7, which lend a request the area and the Q-List. Assumes nothing.
 use Prim.Native.Nat.{ℕ, _/_}
 use mathlib.Core.Bool.{Bool, not}
 use mathlib.Core.List.{List, []}
@@ -9,12 +9,12 @@ use lib.Dec.{eqb}
 use Rattle.memory.specs.Segment.{Memories, memories}
 use Rattle.node.specs.State.{refusalNumber}
 use Rattle.node.specs.Effect.{Further, further, Lent, lent, Outcome, outcome}
-use Rattle.node.specs.Calls.{startOf, requestOf, replyOf, pollOf, eraseOf, lentReply, lentFlash}
+use Rattle.node.specs.Calls.{startOf, requestOf, replyOf, pollOf, eraseOf, slowOf, lentReply, lentFlash, lentList}
 use Rattle.node.specs.declared.Verdict.{Verdict}
 use Rattle.codec.specs.Bytes.{wordsOf, storeWords}
 use Rattle.codec.specs.StateBytes.{encodeOf, nodeIn}
 use Rattle.logodwen.specs.Number.{answerNumber}
-use Rattle.logodwen.specs.Causes.{requestCheck, replyCheck, pollCheck, eraseCheck, startCheck}
+use Rattle.logodwen.specs.Causes.{requestCheck, replyCheck, pollCheck, eraseCheck, slowCheck, startCheck}
 
 -- The number answered, the state bytes, and the bytes of the other runs.
 pub record Answered : Type 0 where
@@ -34,10 +34,10 @@ memoriesLeft m before = memories (storeWords 4 (m .pm) (before .pm)) (storeWords
 
 -- The words of the further runs, and the words stored back.
 abbrev pub furtherWords : Further → Further
-furtherWords x = further (wordsOf 2 (x .area))
+furtherWords x = further (wordsOf 2 (x .area)) (wordsOf 2 (x .list))
 
 abbrev pub furtherLeft : Further → Further → Further
-furtherLeft x before = further (storeWords 2 (x .area) (before .area))
+furtherLeft x before = further (storeWords 2 (x .area) (before .area)) (storeWords 2 (x .list) (before .list))
 
 -- Of a reply buffer the node is lent the first 12,288 words: the rest stays.
 abbrev pub replyWords : List ℕ → List ℕ
@@ -80,7 +80,8 @@ unfoldable pub requestEntry : ℕ → ℕ → ℕ → ℕ → List ℕ → List 
 requestEntry clock link bc errors packet state runs =
     entered
     (requestCheck link (length packet / 2) state (length (runs .flash) / 2) (length (runs .memories .pm) / 4)
-    (length (runs .memories .dm) / 2) (length (runs .memories .io) / 2) (length (runs .further .area) / 2) (length (runs .reply) / 2))
+    (length (runs .memories .dm) / 2) (length (runs .memories .io) / 2) (length (runs .further .area) / 2)
+    (length (runs .further .list) / 14) (length (runs .reply) / 2))
     state runs (requestOf (nodeIn state) clock link bc (isSet errors) (wordsOf 2 packet) (runWords runs))
 
 -- A slave's reply.
@@ -98,3 +99,8 @@ pollEntry clock state reply =
 unfoldable pub eraseEntry : ℕ → List ℕ → List ℕ → Answered
 eraseEntry budget state flash =
     entered (eraseCheck state (length flash / 2)) state (lentFlash flash) (eraseOf (nodeIn state) budget (wordsOf 2 flash))
+
+-- The slow-control step, on the Q-List: 14 bytes a record. 02, request 7.
+unfoldable pub slowEntry : ℕ → List ℕ → List ℕ → Answered
+slowEntry clock state list =
+    entered (slowCheck state (length list / 14)) state (lentList list) (slowOf (nodeIn state) clock (wordsOf 2 list))

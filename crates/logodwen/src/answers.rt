@@ -2,16 +2,28 @@
 ghost use mathlib.Core.Path.{_≡_};
 ghost use Rattle.node.specs.declared.Answer.{Answer};
 ghost use Rattle.capture.specs.declared.Capture.{Capture};
-ghost use Rattle.logodwen.specs.Number.{fields, answerNumber, captureNumber};
+ghost use Rattle.qlist.specs.declared.Slow.{Slow};
+ghost use Rattle.logodwen.specs.Number.{fields, slowNumber, answerNumber, captureNumber};
 ghost use Rattle.logodwen.specs.Touch.{repliedWords};
 use capture::Capture;
 use node::Answer;
 use node::refusals::refusal_number;
+use qlist::Slow;
 
 fn done(kind: u64, who: u64, from: u64, words: u64) -> u64
     ensures { λ r. ⌜ r ≡ fields kind who from words ⌝ }
 {
     kind % 256 * 256 + who % 256 * 65536 + from % 256 * 16777216 + words % 4294967296 * 4294967296
+}
+
+// What a slow-control step says, as one number.
+fn slow_number(slow: Slow) -> u64
+    ensures { λ r. ⌜ r ≡ slowNumber slow ⌝ }
+{
+    match slow {
+        Slow::Handed(place) => done(6, 0, 0, place as u64),
+        Slow::Nothing => done(7, 0, 0, 0),
+    }
 }
 
 // What a call answers, as one number.
@@ -26,6 +38,7 @@ pub fn answer_number(answer: Answer) -> u64
         Answer::Next(slave) => done(8, slave as u64, 0, 0),
         Answer::Waiting => done(3, 0, 0, 0),
         Answer::Erased(count) => done(0, 0, 0, count as u64),
+        Answer::Slow(slow) => slow_number(slow),
     }
 }
 
@@ -51,5 +64,6 @@ pub fn answer_words(answer: Answer) -> usize
         Answer::Next(_) => 0,
         Answer::Waiting => 0,
         Answer::Erased(_) => 0,
+        Answer::Slow(_) => 0,
     }
 }

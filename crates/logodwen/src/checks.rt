@@ -1,9 +1,10 @@
 // When an entry is refused: by numbers, lengths and the state bytes alone.
 ghost use mathlib.Core.Path.{_≡_};
-ghost use Rattle.logodwen.specs.Causes.{keptOk, linkOk, requestCheck, replyCheck, pollCheck, eraseCheck};
+ghost use Rattle.logodwen.specs.Causes.{keptOk, recordsOk, linkOk, requestCheck, replyCheck, pollCheck, eraseCheck, slowCheck};
 use codec::state::is_state;
 use codec::state::node_in;
 use codec::words::byte;
+use codec::words::word16;
 use codec::words::word32;
 use node::Refusal;
 use node::Verdict;
@@ -11,16 +12,25 @@ use node::Verdict;
 fn kept_ok(state: &[u8], flash: usize) -> bool
     ensures { λ r. ⌜ r ≡ keptOk (now (state .entry)) flash ⌝ }
 {
-    if state.len() != 188 {
+    if state.len() != 192 {
         return true;
     }
     flash == word32(state, 20) as usize
 }
 
+fn records_ok(state: &[u8], records: usize) -> bool
+    ensures { λ r. ⌜ r ≡ recordsOk (now (state .entry)) records ⌝ }
+{
+    if state.len() != 192 {
+        return true;
+    }
+    word16(state, 188) as usize <= records
+}
+
 fn link_ok(state: &[u8], link: u32) -> bool
     ensures { λ r. ⌜ r ≡ linkOk (now (state .entry)) link ⌝ }
 {
-    if state.len() != 188 {
+    if state.len() != 192 {
         return true;
     }
     link < byte(state, 1) as u32
@@ -35,9 +45,10 @@ pub fn request_check(
     dm: usize,
     io: usize,
     area: usize,
+    records: usize,
     reply: usize,
 ) -> Verdict
-    ensures { λ r. ⌜ r ≡ requestCheck link packet (now (state .entry)) flash pm dm io area reply ⌝ }
+    ensures { λ r. ⌜ r ≡ requestCheck link packet (now (state .entry)) flash pm dm io area records reply ⌝ }
 {
     if (flash != 32768) | !kept_ok(state, flash) {
         return Verdict::No(Refusal::FlashSize);
@@ -50,6 +61,9 @@ pub fn request_check(
     }
     if area < 32768 {
         return Verdict::No(Refusal::AreaSize);
+    }
+    if (910 < records) | !records_ok(state, records) {
+        return Verdict::No(Refusal::ListSize);
     }
     if !link_ok(state, link) {
         return Verdict::No(Refusal::Number);
@@ -110,6 +124,18 @@ pub fn erase_check(state: &[u8], flash: usize) -> Verdict
 {
     if (flash != 32768) | !kept_ok(state, flash) {
         return Verdict::No(Refusal::FlashSize);
+    }
+    if !is_state(state) {
+        return Verdict::No(Refusal::State);
+    }
+    Verdict::Fine
+}
+
+pub fn slow_check(state: &[u8], records: usize) -> Verdict
+    ensures { λ r. ⌜ r ≡ slowCheck (now (state .entry)) records ⌝ }
+{
+    if (910 < records) | !records_ok(state, records) {
+        return Verdict::No(Refusal::ListSize);
     }
     if !is_state(state) {
         return Verdict::No(Refusal::State);

@@ -1,18 +1,20 @@
-// The C border: five entries on numbers and runs of bytes, which a bench host in C links. An entry checks what it is given, takes the
+// The C border: six entries on numbers and runs of bytes, which a bench host in C links. An entry checks what it is given, takes the
 // node out of the state bytes, makes the node's call on the words of the lent bytes, and puts state and words back. What each answers
 // and leaves in every run is one definition of specs/Entry, refused entries included. The symbols carry the border's version.
 ghost use mathlib.Core.Path.{_≡_};
 ghost use mathlib.Core.List.{[]};
 ghost use Rattle.memory.specs.Segment.{memories};
 ghost use Rattle.node.specs.Effect.{further, lent};
-ghost use Rattle.node.specs.Calls.{lentReply, lentFlash};
-ghost use Rattle.logodwen.specs.Entry.{answered, startEntry, requestEntry, replyEntry, pollEntry, eraseEntry};
+ghost use Rattle.node.specs.Calls.{lentReply, lentFlash, lentList};
+ghost use Rattle.logodwen.specs.Entry.{answered, startEntry, requestEntry, replyEntry, pollEntry, eraseEntry, slowEntry};
 use crate::answers::answer_number;
 use crate::checks::erase_check;
 use crate::checks::poll_check;
 use crate::checks::reply_check;
 use crate::checks::request_check;
+use crate::checks::slow_check;
 use crate::erasing::on_erase;
+use crate::lists::on_slow;
 use crate::requests::on_request;
 use crate::slaves::on_poll;
 use crate::slaves::on_reply;
@@ -28,6 +30,7 @@ mod checks;
 mod erasing;
 mod files;
 mod filing;
+mod lists;
 mod load;
 mod memories;
 mod packets;
@@ -42,7 +45,7 @@ mod stretches;
 
 // Start on a flash: the refusal's number, 0 for done.
 #[no_mangle]
-pub extern "C" fn logodwen3_start(
+pub extern "C" fn logodwen4_start(
     kind: u32,
     ports: u32,
     subdetector: u32,
@@ -61,7 +64,7 @@ pub extern "C" fn logodwen3_start(
     if !((1 <= ports) & (ports <= 4)) | !((kind == 1) | (kind == 2)) | (7 < subdetector) {
         return 4;
     }
-    if state.len() != 188 {
+    if state.len() != 192 {
         return 5;
     }
     let turn = on_start(
@@ -81,7 +84,7 @@ pub extern "C" fn logodwen3_start(
 
 // A request from a link.
 #[no_mangle]
-pub extern "C" fn logodwen3_request(
+pub extern "C" fn logodwen4_request(
     clock: u32,
     link: u32,
     bc: u32,
@@ -93,9 +96,10 @@ pub extern "C" fn logodwen3_request(
     dm: &mut [u8],
     io: &mut [u8],
     area: &mut [u8],
+    list: &mut [u8],
     reply: &mut [u8],
 ) -> u64
-    ensures { λ r. ⌜ answered r (now (state .exit)) (lent (now (flash .exit)) (memories (now (pm .exit)) (now (dm .exit)) (now (io .exit))) (further (now (area .exit))) (now (reply .exit))) ≡ requestEntry clock link bc «receive_error» (now (packet .entry)) (now (state .entry)) (lent (now (flash .entry)) (memories (now (pm .entry)) (now (dm .entry)) (now (io .entry))) (further (now (area .entry))) (now (reply .entry))) ⌝ }
+    ensures { λ r. ⌜ answered r (now (state .exit)) (lent (now (flash .exit)) (memories (now (pm .exit)) (now (dm .exit)) (now (io .exit))) (further (now (area .exit)) (now (list .exit))) (now (reply .exit))) ≡ requestEntry clock link bc «receive_error» (now (packet .entry)) (now (state .entry)) (lent (now (flash .entry)) (memories (now (pm .entry)) (now (dm .entry)) (now (io .entry))) (further (now (area .entry)) (now (list .entry))) (now (reply .entry))) ⌝ }
 {
     let verdict = request_check(
         link,
@@ -106,6 +110,7 @@ pub extern "C" fn logodwen3_request(
         dm.len() / 2,
         io.len() / 2,
         area.len() / 2,
+        list.len() / 14,
         reply.len() / 2,
     );
     match verdict {
@@ -124,6 +129,7 @@ pub extern "C" fn logodwen3_request(
                 dm,
                 io,
                 area,
+                list,
                 reply,
             );
             let next = turn.node;
@@ -137,7 +143,7 @@ pub extern "C" fn logodwen3_request(
 
 // A slave's reply.
 #[no_mangle]
-pub extern "C" fn logodwen3_reply(
+pub extern "C" fn logodwen4_reply(
     clock: u32,
     slave: u32,
     bc: u32,
@@ -177,7 +183,7 @@ pub extern "C" fn logodwen3_reply(
 
 // A poll, while a request waits for a slave.
 #[no_mangle]
-pub extern "C" fn logodwen3_poll(clock: u32, state: &mut [u8], reply: &mut [u8]) -> u64
+pub extern "C" fn logodwen4_poll(clock: u32, state: &mut [u8], reply: &mut [u8]) -> u64
     ensures { λ r. ⌜ answered r (now (state .exit)) (lentReply (now (reply .exit))) ≡ pollEntry clock (now (state .entry)) (now (reply .entry)) ⌝ }
 {
     let verdict = poll_check(state, reply.len() / 2);
@@ -196,7 +202,7 @@ pub extern "C" fn logodwen3_poll(clock: u32, state: &mut [u8], reply: &mut [u8])
 
 // Erase progress.
 #[no_mangle]
-pub extern "C" fn logodwen3_erase(budget: u64, state: &mut [u8], flash: &mut [u8]) -> u64
+pub extern "C" fn logodwen4_erase(budget: u64, state: &mut [u8], flash: &mut [u8]) -> u64
     ensures { λ r. ⌜ answered r (now (state .exit)) (lentFlash (now (flash .exit))) ≡ eraseEntry budget (now (state .entry)) (now (flash .entry)) ⌝ }
 {
     let verdict = erase_check(state, flash.len() / 2);
@@ -204,6 +210,25 @@ pub extern "C" fn logodwen3_erase(budget: u64, state: &mut [u8], flash: &mut [u8
         Verdict::Fine => {
             let node = node_in(state);
             let turn = on_erase(node, budget as usize, flash);
+            let next = turn.node;
+            let answer = turn.answer;
+            encode(next, state);
+            answer_number(answer)
+        }
+        Verdict::No(refusal) => refusal_number(refusal) as u64,
+    }
+}
+
+// A slow-control step, on the Q-List.
+#[no_mangle]
+pub extern "C" fn logodwen4_slow(clock: u32, state: &mut [u8], list: &mut [u8]) -> u64
+    ensures { λ r. ⌜ answered r (now (state .exit)) (lentList (now (list .exit))) ≡ slowEntry clock (now (state .entry)) (now (list .entry)) ⌝ }
+{
+    let verdict = slow_check(state, list.len() / 14);
+    match verdict {
+        Verdict::Fine => {
+            let node = node_in(state);
+            let turn = on_slow(node, clock, list);
             let next = turn.node;
             let answer = turn.answer;
             encode(next, state);

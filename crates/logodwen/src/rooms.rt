@@ -8,6 +8,12 @@ pub fn room_5() -> [u16; 5]
     [0; 5]
 }
 
+pub fn room_7() -> [u16; 7]
+    ensures { λ r. ⌜ length r ≡ 7 ⌝ }
+{
+    [0; 7]
+}
+
 pub fn room_64() -> [u16; 64]
     ensures { λ r. ⌜ length r ≡ 64 ⌝ }
 {
@@ -48,6 +54,12 @@ pub fn room_4098() -> [u16; 4098]
     ensures { λ r. ⌜ length r ≡ 4098 ⌝ }
 {
     [0; 4098]
+}
+
+pub fn room_6370() -> [u16; 6370]
+    ensures { λ r. ⌜ length r ≡ 6370 ⌝ }
+{
+    [0; 6370]
 }
 
 pub fn room_8192() -> [u16; 8192]

@@ -59,6 +59,12 @@ enum-known-answer-5 c = search needs
 done-requires-5 : tie.Need-done-requires-5
 done-requires-5 c κs = search needs
 
+enum-known-answer-6 : tie.Need-enum-known-answer-6
+enum-known-answer-6 c = search needs
+
+slow-number-requires : tie.Need-slow-number-requires
+slow-number-requires c κs = search needs
+
 returns : tie.Need-returns
 returns c = search needs
 
@@ -79,6 +85,9 @@ returns-6 c = search needs
 
 returns-7 : tie.Need-returns-7
 returns-7 c = via answerNumber (c .before .before .answer5 .given .1) (c .done5 .ensures)
+
+returns-8 : tie.Need-returns-8
+returns-8 c = via answerNumber (c .before .before .answer6 .given .1) (c .slow-number .ensures)
 
 pub answer-number-spec : {M : Type 1} → statement M
 answer-number-spec =
@@ -102,10 +111,13 @@ answer-number-spec =
     done-requires-4
     enum-known-answer-5
     done-requires-5
+    enum-known-answer-6
+    slow-number-requires
     returns
     returns-2
     returns-3
     returns-4
     returns-5
     returns-6
-    returns-7)
+    returns-7
+    returns-8)

@@ -1,7 +1,7 @@
 -- `logodwen::checks::request_check` meets its contract. Assumes nothing.
 use mathlib.Core.Path.{refl, sym, ap, _∙_}
 use mathlib.Core.Bool.{Bool, _&&_, _||_, not}
-use lib.Dec.{eqb, leb}
+use lib.Dec.{eqb, ltb, leb}
 use Rattle.base.proofs.Pick.{yes, no}
 use borrow.Author.Tests.{lt-ltb, le-ltb, not-false}
 use Rattle.logodwen.proofs.Entering.{state-long}
@@ -31,33 +31,40 @@ returns-4 : tie.Need-returns-4
 unfolding requestCheck
 returns-4 c = no _ (sym (ap (λ (x : Bool). not (eqb (c .before .before .before .before .before .before .args .flash) 32768) || not x) (c .before .before .before .before .kept-ok .ensures)) ∙ c .before .before .before .if1 .left) (no _ (le-ltb _ _ (c .before .before .if2 .left)) (no _ (c .before .if3 .left) (yes _ (lt-ltb _ _ (c .if4 .taken)) refl)))
 
-link-ok-requires : tie.Need-link-ok-requires
-link-ok-requires c κs = search needs
+records-ok-requires : tie.Need-records-ok-requires
+records-ok-requires c κs = search needs
 
 returns-5 : tie.Need-returns-5
 unfolding requestCheck
-returns-5 c = no _ (sym (ap (λ (x : Bool). not (eqb (c .before .before .before .before .before .before .before .before .args .flash) 32768) || not x) (c .before .before .before .before .before .before .kept-ok .ensures)) ∙ c .before .before .before .before .before .if1 .left) (no _ (le-ltb _ _ (c .before .before .before .before .if2 .left)) (no _ (c .before .before .before .if3 .left) (no _ (le-ltb _ _ (c .before .before .if4 .left)) (yes _ (sym (ap not (c .before .link-ok .ensures)) ∙ c .if5 .taken) refl))))
+returns-5 c = no _ (sym (ap (λ (x : Bool). not (eqb (c .before .before .before .before .before .before .before .before .args .flash) 32768) || not x) (c .before .before .before .before .before .before .kept-ok .ensures)) ∙ c .before .before .before .before .before .if1 .left) (no _ (le-ltb _ _ (c .before .before .before .before .if2 .left)) (no _ (c .before .before .before .if3 .left) (no _ (le-ltb _ _ (c .before .before .if4 .left)) (yes _ (sym (ap (λ (x : Bool). ltb 910 (c .before .before .before .before .before .before .before .before .args .records) || not x) (c .before .records-ok .ensures)) ∙ c .if5 .taken) refl))))
+
+link-ok-requires : tie.Need-link-ok-requires
+link-ok-requires c κs = search needs
+
+returns-6 : tie.Need-returns-6
+unfolding requestCheck
+returns-6 c = no _ (sym (ap (λ (x : Bool). not (eqb (c .before .before .before .before .before .before .before .before .before .before .args .flash) 32768) || not x) (c .before .before .before .before .before .before .before .before .kept-ok .ensures)) ∙ c .before .before .before .before .before .before .before .if1 .left) (no _ (le-ltb _ _ (c .before .before .before .before .before .before .if2 .left)) (no _ (c .before .before .before .before .before .if3 .left) (no _ (le-ltb _ _ (c .before .before .before .before .if4 .left)) (no _ (sym (ap (λ (x : Bool). ltb 910 (c .before .before .before .before .before .before .before .before .before .before .args .records) || not x) (c .before .before .before .records-ok .ensures)) ∙ c .before .before .if5 .left) (yes _ (sym (ap not (c .before .link-ok .ensures)) ∙ c .if6 .taken) refl)))))
 
 is-state-requires : tie.Need-is-state-requires
 is-state-requires c κs = search needs
 
-returns-6 : tie.Need-returns-6
+returns-7 : tie.Need-returns-7
 unfolding requestCheck
-returns-6 c = no _ (sym (ap (λ (x : Bool). not (eqb (c .before .before .before .before .before .before .before .before .before .before .args .flash) 32768) || not x) (c .before .before .before .before .before .before .before .before .kept-ok .ensures)) ∙ c .before .before .before .before .before .before .before .if1 .left) (no _ (le-ltb _ _ (c .before .before .before .before .before .before .if2 .left)) (no _ (c .before .before .before .before .before .if3 .left) (no _ (le-ltb _ _ (c .before .before .before .before .if4 .left)) (no _ (sym (ap not (c .before .before .before .link-ok .ensures)) ∙ c .before .before .if5 .left) (yes _ (sym (ap not (c .before .is-state .ensures)) ∙ c .if6 .taken) refl)))))
+returns-7 c = no _ (sym (ap (λ (x : Bool). not (eqb (c .before .before .before .before .before .before .before .before .before .before .before .before .args .flash) 32768) || not x) (c .before .before .before .before .before .before .before .before .before .before .kept-ok .ensures)) ∙ c .before .before .before .before .before .before .before .before .before .if1 .left) (no _ (le-ltb _ _ (c .before .before .before .before .before .before .before .before .if2 .left)) (no _ (c .before .before .before .before .before .before .before .if3 .left) (no _ (le-ltb _ _ (c .before .before .before .before .before .before .if4 .left)) (no _ (sym (ap (λ (x : Bool). ltb 910 (c .before .before .before .before .before .before .before .before .before .before .before .before .args .records) || not x) (c .before .before .before .before .before .records-ok .ensures)) ∙ c .before .before .before .before .if5 .left) (no _ (sym (ap not (c .before .before .before .link-ok .ensures)) ∙ c .before .before .if6 .left) (yes _ (sym (ap not (c .before .is-state .ensures)) ∙ c .if7 .taken) refl))))))
 
 node-in-requires : tie.Need-node-in-requires
-node-in-requires c κs = state-long (c .before .before .before .before .before .before .before .before .before .before .args .state .now) (not-false _ (sym (ap not (c .before .is-state .ensures)) ∙ c .if6 .left))
+node-in-requires c κs = state-long (c .before .before .before .before .before .before .before .before .before .before .before .before .args .state .now) (not-false _ (sym (ap not (c .before .is-state .ensures)) ∙ c .if7 .left))
 
 is-pending-requires : tie.Need-is-pending-requires
 is-pending-requires c κs = search needs
 
-returns-7 : tie.Need-returns-7
-unfolding requestCheck
-returns-7 c = no _ (sym (ap (λ (x : Bool). not (eqb (c .before .before .before .before .before .before .before .before .before .before .before .before .before .args .flash) 32768) || not x) (c .before .before .before .before .before .before .before .before .before .before .before .kept-ok .ensures)) ∙ c .before .before .before .before .before .before .before .before .before .before .if1 .left) (no _ (le-ltb _ _ (c .before .before .before .before .before .before .before .before .before .if2 .left)) (no _ (c .before .before .before .before .before .before .before .before .if3 .left) (no _ (le-ltb _ _ (c .before .before .before .before .before .before .before .if4 .left)) (no _ (sym (ap not (c .before .before .before .before .before .before .link-ok .ensures)) ∙ c .before .before .before .before .before .if5 .left) (no _ (sym (ap not (c .before .before .before .before .is-state .ensures)) ∙ c .before .before .before .if6 .left) (yes _ (sym (ap (λ (x : Bool). x && leb 1 (c .before .before .before .before .before .before .before .before .before .before .before .before .before .args .packet)) (c .before .is-pending .ensures ∙ ap (λ (n : Node). isPending (n .pending)) (c .before .before .node-in .ensures))) ∙ c .if7 .taken) refl))))))
-
 returns-8 : tie.Need-returns-8
 unfolding requestCheck
-returns-8 c = no _ (sym (ap (λ (x : Bool). not (eqb (c .before .before .before .before .before .before .before .before .before .before .before .before .before .args .flash) 32768) || not x) (c .before .before .before .before .before .before .before .before .before .before .before .kept-ok .ensures)) ∙ c .before .before .before .before .before .before .before .before .before .before .if1 .left) (no _ (le-ltb _ _ (c .before .before .before .before .before .before .before .before .before .if2 .left)) (no _ (c .before .before .before .before .before .before .before .before .if3 .left) (no _ (le-ltb _ _ (c .before .before .before .before .before .before .before .if4 .left)) (no _ (sym (ap not (c .before .before .before .before .before .before .link-ok .ensures)) ∙ c .before .before .before .before .before .if5 .left) (no _ (sym (ap not (c .before .before .before .before .is-state .ensures)) ∙ c .before .before .before .if6 .left) (no _ (sym (ap (λ (x : Bool). x && leb 1 (c .before .before .before .before .before .before .before .before .before .before .before .before .before .args .packet)) (c .before .is-pending .ensures ∙ ap (λ (n : Node). isPending (n .pending)) (c .before .before .node-in .ensures))) ∙ c .if7 .left) refl))))))
+returns-8 c = no _ (sym (ap (λ (x : Bool). not (eqb (c .before .before .before .before .before .before .before .before .before .before .before .before .before .before .before .args .flash) 32768) || not x) (c .before .before .before .before .before .before .before .before .before .before .before .before .before .kept-ok .ensures)) ∙ c .before .before .before .before .before .before .before .before .before .before .before .before .if1 .left) (no _ (le-ltb _ _ (c .before .before .before .before .before .before .before .before .before .before .before .if2 .left)) (no _ (c .before .before .before .before .before .before .before .before .before .before .if3 .left) (no _ (le-ltb _ _ (c .before .before .before .before .before .before .before .before .before .if4 .left)) (no _ (sym (ap (λ (x : Bool). ltb 910 (c .before .before .before .before .before .before .before .before .before .before .before .before .before .before .before .args .records) || not x) (c .before .before .before .before .before .before .before .before .records-ok .ensures)) ∙ c .before .before .before .before .before .before .before .if5 .left) (no _ (sym (ap not (c .before .before .before .before .before .before .link-ok .ensures)) ∙ c .before .before .before .before .before .if6 .left) (no _ (sym (ap not (c .before .before .before .before .is-state .ensures)) ∙ c .before .before .before .if7 .left) (yes _ (sym (ap (λ (x : Bool). x && leb 1 (c .before .before .before .before .before .before .before .before .before .before .before .before .before .before .before .args .packet)) (c .before .is-pending .ensures ∙ ap (λ (n : Node). isPending (n .pending)) (c .before .before .node-in .ensures))) ∙ c .if8 .taken) refl)))))))
+
+returns-9 : tie.Need-returns-9
+unfolding requestCheck
+returns-9 c = no _ (sym (ap (λ (x : Bool). not (eqb (c .before .before .before .before .before .before .before .before .before .before .before .before .before .before .before .args .flash) 32768) || not x) (c .before .before .before .before .before .before .before .before .before .before .before .before .before .kept-ok .ensures)) ∙ c .before .before .before .before .before .before .before .before .before .before .before .before .if1 .left) (no _ (le-ltb _ _ (c .before .before .before .before .before .before .before .before .before .before .before .if2 .left)) (no _ (c .before .before .before .before .before .before .before .before .before .before .if3 .left) (no _ (le-ltb _ _ (c .before .before .before .before .before .before .before .before .before .if4 .left)) (no _ (sym (ap (λ (x : Bool). ltb 910 (c .before .before .before .before .before .before .before .before .before .before .before .before .before .before .before .args .records) || not x) (c .before .before .before .before .before .before .before .before .records-ok .ensures)) ∙ c .before .before .before .before .before .before .before .if5 .left) (no _ (sym (ap not (c .before .before .before .before .before .before .link-ok .ensures)) ∙ c .before .before .before .before .before .if6 .left) (no _ (sym (ap not (c .before .before .before .before .is-state .ensures)) ∙ c .before .before .before .if7 .left) (no _ (sym (ap (λ (x : Bool). x && leb 1 (c .before .before .before .before .before .before .before .before .before .before .before .before .before .before .before .args .packet)) (c .before .is-pending .ensures ∙ ap (λ (n : Node). isPending (n .pending)) (c .before .before .node-in .ensures))) ∙ c .if8 .left) refl)))))))
 
 pub request-check-spec : {M : Type 1} → statement M
 request-check-spec =
@@ -68,11 +75,13 @@ request-check-spec =
     returns-2
     returns-3
     returns-4
-    link-ok-requires
+    records-ok-requires
     returns-5
-    is-state-requires
+    link-ok-requires
     returns-6
+    is-state-requires
+    returns-7
     node-in-requires
     is-pending-requires
-    returns-7
-    returns-8)
+    returns-8
+    returns-9)

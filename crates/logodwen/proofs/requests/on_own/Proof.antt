@@ -1,21 +1,20 @@
 -- `logodwen::requests::on_own` meets its contract: each family of commands on the runs that it touches. Assumes nothing.
-use Prim.Native.Nat.{ℕ, _/_, _≤_}
+use Prim.Native.Nat.{_/_, _≤_}
 use mathlib.Core.Path.{_≡_, sym, subst, _∙_}
 use mathlib.Core.Bool.{true, not, _||_}
-use mathlib.Core.List.{List, []}
+use mathlib.Core.List.{[]}
 use native.Mathlib.Omega.{arith}
 use borrow.Author.Tests.{not-false}
 use lib.ListN.{length}
-use Rattle.base.specs.Words.{Below}
 use Rattle.memory.specs.Segment.{Memories, memories}
-use Rattle.node.specs.Effect.{further, Lent, lent}
+use Rattle.node.specs.Effect.{Further, further, Lent, lent}
 use Rattle.node.specs.Files.{loadOf}
 use Rattle.node.specs.Own.{onMemories, memoriesOf}
 use Rattle.node.specs.declared.Route.{Route}
 use Rattle.node.proofs.Routes.{Fits, route-fits}
 use Rattle.codec.specs.Bytes.{wordsOf}
 use Rattle.logodwen.specs.Entry.{memoryWords, runWords}
-use Rattle.logodwen.specs.Touch.{isQuiet}
+use Rattle.logodwen.specs.Touch.{Beside, isQuiet}
 use Rattle.codec.proofs.Runs.{length-words-of}
 use Rattle.logodwen.proofs.OneFile.{file-request}
 use Rattle.logodwen.proofs.Touch.{Lends}
@@ -31,20 +30,20 @@ use Rattle.logodwen.proofs.requests.on_own.Tie as tie
 abbrev held : tie.Start → Memories
 held s = memories (s .args .pm .now) (s .args .dm .now) (s .args .io .now)
 
-abbrev given : tie.Start → List ℕ → Lent
-given s area = lent (s .args .flash .now) (held s) (further area) (s .args .reply .now)
+abbrev given : tie.Start → Further → Lent
+given s x = lent (s .args .flash .now) (held s) x (s .args .reply .now)
 
 some : (s : tie.Start) → (1 ≤ length (s .args .packet .now) / 2) × (length (s .args .packet .now) / 2 ≤ 8192)
 some s =
     let a = s .args in
     let e = length-words-of 2 (a .packet .now) in (
-      omega (arith, e, subst (λ (r : Route). Fits r (wordsOf 2 (a .packet .now))) (s .pre .1 .1) (route-fits (a .node) (a .link) (a .bc) (a .errors) (wordsOf 2 (a .packet .now)))),
-      omega (arith, e, own-short (a .node) (a .clock) (a .link) (a .bc) (a .errors) (a .packet .now) (given s []) (a .id) (s .pre .1 .1)),
+      omega (arith, e, subst (λ (r : Route). Fits r (wordsOf 2 (a .packet .now))) (s .pre .1 .1 .0) (route-fits (a .node) (a .link) (a .bc) (a .errors) (wordsOf 2 (a .packet .now)))),
+      omega (arith, e, own-short (a .node) (a .clock) (a .link) (a .bc) (a .errors) (a .packet .now) (given s (further [] [])) (a .id) (s .pre .1 .1 .0)),
     )
 
-lends : (c : tie.After-slice-known5) (area : List ℕ) → Below 256 area → Lends (given (c .before .before .before .before .before .before) area)
-lends c area low =
-    record { buffer = c .before .before .before .before .before .before .pre .0 .1; flash = λ i. omega (arith, c .before .before .before .before .slice-known .given i); pm = λ i. omega (arith, c .before .before .before .slice-known2 .given i); dm = λ i. omega (arith, c .before .before .slice-known3 .given i); io = λ i. omega (arith, c .before .slice-known4 .given i); area = low; reply = λ i. omega (arith, c .slice-known5 .given i) }
+lends : (c : tie.After-slice-known5) (x : Further) → Beside (c .before .before .before .before .before .before .args .node) x → Lends (given (c .before .before .before .before .before .before) x)
+lends c x beside =
+    record { buffer = c .before .before .before .before .before .before .pre .0 .1; flash = λ i. omega (arith, c .before .before .before .before .slice-known .given i); pm = λ i. omega (arith, c .before .before .before .slice-known2 .given i); dm = λ i. omega (arith, c .before .before .slice-known3 .given i); io = λ i. omega (arith, c .before .slice-known4 .given i); area = beside .area; list = beside .list; reply = λ i. omega (arith, c .slice-known5 .given i) }
 
 needs-memories-requires : tie.Need-needs-memories-requires
 needs-memories-requires c κs = search needs
@@ -59,9 +58,9 @@ same-length : tie.Need-same-length
 same-length c = search needs
 
 returns : tie.Need-returns
-returns c = λ area long low. let a = c .before .before .before .before .before .before .before .before .before .before .before .before .before .args in
+returns c = λ x beside. let a = c .before .before .before .before .before .before .before .before .before .before .before .before .before .args in
     let q : isQuiet (a .id) ≡ true = sym (λ i. not (c .before .before .before .before .before .before .needs-memories .ensures i || c .before .before .before .before .before .needs-flash .ensures i)) ∙ c .before .before .before .before .if1 .taken in
-    quiet-request (a .node) (a .clock) (a .link) (a .bc) (a .errors) (a .packet .now) (given (c .before .before .before .before .before .before .before .before .before .before .before .before .before) area) (lends (c .before .before .before .before .before .before .before) area low) (c .before .before .before .before .before .before .before .before .before .before .before .before .before .pre .1 .0 (length area / 2) long) (a .id) (c .before .before .before .before .before .before .before .before .before .before .before .before .before .pre .1 .1) q (c .before .before .on-settings .ensures)
+    quiet-request (a .node) (a .clock) (a .link) (a .bc) (a .errors) (a .packet .now) (given (c .before .before .before .before .before .before .before .before .before .before .before .before .before) x) (lends (c .before .before .before .before .before .before .before) x beside) (c .before .before .before .before .before .before .before .before .before .before .before .before .before .pre .1 .0 x beside) (a .id) (c .before .before .before .before .before .before .before .before .before .before .before .before .before .pre .1 .1 .0) q (c .before .before .before .before .before .before .before .before .before .before .before .before .before .pre .1 .1 .1) (c .before .before .on-settings .ensures)
 
 on-file-requires : tie.Need-on-file-requires
 on-file-requires c κs = search needs
@@ -73,8 +72,8 @@ same-length-3 : tie.Need-same-length-3
 same-length-3 c = search needs
 
 returns-2 : tie.Need-returns-2
-returns-2 c = λ area long low. let a = c .before .before .before .before .before .before .before .before .before .before .before .before .before .before .before .args in
-    file-request (a .node) (a .clock) (a .link) (a .bc) (a .errors) (a .packet .now) (given (c .before .before .before .before .before .before .before .before .before .before .before .before .before .before .before) area) (lends (c .before .before .before .before .before .before .before .before .before) area low) (c .before .before .before .before .before .before .before .before .before .before .before .before .before .before .before .pre .1 .0 (length area / 2) long) (a .id) (c .before .before .before .before .before .before .before .before .before .before .before .before .before .before .before .pre .1 .1) (c .before .before .before .before .before .if2 .taken) (c .before .before .on-file .ensures)
+returns-2 c = λ x beside. let a = c .before .before .before .before .before .before .before .before .before .before .before .before .before .before .before .args in
+    file-request (a .node) (a .clock) (a .link) (a .bc) (a .errors) (a .packet .now) (given (c .before .before .before .before .before .before .before .before .before .before .before .before .before .before .before) x) (lends (c .before .before .before .before .before .before .before .before .before) x beside) (c .before .before .before .before .before .before .before .before .before .before .before .before .before .before .before .pre .1 .0 x beside) (a .id) (c .before .before .before .before .before .before .before .before .before .before .before .before .before .before .before .pre .1 .1 .0) (c .before .before .before .before .before .if2 .taken) (c .before .before .on-file .ensures)
 
 on-filing-requires : tie.Need-on-filing-requires
 on-filing-requires c κs = let p = some (c .before .before .before .before .before .before .before .before .before .before .before .before) in (c .before .before .before .before .before .before .before .before .before .before .before .before .pre .0 .0, p .0, p .1)
@@ -83,8 +82,8 @@ same-length-4 : tie.Need-same-length-4
 same-length-4 c = search needs
 
 returns-3 : tie.Need-returns-3
-returns-3 c = λ area long low. let a = c .before .before .before .before .before .before .before .before .before .before .before .before .before .before .before .args in
-    filing-request (a .node) (a .clock) (a .link) (a .bc) (a .errors) (a .packet .now) (given (c .before .before .before .before .before .before .before .before .before .before .before .before .before .before .before) area) (lends (c .before .before .before .before .before .before .before .before .before) area low) (c .before .before .before .before .before .before .before .before .before .before .before .before .before .before .before .pre .1 .0 (length area / 2) long) (a .id) (c .before .before .before .before .before .before .before .before .before .before .before .before .before .before .before .pre .1 .1) (c .before .before .before .before .if3 .taken) (c .before .before .on-filing .ensures)
+returns-3 c = λ x beside. let a = c .before .before .before .before .before .before .before .before .before .before .before .before .before .before .before .args in
+    filing-request (a .node) (a .clock) (a .link) (a .bc) (a .errors) (a .packet .now) (given (c .before .before .before .before .before .before .before .before .before .before .before .before .before .before .before) x) (lends (c .before .before .before .before .before .before .before .before .before) x beside) (c .before .before .before .before .before .before .before .before .before .before .before .before .before .before .before .pre .1 .0 x beside) (a .id) (c .before .before .before .before .before .before .before .before .before .before .before .before .before .before .before .pre .1 .1 .0) (c .before .before .before .before .if3 .taken) (c .before .before .on-filing .ensures)
 
 on-load-requires : tie.Need-on-load-requires
 on-load-requires c κs = c .before .before .before .before .before .before .before .before .before .before .before .before .before .before .before .before .pre .0 .0
@@ -102,12 +101,12 @@ same-length-8 : tie.Need-same-length-8
 same-length-8 c = search needs
 
 returns-4 : tie.Need-returns-4
-returns-4 c = λ area long low. let a = c .before .before .before .before .before .before .before .before .before .before .before .before .before .before .before .before .before .before .before .before .before .before .before .args in
+returns-4 c = λ x beside. let a = c .before .before .before .before .before .before .before .before .before .before .before .before .before .before .before .before .before .before .before .before .before .before .before .args in
     let m = memoryWords (held (c .before .before .before .before .before .before .before .before .before .before .before .before .before .before .before .before .before .before .before .before .before .before .before)) in
     let f = wordsOf 2 (a .flash .now) in
     let p = wordsOf 2 (a .packet .now) in
-    moves-request (a .node) (a .clock) (a .link) (a .bc) (a .errors) (a .packet .now) (given (c .before .before .before .before .before .before .before .before .before .before .before .before .before .before .before .before .before .before .before .before .before .before .before) area) (lends (c .before .before .before .before .before .before .before .before .before .before .before .before .before .before .before .before .before) area low) (c .before .before .before .before .before .before .before .before .before .before .before .before .before .before .before .before .before .before .before .before .before .before .before .pre .1 .0 (length area / 2) long) (a .id) (c .before .before .before .before .before .before .before .before .before .before .before .before .before .before .before .before .before .before .before .before .before .before .before .pre .1 .1)
-    (loadOf (a .node) f m p) (own-load (a .node) (a .clock) (a .link) p (runWords (given (c .before .before .before .before .before .before .before .before .before .before .before .before .before .before .before .before .before .before .before .before .before .before .before) area)) (c .before .before .before .before .before .before .before .before .before .before .before .if4 .taken)) (load-kept (a .node) f m p)
+    moves-request (a .node) (a .clock) (a .link) (a .bc) (a .errors) (a .packet .now) (given (c .before .before .before .before .before .before .before .before .before .before .before .before .before .before .before .before .before .before .before .before .before .before .before) x) (lends (c .before .before .before .before .before .before .before .before .before .before .before .before .before .before .before .before .before) x beside) (c .before .before .before .before .before .before .before .before .before .before .before .before .before .before .before .before .before .before .before .before .before .before .before .pre .1 .0 x beside) (a .id) (c .before .before .before .before .before .before .before .before .before .before .before .before .before .before .before .before .before .before .before .before .before .before .before .pre .1 .1 .0)
+    (loadOf (a .node) f m p) (own-load (a .node) (a .clock) (a .link) p (runWords (given (c .before .before .before .before .before .before .before .before .before .before .before .before .before .before .before .before .before .before .before .before .before .before .before) x)) (c .before .before .before .before .before .before .before .before .before .before .before .if4 .taken)) (load-kept (a .node) f m p)
     (record { pm = λ i. omega (arith, c .before .before .before .before .slice-known9 .given i); dm = λ i. omega (arith, c .before .before .slice-known10 .given i); io = λ i. omega (arith, c .slice-known11 .given i) }) (c .before .before .before .before .before .before .on-load .ensures (a .reply .now))
 
 on-memories-requires : tie.Need-on-memories-requires
@@ -127,12 +126,12 @@ same-length-12 : tie.Need-same-length-12
 same-length-12 c = search needs
 
 returns-5 : tie.Need-returns-5
-returns-5 c = λ area long low. let a = c .before .before .before .before .before .before .before .before .before .before .before .before .before .before .before .before .before .before .before .before .before .before .before .before .before .args in
+returns-5 c = λ x beside. let a = c .before .before .before .before .before .before .before .before .before .before .before .before .before .before .before .before .before .before .before .before .before .before .before .before .before .args in
     let m = memoryWords (held (c .before .before .before .before .before .before .before .before .before .before .before .before .before .before .before .before .before .before .before .before .before .before .before .before .before)) in
     let p = wordsOf 2 (a .packet .now) in
     let h : onMemories (a .id) ≡ true = rest-memories (a .id) (sym (λ i. c .before .before .before .before .before .before .before .before .before .before .before .before .before .before .before .before .before .before .needs-memories .ensures i || c .before .before .before .before .before .before .before .before .before .before .before .before .before .before .before .before .before .needs-flash .ensures i) ∙ not-false _ (c .before .before .before .before .before .before .before .before .before .before .before .before .before .before .before .before .if1 .left)) (c .before .before .before .before .before .before .before .before .before .before .before .before .before .before .before .if2 .left) (c .before .before .before .before .before .before .before .before .before .before .before .before .before .before .if3 .left) (c .before .before .before .before .before .before .before .before .before .before .before .before .before .if4 .left) in
-    moves-request (a .node) (a .clock) (a .link) (a .bc) (a .errors) (a .packet .now) (given (c .before .before .before .before .before .before .before .before .before .before .before .before .before .before .before .before .before .before .before .before .before .before .before .before .before) area) (lends (c .before .before .before .before .before .before .before .before .before .before .before .before .before .before .before .before .before .before .before) area low) (c .before .before .before .before .before .before .before .before .before .before .before .before .before .before .before .before .before .before .before .before .before .before .before .before .before .pre .1 .0 (length area / 2) long) (a .id) (c .before .before .before .before .before .before .before .before .before .before .before .before .before .before .before .before .before .before .before .before .before .before .before .before .before .pre .1 .1)
-    (memoriesOf (a .id) (a .node) (lent [] m (further []) []) p) (own-memories (a .id) (a .node) (a .clock) (a .link) p (runWords (given (c .before .before .before .before .before .before .before .before .before .before .before .before .before .before .before .before .before .before .before .before .before .before .before .before .before) area)) h) (memories-kept (a .id) (a .node) (lent [] m (further []) []) p)
+    moves-request (a .node) (a .clock) (a .link) (a .bc) (a .errors) (a .packet .now) (given (c .before .before .before .before .before .before .before .before .before .before .before .before .before .before .before .before .before .before .before .before .before .before .before .before .before) x) (lends (c .before .before .before .before .before .before .before .before .before .before .before .before .before .before .before .before .before .before .before) x beside) (c .before .before .before .before .before .before .before .before .before .before .before .before .before .before .before .before .before .before .before .before .before .before .before .before .before .pre .1 .0 x beside) (a .id) (c .before .before .before .before .before .before .before .before .before .before .before .before .before .before .before .before .before .before .before .before .before .before .before .before .before .pre .1 .1 .0)
+    (memoriesOf (a .id) (a .node) (lent [] m (further [] []) []) p) (own-memories (a .id) (a .node) (a .clock) (a .link) p (runWords (given (c .before .before .before .before .before .before .before .before .before .before .before .before .before .before .before .before .before .before .before .before .before .before .before .before .before) x)) h) (memories-kept (a .id) (a .node) (lent [] m (further [] []) []) p)
     (record { pm = λ i. omega (arith, c .before .before .before .before .before .before .slice-known12 .given i); dm = λ i. omega (arith, c .before .before .before .before .slice-known13 .given i); io = λ i. omega (arith, c .before .before .slice-known14 .given i) }) (c .before .before .before .before .before .before .before .before .on-memories .ensures)
 
 pub on-own-spec : {M : Type 1} → statement M

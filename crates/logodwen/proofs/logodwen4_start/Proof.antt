@@ -1,4 +1,4 @@
--- `logodwen::logodwen3_start` meets its contract. Assumes nothing.
+-- `logodwen::logodwen4_start` meets its contract. Assumes nothing.
 use mathlib.Core.Path.{refl, sym, ap, _∙_}
 use mathlib.Core.Bool.{not}
 use Prim.Native.Nat.{_/_}
@@ -19,8 +19,8 @@ use Rattle.logodwen.specs.Number.{answerNumber}
 use Rattle.codec.proofs.Runs.{length-words-of}
 use Rattle.logodwen.proofs.Exchange.{left-nothing}
 use borrow.Author.Needs.{needs}
-use Rattle.logodwen.proofs.logodwen3_start.Statement.{statement}
-use Rattle.logodwen.proofs.logodwen3_start.Tie as tie
+use Rattle.logodwen.proofs.logodwen4_start.Statement.{statement}
+use Rattle.logodwen.proofs.logodwen4_start.Tie as tie
 
 returns : tie.Need-returns
 unfolding startEntry startCheck
@@ -56,8 +56,8 @@ returns-4 : tie.Need-returns-4
 unfolding startEntry startCheck
 returns-4 c = entered-fine (startCheck (c .before .before .before .before .before .before .before .before .before .before .before .args .kind) (c .before .before .before .before .before .before .before .before .before .before .before .args .ports) (c .before .before .before .before .before .before .before .before .before .before .before .args .subdetector) (c .before .before .before .before .before .before .before .before .before .before .before .args .state .now) (length (c .before .before .before .before .before .before .before .before .before .before .before .args .flash .now) / 2)) (c .before .before .before .before .before .before .before .before .before .before .before .args .state .now) (lentReply []) (outcome (startOf (c .before .before .before .before .before .before .before .before .before .before .before .args .kind) (c .before .before .before .before .before .before .before .before .before .before .before .args .ports) (c .before .before .before .before .before .before .before .before .before .before .before .args .subdetector) (c .before .before .before .before .before .before .before .before .before .before .before .args .program-version) (c .before .before .before .before .before .before .before .before .before .before .before .args .subdetector-version) (c .before .before .before .before .before .before .before .before .before .before .before .args .start-tests) (c .before .before .before .before .before .before .before .before .before .before .before .args .clock) (wordsOf 2 (c .before .before .before .before .before .before .before .before .before .before .before .args .flash .now))) (lentReply [])) (sym (no _ (ap not (eq-eqb _ _ (c .before .before .before .before .before .before .before .before .if1 .left))) (no _ (c .before .before .before .before .before .before .before .if2 .left) (no _ (ap not (eq-eqb _ _ (c .before .before .before .before .before .before .if3 .left))) refl)))) (left-nothing (c .before .before .before .before .before .on-start .ensures)) (sym (ap (λ (t : Turn). answerNumber (t .answer)) (c .before .before .before .before .before .on-start .ensures) ∙ ap answerNumber (start-done (c .before .before .before .before .before .before .before .before .before .before .before .args .kind) (c .before .before .before .before .before .before .before .before .before .before .before .args .ports) (c .before .before .before .before .before .before .before .before .before .before .before .args .subdetector) (c .before .before .before .before .before .before .before .before .before .before .before .args .program-version) (c .before .before .before .before .before .before .before .before .before .before .before .args .subdetector-version) (c .before .before .before .before .before .before .before .before .before .before .before .args .start-tests) (c .before .before .before .before .before .before .before .before .before .before .before .args .clock) (wordsOf 2 (c .before .before .before .before .before .before .before .before .before .before .before .args .flash .now)) (length-words-of 2 (c .before .before .before .before .before .before .before .before .before .before .before .args .flash .now) ∙ c .before .before .before .before .before .before .before .before .if1 .left) (c .before .before .before .before .before .before .before .if2 .left)))) (c .before .before .encode .ensures)
 
-pub logodwen3-start-spec : {M : Type 1} → statement M
-logodwen3-start-spec =
+pub logodwen4-start-spec : {M : Type 1} → statement M
+logodwen4-start-spec =
     tie.close
     (tie.spec
     returns
