@@ -19,6 +19,9 @@ use Rattle.demands.proofs.PacketsStore.{packets-store}
 use Rattle.demands.proofs.Captures.{data-is-acceptable}
 use Rattle.demands.proofs.Ends.{each-lowers-or-stores, always-ends, never-asked-twice, settled-in-time, dead-end-in-time, all-end-in-time}
 use Rattle.demands.proofs.ClosedRun.{closed-run}
+use Rattle.demands.proofs.Listing.{repetitions-conserved}
+use Rattle.demands.proofs.Turns.{writes-whole, turn-in-order, due-across-wrap}
+use Rattle.demands.proofs.Unread.{unlisted-unread}
 
 pub demands : Demands logodwen
 demands =
@@ -50,6 +53,11 @@ demands =
       settled-in-time = settled-in-time;
       dead-end-in-time = dead-end-in-time;
       all-end-in-time = all-end-in-time;
+      repetitions-conserved = repetitions-conserved;
+      writes-whole = writes-whole;
+      turn-in-order = turn-in-order;
+      unlisted-unread = unlisted-unread;
+      due-across-wrap = due-across-wrap;
       closed-run = closed-run;
       no-stale-record = no-stale-record;
       lengths-shown = lengths-shown;

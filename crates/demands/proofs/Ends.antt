@@ -28,7 +28,7 @@ use Rattle.demands.specs.Events.{Event, Host, stepped, hosted, dropsGrou
 use Rattle.demands.specs.Groups.{GroupRun, setAsked, begun, atLast, slaves, said, ComesBefore, Ascending}
 use Rattle.demands.specs.Ends.{pendingIn, unfinishedIn, yetToAskIn, builtIn, receivedIn, isAnswer, isTaken, isFollowed, clockOf, wordsOf, Steps, EachLowersOrStores, takenIn, HasReply, AlwaysEnds, NeverAskedTwice, ComesAt, polledBy, Ticking, Timed, settles, askedTick, SettledInTime, Silent, DeadEndInTime, AllEndInTime}
 use Rattle.demands.proofs.Slaves.{slaves-exactly}
-use Rattle.demands.proofs.Events.{Going, Quiet, becomes, storing, hearing, stored, erase-quiet, request-quiet, stray-quiet, wait-quiet, reply-stored, reply-ends, late-ends, stored-goes, ended-goes, quiet-goes}
+use Rattle.demands.proofs.Events.{Going, Quiet, becomes, storing, hearing, stored, erase-quiet, slow-quiet, request-quiet, stray-quiet, wait-quiet, reply-stored, reply-ends, late-ends, stored-goes, ended-goes, quiet-goes}
 use Rattle.demands.proofs.Groups.{Begins, begins, silent-ends, stands, asked-in-order}
 
 -- a group of a link that is pending, whatever slave is being asked
@@ -149,6 +149,7 @@ steps-going : {link from set own : ℕ} {x : Awaited} {s : ℕ} {ss base front :
 steps-going k (Event.Requested clock l bc errors packet m y) d =
     quiet-steps k (Event.Requested clock l bc errors packet m y) _ refl (request-quiet k clock l bc errors packet m y d)
 steps-going {h = h} k (Event.Erased budget) d = quiet-steps k (Event.Erased budget) _ refl (erase-quiet h budget)
+steps-going {h = h} k (Event.Slowed clock list) d = quiet-steps k (Event.Slowed clock list) _ refl (slow-quiet h clock list)
 steps-going {link} {x = x} {s = s} {ss = ss} {w = w} {h = h} k (Event.Replied clock slave bc errors status address words) d = go (eqb s slave) refl (isFollowed e (pendingIn h)) refl
   where
     e : Event
@@ -245,6 +246,7 @@ lasts-on e es {link} {h} k st on l = go (isTaken e P) refl (isFollowed e P) refl
     none (Event.Replied clock slave bc errors status address words) a b c = false≢true (sym c ∙ a)
     none (Event.Polled clock) a b c = false≢true b
     none (Event.Erased budget) a b c = false≢true a
+    none (Event.Slowed clock list) a b c = false≢true a
 
     make : takenIn logodwen (e ∷ es) h + unfinishedIn Q * 12287 + receivedIn P ≤ unfinishedIn P * 12287 + receivedIn Q
         → (Silent logodwen (e ∷ es) h → takenIn logodwen (e ∷ es) h + unfinishedIn Q ≡ unfinishedIn P) → Lasts link (e ∷ es) h
@@ -325,12 +327,14 @@ poll-early (Event.Requested clock link bc errors packet m x) tick at polled p a 
 poll-early (Event.Replied clock slave bc errors status address words) tick at polled p a b c d f l = l
 poll-early (Event.Polled clock) tick at polled p a b c d f l = in-time tick at clock (askedAt p) a b c d f
 poll-early (Event.Erased budget) tick at polled p a b c d f l = l
+poll-early (Event.Slowed clock list) tick at polled p a b c d f l = l
 
 poll-most : (e : Event) (tick polled : ℕ) → polled ≤ tick → polledBy polled tick e ≤ tick
 poll-most (Event.Requested clock link bc errors packet m x) tick polled l = l
 poll-most (Event.Replied clock slave bc errors status address words) tick polled l = l
 poll-most (Event.Polled clock) tick polled l = omega arith
 poll-most (Event.Erased budget) tick polled l = l
+poll-most (Event.Slowed clock list) tick polled l = l
 
 -- a call that is taken has a clock
 taken-clock : (e : Event) (tick : ℕ) (p : Pending) → isTaken e p ≡ true → ComesAt tick e → clockOf e ≡ tick % 4294967296
@@ -338,6 +342,7 @@ taken-clock (Event.Requested clock link bc errors packet m x) tick p a c = c
 taken-clock (Event.Replied clock slave bc errors status address words) tick p a c = c
 taken-clock (Event.Polled clock) tick p a c = c
 taken-clock (Event.Erased budget) tick p a c = absurd (false≢true a)
+taken-clock (Event.Slowed clock list) tick p a c = absurd (false≢true a)
 
 in-ticks : (es : List Event) (ticks : List ℕ) (at before polled now : ℕ) {link : ℕ} {h : Host} → Pends link h → Undropped link es
     → isPending (pendingIn (hosted logodwen es h)) ≡ true → Ticking logodwen before polled ticks es now h
@@ -391,6 +396,7 @@ heards-most [] x (s ∷ ss) w = omega arith
 heards-most (e ∷ es) x [] w = omega arith
 heards-most (Event.Requested clock link bc errors request m y ∷ es) x (s ∷ ss) w = heards-most es x (s ∷ ss) w
 heards-most (Event.Erased budget ∷ es) x (s ∷ ss) w = heards-most es x (s ∷ ss) w
+heards-most (Event.Slowed clock list ∷ es) x (s ∷ ss) w = heards-most es x (s ∷ ss) w
 heards-most (Event.Replied clock slave bc errors status address words ∷ es) x (s ∷ ss) w =
     pick-case Fits (eqb s slave) {x = pick (isPart a w (length ss)) more next} {y = heards x (s ∷ ss) w es}
     (λ _. pick-case Fits (isPart a w (length ss)) {x = more} {y = next} (λ _. heards-most es (sentNext clock a) (s ∷ ss) w)

@@ -23,13 +23,14 @@ use Rattle.flash.proofs.Geometry.{sector-fits, length-sector, laid-sector}
 use Rattle.flash.proofs.Statuses.{empty-blanks}
 use Rattle.flash.proofs.Erasure.{count-is, erased-laid}
 use Rattle.memory.specs.Segment.{Memories}
+use Rattle.qlist.specs.Words.{recordsIn}
 use Rattle.node.specs.Effect.{ownOutcome, Did, changes, owns, Lent, lent, Outcome, applied, nodeAfter, Change, flashAfter, Further}
 use Rattle.node.specs.Files.{isErasing, toErase, eraseAt, eraseStartOf}
 use Rattle.node.specs.Own.{filesOf, ownOf}
-use Rattle.node.specs.Refusals.{replyVerdict, pollVerdict, eraseVerdict}
+use Rattle.node.specs.Refusals.{replyVerdict, pollVerdict, eraseVerdict, slowVerdict}
 use Rattle.node.specs.Slaves.{replyEffect, pollEffect}
 use Rattle.node.specs.Valid.{sizeOk, stateOk}
-use Rattle.node.specs.Calls.{judged, lentFlash, lentReply, requestOf, replyOf, pollOf, eraseEffect, eraseOf}
+use Rattle.node.specs.Calls.{judged, lentFlash, lentReply, lentList, requestOf, replyOf, pollOf, eraseEffect, eraseOf, slowEffect, slowOf}
 use Rattle.node.specs.declared.Answer.{Answer}
 use Rattle.node.specs.declared.Node.{Node}
 use Rattle.node.specs.declared.Verdict.{Verdict}
@@ -104,6 +105,14 @@ module _ (n : Node) (flash : List ℕ) (erases : isErasing (n .erasing) ≡ true
     where
       count : (v : Verdict) → countOf (judged v n (lentReply reply) (replyEffect n clock errors status address bc words reply) .turn .answer) ≡ 0
       count Verdict.Fine = reply-answer CountsNone (λ _. refl) (λ _. refl) (λ _. refl) refl n clock errors status address bc words reply
+      count (Verdict.No r) = refl
+
+  slow-leaves : (clock : ℕ) (list : List ℕ) → Leaves (Call.Slow clock list) n flash
+  unfolding slowOf
+  slow-leaves clock list = record { erasing = erasure-follows .slow n clock list; words = refl; count = count (slowVerdict n (recordsIn list)) }
+    where
+      count : (v : Verdict) → countOf (judged v n (lentList list) (slowEffect n clock list) .turn .answer) ≡ 0
+      count Verdict.Fine = refl
       count (Verdict.No r) = refl
 
   poll-leaves : (clock : ℕ) (reply : List ℕ) → Leaves (Call.Poll clock reply) n flash
@@ -245,6 +254,8 @@ module _ (n : Node) (flash : List ℕ) (s : ℕ) (v : Valid n flash) (sector : i
       let e = stage .has .words ∙ ap front k in
       subst (λ (x : List ℕ). Stage (eraseOf m budget x .turn .node) (eraseOf m budget x .after .flash) (given + budget) (counted + countOf (eraseOf m budget x .turn .answer))) (sym e)
       (erase-stage m given budget less (stage .has .going less) counted (stage .has .count ∙ k) (subst (Valid m) e (stage .valid)))
+  made-stage (Call.Slow clock list) m now given counted less q b stage =
+      left-stage (Call.Slow clock list) m now given counted less b stage (slow-leaves m now (ap isErasing (stage .has .going less)) clock list)
 
   -- whatever calls are made
   course-stage : {m : Node} {after : List ℕ} {given counted : ℕ} → Course logodwen size n flash m after given counted → Stage m after given counted
@@ -264,7 +275,7 @@ begun-valid n l s fit sector =
     let words : ℕ = n .given .«flash_words» in
     let some = subst (λ (x : ℕ). 0 < sizeOf (x / 16) s) (sym (fit .size)) (some-words (unitOf (l .flash)) s (some-unit n (l .flash) v) sector) in
     record {
-      ranges = record { given = r .given; mode = r .mode; masks = r .masks; erasing = and-both sector (lt-ltb 0 (sizeOf (words / 16) s) some); pending = r .pending; writing = r .writing };
+      ranges = record { given = r .given; mode = r .mode; masks = r .masks; erasing = and-both sector (lt-ltb 0 (sizeOf (words / 16) s) some); pending = r .pending; writing = r .writing; listing = r .listing };
       size = fit .size;
     }
 
@@ -278,7 +289,7 @@ erase-sets n clock link bc errors packet l s c h named m after given counted cou
     let third : b .sector ≡ s = found-same (sym (b .named) ∙ named) in
     let o = own .is ∙ ap (ownOutcome n l) (b .is ∙ ap (λ (x : ℕ). changes (Change.Begun x)) third) in
     let sector = erase-sector n (getD packet 1 0) s named in
-    course-stage (nodeAfter n (l .flash) (owns n l (changes (Change.Begun s)))) (l .flash) s (begun-valid n l s (request-fine n link _ _ _ _ _ _ _ (own .fine) .fits) sector) sector refl
+    course-stage (nodeAfter n (l .flash) (owns n l (changes (Change.Begun s)))) (l .flash) s (begun-valid n l s (request-fine n link _ _ _ _ _ _ _ _ (own .fine) .fits) sector) sector refl
     (subst (λ (x : Node). Course logodwen (sizeOf (unitOf (l .flash)) s) x (l .flash) m after given counted) (ap (λ (x : Outcome). x .turn .node) o) course) .has
   where
     sectorIn : Found → ℕ

@@ -23,14 +23,15 @@ use Rattle.group.specs.declared.Next.{Next}
 use Rattle.group.specs.declared.Tally.{Tally}
 use Rattle.group.proofs.Sets.{up-tells}
 use Rattle.group.proofs.Takes.{taken-fits}
+use Rattle.qlist.specs.Words.{recordsIn}
 use Rattle.node.specs.State.{turn}
 use Rattle.node.specs.Valid.{pendingOk, writingOk, stateOk, askOk, gatheringOk}
-use Rattle.node.specs.Refusals.{isPending, isAsked, requestVerdict, replyVerdict, pollVerdict, eraseVerdict}
+use Rattle.node.specs.Refusals.{isPending, isAsked, requestVerdict, replyVerdict, pollVerdict, eraseVerdict, slowVerdict}
 use Rattle.node.specs.Route.{bcOf, asks, writes, drops, routeOf}
 use Rattle.node.specs.Settings.{statusIn}
 use Rattle.node.specs.Effect.{Effect, only, Further, Lent, lent, Outcome, nodeAfter, Join, writingAfter}
 use Rattle.node.specs.Slaves.{ask, received, nothingReceived, gathering, heard, silent, goesOn, awaits, hears, askedAt, withAmswire, errorIn, replyEffect, pollEffect}
-use Rattle.node.specs.Calls.{judged, lentReply, lentFlash, pendingWithout, routed, requestOf, replyOf, pollOf, eraseEffect, eraseOf}
+use Rattle.node.specs.Calls.{judged, lentReply, lentFlash, lentList, pendingWithout, routed, requestOf, replyOf, pollOf, eraseEffect, eraseOf, slowEffect, slowOf}
 use Rattle.node.specs.declared.Answer.{Answer}
 use Rattle.node.specs.declared.Ask.{Ask}
 use Rattle.node.specs.declared.Gathering.{Gathering}
@@ -39,7 +40,7 @@ use Rattle.node.specs.declared.Pending.{Pending}
 use Rattle.node.specs.declared.Refusal.{Refusal}
 use Rattle.node.specs.declared.Route.{Route}
 use Rattle.node.specs.declared.Verdict.{Verdict}
-use Rattle.node.proofs.Ranges.{ranges-tell, ranges-told, Gathered, gathered-tells, gathers-pending}
+use Rattle.node.proofs.Ranges.{ranges-tell, ranges-told, slow-listing, Gathered, gathered-tells, gathers-pending}
 use Rattle.node.proofs.Verdicts.{erase-fine, request-fine}
 use Rattle.demands.specs.Machine.{logodwen}
 use Rattle.demands.specs.Events.{Event, Host, host, stepped, dropsGroup, Awaited, asked, sentNext}
@@ -87,6 +88,32 @@ erase-quiet h budget = go (eraseVerdict n (length flash)) refl
     go Verdict.Fine e = record { pending = refl; ok = kept e; buffer = refl; status = refl; asked = append-nil (h .asked) }
     go (Verdict.No r) e = record { pending = refl; ok = λ v. v; buffer = refl; status = refl; asked = append-nil (h .asked) }
 
+-- a slow-control step
+pub slow-quiet : (h : Host) (clock : ℕ) (list : List ℕ) → Quiet h (stepped logodwen (Event.Slowed clock list) h)
+unfolding slowOf
+slow-quiet h clock list = go (slowVerdict n (recordsIn list))
+  where
+    n : Node
+    n = h .turn .node
+
+    kept : stateOk n ≡ true → stateOk (nodeAfter n [] (slowEffect n clock list)) ≡ true
+    kept v =
+        let r = ranges-tell n v in
+        ranges-told (nodeAfter n [] (slowEffect n clock list))
+        (record {
+          given = r .given;
+          mode = r .mode;
+          masks = r .masks;
+          erasing = r .erasing;
+          pending = r .pending;
+          writing = r .writing;
+          listing = slow-listing (n .listing) (r .listing);
+        })
+
+    go : (v : Verdict) → Quiet h (host (h .asked) (judged v n (lentList list) (slowEffect n clock list) .turn) (h .flash) (h .buffer))
+    go Verdict.Fine = record { pending = refl; ok = kept; buffer = refl; status = refl; asked = append-nil (h .asked) }
+    go (Verdict.No r) = record { pending = refl; ok = λ v. v; buffer = refl; status = refl; asked = append-nil (h .asked) }
+
 -- a request that does not drop the group is refused, or has 0 words
 pub request-quiet : {link from set own : ℕ} {x : Awaited} {s : ℕ} {ss base front : List ℕ} {w : ℕ} {t : Tally} {h : Host} → Going link from set own x s ss base front w t h
     → (clock l bc : ℕ) (errors : Bool) (packet : List ℕ) (m : Memories) (y : Further) → dropsGroup link (Event.Requested clock l bc errors packet m y) ≡ false
@@ -101,11 +128,11 @@ request-quiet {link = link} {h = h} k clock l bc errors packet m x d = go verdic
     L = lent (h .flash) m x (h .buffer)
 
     verdict : Verdict
-    verdict = requestVerdict n l (length packet) (length (h .flash)) (length (m .pm)) (length (m .dm)) (length (m .io)) (length (x .area)) (length (h .buffer))
+    verdict = requestVerdict n l (length packet) (length (h .flash)) (length (m .pm)) (length (m .dm)) (length (m .io)) (length (x .area)) (recordsIn (x .list)) (length (h .buffer))
 
     empty : verdict ≡ Verdict.Fine → eqb (length packet) 0 ≡ true
     empty e =
-        let busy = request-fine n l (length packet) (length (h .flash)) (length (m .pm)) (length (m .dm)) (length (m .io)) (length (x .area)) (length (h .buffer)) e .free in
+        let busy = request-fine n l (length packet) (length (h .flash)) (length (m .pm)) (length (m .dm)) (length (m .io)) (length (x .area)) (recordsIn (x .list)) (length (h .buffer)) e .free in
         let free : leb 1 (length packet) ≡ false = ap (λ (x : Pending). isPending x && leb 1 (length packet)) (sym (k .pending)) ∙ busy in
         eq-eqb (length packet) 0 (omega (arith, leb-false 1 (length packet) free))
 
@@ -128,6 +155,7 @@ request-quiet {link = link} {h = h} k clock l bc errors packet m x d = go verdic
                 erasing = r .erasing;
                 pending = subst (λ (p : Pending). pendingOk (n .given .ports) p ≡ true) same (r .pending);
                 writing = pick-case (λ (j : Join). writingOk (n .given .ports) (writingAfter j (n .writing)) ≡ true) (writes (n .writing) l) (λ _. refl) (λ _. r .writing);
+                listing = r .listing;
               });
           buffer = refl;
           status = refl;
@@ -341,6 +369,7 @@ module _ {link from set own : ℕ} {x : Awaited} {s : ℕ} {ss base front : List
                   masks = v .masks;
                   erasing = v .erasing;
                   writing = v .writing;
+                  listing = v .listing;
                   pending =
                       subst
                       (λ (b : Bool). pendingOk (n .given .ports) (pick b (awaits asks′ group clock y words (h .buffer)) (goesOn n asks′ group clock (taken (assembly (h .buffer) (built w t)) (length ss) s said) (nextOf ss)) .pending) ≡ true)
@@ -387,6 +416,7 @@ ended-goes {link} {from} {set} {own} {x} {s} {s′} {ss} {base} {front} {w} {t} 
             masks = v .masks;
             erasing = v .erasing;
             writing = v .writing;
+            listing = v .listing;
             pending =
                 subst
                 (λ (b : Bool). pendingOk (n .given .ports) (pick b (awaits (asks′ k) (group k) clock y words (h .buffer)) (goesOn n (asks′ k) (group k) clock (taken (assembly (h .buffer) (built w t)) (suc (length ss)) s a) (Next.Slave s′)) .pending) ≡ true)

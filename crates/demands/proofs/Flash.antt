@@ -110,6 +110,7 @@ one-sector (Call.Erase budget) n flash = by (eraseVerdict n (length flash)) refl
     by : (v : Verdict) → eraseVerdict n (length flash) ≡ v → Within (erasingSite (n .erasing)) flash (judged v n (lentFlash flash) (eraseEffect n budget flash) .after .flash)
     by Verdict.Fine e = step-within (n .erasing) (n .given .«flash_words») flash budget (ranges-tell n (erase-fine n (length flash) e .state) .erasing)
     by (Verdict.No r) e = within-none (erasingSite (n .erasing)) flash
+one-sector (Call.Slow clock list) n flash = refl
 
 -- a bit that was 0 is 0
 abbrev Falls : List ℕ → List ℕ → ℕ → ℕ → Type 0
@@ -170,3 +171,4 @@ no-bit-rises (Call.Erase budget) n flash i k h o = by (eraseVerdict n (length fl
         let fit = erase-fine n (length flash) e in
         λ z. ap (λ (w : ℕ). bitOf w k) (step-kept (n .erasing) (n .given .«flash_words») flash budget (fit .size) (ranges-tell n (fit .state) .erasing) i o) ∙ z
     by (Verdict.No r) e = λ z. z
+no-bit-rises (Call.Slow clock list) n flash i k h o = λ e. e

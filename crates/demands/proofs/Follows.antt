@@ -12,12 +12,13 @@ use Rattle.flash.specs.Geometry.{unitOf}
 use Rattle.flash.specs.declared.Erasing.{Erasing}
 use Rattle.flash.specs.declared.Found.{Found}
 use Rattle.group.specs.declared.ZeroLength.{ZeroLength}
-use Rattle.node.specs.Refusals.{replyVerdict, pollVerdict, eraseVerdict, startVerdict}
+use Rattle.qlist.specs.Words.{recordsIn}
+use Rattle.node.specs.Refusals.{replyVerdict, pollVerdict, eraseVerdict, slowVerdict, startVerdict}
 use Rattle.node.specs.Effect.{Change, erasingNext, Lent, Outcome, ownOutcome, Did, says, changes}
 use Rattle.node.specs.Files.{isErasing, toErase, eraseAt, eraseStartOf}
 use Rattle.node.specs.Own.{filesOf, ownOf}
 use Rattle.node.specs.Slaves.{replyEffect, pollEffect}
-use Rattle.node.specs.Calls.{judged, given, startBy, startOf, requestOf, replyOf, pollOf, eraseOf, eraseEffect, lentReply, lentFlash}
+use Rattle.node.specs.Calls.{judged, given, startBy, startOf, requestOf, replyOf, pollOf, eraseOf, eraseEffect, slowOf, slowEffect, lentReply, lentFlash, lentList}
 use Rattle.node.specs.declared.Node.{Node}
 use Rattle.node.specs.declared.Verdict.{Verdict}
 use Rattle.node.proofs.Why.{Why, request-why, reply-quiet, poll-quiet, erase-sector}
@@ -145,5 +146,13 @@ follows-erase n budget flash h = by (eraseVerdict n (length flash)) h
     by Verdict.Fine q = record { erasing = refl; answer = refl; words = refl }
     by (Verdict.No r) q = absurd (false≢true (sym q))
 
+follows-slow : (n : Node) (clock : ℕ) (list : List ℕ) → slowOf n clock list .turn .node .erasing ≡ n .erasing
+unfolding slowOf
+follows-slow n clock list = by (slowVerdict n (recordsIn list))
+  where
+    by : (v : Verdict) → judged v n (lentList list) (slowEffect n clock list) .turn .node .erasing ≡ n .erasing
+    by Verdict.Fine = refl
+    by (Verdict.No r) = refl
+
 pub erasure-follows : ErasureFollows logodwen
-erasure-follows = record { start = follows-start; request = follows-request; reply = follows-reply; poll = follows-poll; erase = follows-erase }
+erasure-follows = record { start = follows-start; request = follows-request; reply = follows-reply; poll = follows-poll; erase = follows-erase; slow = follows-slow }

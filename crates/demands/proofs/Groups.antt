@@ -31,6 +31,7 @@ use Rattle.group.specs.declared.ZeroLength.{ZeroLength}
 use Rattle.group.proofs.Sets.{up-tells, length-slaves}
 use Rattle.group.proofs.Groups.{assembled-room, taken-all, group-sent}
 use Rattle.group.proofs.Tallies.{Keeps, zero-keeps, whole-keeps, common-tells, common-told}
+use Rattle.qlist.specs.Words.{recordsIn}
 use Rattle.node.specs.Valid.{stateOk, pendingOk}
 use Rattle.node.specs.Refusals.{isPending, isAsked}
 use Rattle.node.specs.Route.{asking, firstByte, secondByte, bcOf, writes, drops, groupFrom, grouped, maskIn, addressed, firstPacket, laterPacket, routeOf}
@@ -51,7 +52,7 @@ use Rattle.demands.specs.Events.{Event, Host, host, stepped, hosted, Und
 use Rattle.demands.specs.Groups.{setAsked, GroupRun, packetsStored, begun, atLast, slaves, said, underWay, fragments, Sends, GroupIsItsFragments, AskedInOrder, EachAskedOnce, FragmentsStand, NothingPastTheWords}
 use Rattle.demands.proofs.Slaves.{slaves-exactly}
 use Rattle.demands.proofs.Stored.{laid-longer, laid-apart, packets-longer}
-use Rattle.demands.proofs.Events.{Going, becomes, stored, fresh, hearing, erase-quiet, request-quiet, stray-quiet, wait-quiet, reply-stored, reply-ends, late-ends, taken-is, stored-goes, ended-goes, quiet-goes}
+use Rattle.demands.proofs.Events.{Going, becomes, stored, fresh, hearing, erase-quiet, slow-quiet, request-quiet, stray-quiet, wait-quiet, reply-stored, reply-ends, late-ends, taken-is, stored-goes, ended-goes, quiet-goes}
 use Rattle.demands.proofs.Taken.{verdictOn}
 
 -- a group that has ended
@@ -177,6 +178,9 @@ ran (Event.Requested clock l bc errors packet m y ∷ es) k u =
 ran (Event.Erased budget ∷ es) {h = h} k u =
     let q = erase-quiet h budget in
     rw (hosted-goes k (Event.Erased budget) es) (ran-from (q .asked) (ran es (quiet-goes k q) (u .1)))
+ran (Event.Slowed clock list ∷ es) {h = h} k u =
+    let q = slow-quiet h clock list in
+    rw (hosted-goes k (Event.Slowed clock list) es) (ran-from (q .asked) (ran es (quiet-goes k q) (u .1)))
 ran (Event.Replied clock slave bc errors status address words ∷ es) {link} {from} {set} {own} {x} {s} {ss} {base} {front} {w} {t} {h} k u =
     rw (hosted-goes k (Event.Replied clock slave bc errors status address words) es)
     (go (eqb s slave) refl (isPart said′ w (length ss)) refl (λ s′ ss′ base′ front′ w′ t′ h′ k′. ran es k′ (u .1))
@@ -323,7 +327,7 @@ module _ (r : GroupRun logodwen) where
       after : Verdict → Route → Host
       after v x = let o : Outcome = judged v n l (does x) in host [] (o .turn) (o .after .flash) (o .after .reply)
 
-      taken′ : RequestFine n (r .link) (length (r .packet)) (length (l .flash)) (length (l .further .area)) (length (l .reply)) → (x : Route) → Found x → pendingOk (n .given .ports) (does x .pending) ≡ true
+      taken′ : RequestFine n (r .link) (length (r .packet)) (length (l .flash)) (length (l .further .area)) (recordsIn (l .further .list)) (length (l .reply)) → (x : Route) → Found x → pendingOk (n .given .ports) (does x .pending) ≡ true
           → Begins (after Verdict.Fine x)
       taken′ fine x f p =
           let v = ranges-tell n (fine .fits .state) in
@@ -347,6 +351,7 @@ module _ (r : GroupRun logodwen) where
                     erasing = v .erasing;
                     pending = q;
                     writing = v .writing;
+                    listing = v .listing;
                   });
               long = fine .buffer;
               words = refl;
@@ -359,7 +364,7 @@ module _ (r : GroupRun logodwen) where
       go : (v : Verdict) → verdict ≡ v → judged v n l (does (routeOf n (r .link) (r .bc) (r .errors) (r .packet))) .turn .answer ≡ Answer.Ask (r .asking)
           → Begins (after v (routeOf n (r .link) (r .bc) (r .errors) (r .packet)))
       go Verdict.Fine e a =
-          let fine = request-fine n (r .link) (length (r .packet)) (length (l .flash)) (length (l .memories .pm)) (length (l .memories .dm)) (length (l .memories .io)) (length (l .further .area)) (length (l .reply)) e in
+          let fine = request-fine n (r .link) (length (r .packet)) (length (l .flash)) (length (l .memories .pm)) (length (l .memories .dm)) (length (l .memories .io)) (length (l .further .area)) (recordsIn (l .further .list)) (length (l .reply)) e in
           let v = ranges-tell n (fine .fits .state) in
           taken′ fine (routeOf n (r .link) (r .bc) (r .errors) (r .packet)) (route-found a)
           (request-pending n (r .clock) (r .link) (r .bc) (r .errors) (r .packet) l (r .words) (fine .below) (v .masks) (v .pending))

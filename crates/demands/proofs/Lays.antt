@@ -117,7 +117,7 @@ module _ (n : Node) (clock link bc : ℕ) (errors : Bool) (packet : List ℕ) (l
   lays-file : isWrite n link bc packet ≡ true → Serves n clock link bc errors packet l (brought n bc packet (l .further)) → Placed n (l .flash) (brought n bc packet (l .further)) → LaysFile n link bc packet l asked
   lays-file c v p =
       let file : List ℕ = brought n bc packet (l .further) in
-      let w = placed-tells n link bc packet l file (p .sector) (v .source) (p .idle) (p .placed) in
+      let w = placed-tells n link bc packet l clock file (p .sector) (v .source) (p .idle) (p .placed) in
       record {
         command = c;
         sector = p .sector;

@@ -28,6 +28,9 @@ pub mod PacketsStore
 pub mod Captures
 pub mod Anchors
 pub mod ClosedRun
+pub mod Listing
+pub mod Turns
+pub mod Unread
 pub mod Demands
 pub mod Examples
 pub mod Settled

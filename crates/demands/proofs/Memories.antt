@@ -14,11 +14,14 @@ use Rattle.flash.specs.declared.Setting.{Setting}
 use Rattle.flash.specs.declared.Status.{Status}
 use Rattle.flash.specs.declared.Target.{Target}
 use Rattle.memory.specs.Command.{readable}
+use Rattle.qlist.specs.Commands.{writeIn, deleteIn}
+use Rattle.qlist.specs.declared.Listed.{Listed}
 use Rattle.node.specs.Effect.{Did, Store, memoriesAfter, Lent}
 use Rattle.node.specs.Settings.{statusIn as ownStatus, statusOf, pingOf, modeReadOf, modeWriteOf, maskReadOf, maskWriteOf}
 use Rattle.node.specs.Files.{isErasing, namedBy, seen, readBy, readAt, readOf, placedFor, writeAt, fileWriteOf, joined, testAt, testOf, toErase, eraseAt, eraseStartOf, setTo, attributeBy, attributeAt, attributeSetOf, summaryOf}
 use Rattle.node.specs.Memories.{dataRoom, memoryReadOf}
-use Rattle.node.specs.Own.{settingsOf, memoriesOf, filesOf, onFiles, onMemories, ownOf}
+use Rattle.node.specs.Lists.{relisted, listReadOf, listDeleteOf, listWriteOf}
+use Rattle.node.specs.Own.{settingsOf, memoriesOf, filesOf, listsOf, onFiles, onMemories, onList, ownOf}
 use Rattle.node.specs.Calls.{judged, routed, requestOf}
 use Rattle.node.specs.declared.Node.{Node}
 use Rattle.node.specs.declared.Verdict.{Verdict}
@@ -112,8 +115,12 @@ module _ (n : Node) (clock link : ℕ) (packet : List ℕ) (l : Lent) where
       (λ _. pick-case Keeps (eqb id 0x57) (λ _. pick-case Keeps (eqb (n .given .kind) 2) (λ _. pick-case Keeps (eqb (length packet) 3) (λ _. pick-case Keeps (ltb (getD packet 1 0) 4096) (λ _. refl) (λ _. refl)) (λ _. refl)) (λ _. refl))
       (λ _. refl))))))
 
+  list-keeps : (x : Listed) (words : List ℕ) → Keeps (relisted x words)
+  list-keeps (Listed.Entries g) words = refl
+  list-keeps Listed.Abort words = refl
+
   own-keeps : (id : ℕ) → eqb id 0x46 ≡ false → eqb id 0x0F ≡ false → eqb id 0x50 ≡ false → eqb id 0x51 ≡ false → Keeps (ownOf id n clock link packet l)
-  unfolding ownOf filesOf memoriesOf
+  unfolding ownOf filesOf memoriesOf listsOf listReadOf listDeleteOf listWriteOf
   own-keeps id a b c d =
       pick-case Keeps (onFiles id)
       (λ _. pick-case Keeps (eqb id 0x05) (λ _. read-keeps)
@@ -131,7 +138,12 @@ module _ (n : Node) (clock link : ℕ) (packet : List ℕ) (l : Lent) where
       (λ _. pick-case Keeps (eqb id 0x11) (λ _. read-memory-keeps Memory.Dm (l .memories .dm))
       (λ _. pick-case Keeps (eqb id 0x51) (λ e. absurd (false≢true (sym d ∙ e)))
       (λ _. refl))))))
-      (λ _. settings-keeps id))
+      (λ _. pick-case Keeps (onList id)
+      (λ _. pick-case Keeps (eqb id 0x1C) (λ _. pick-case Keeps (eqb (length packet) 1) (λ _. refl) (λ _. refl))
+      (λ _. pick-case Keeps (eqb id 0x5B) (λ _. let r = deleteIn (n .listing) (drop 1 packet) (l .further .list) in list-keeps (r .listed) (r .words))
+      (λ _. pick-case Keeps (eqb id 0x5C) (λ _. let r = writeIn (n .listing) clock (drop 1 packet) (l .further .list) in list-keeps (r .listed) (r .words))
+      (λ _. refl))))
+      (λ _. settings-keeps id)))
 
 -- so no other request does
 pub memories-left : (n : Node) (clock link bc : ℕ) (errors : Bool) (packet : List ℕ) (l : Lent)

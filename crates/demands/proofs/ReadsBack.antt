@@ -76,6 +76,7 @@ call-spared (Call.Erase budget) n flash s name p o e = by (isRefused (eraseOf n 
     by : (t : Bool) → isRefused (eraseOf n budget flash .turn .answer) ≡ t → ⊥
     by true q = o (ap (λ (m : Node). erasingSite (m .erasing)) (sym (refused-same (Call.Erase budget) n flash q)) ∙ e)
     by false q = o (after-site (unitOf flash) (n .erasing) budget s (ap erasingSite (sym (erasure-follows .erase n budget flash q .erasing)) ∙ e))
+call-spared (Call.Slow clock list) n flash s name p o e = o (ap erasingSite (sym (erasure-follows .slow n clock list)) ∙ e)
 
 -- and keeps it
 call-held : (c : Call) (n : Node) (flash : List ℕ) (s : ℕ) (file : List ℕ) → Sound n flash → (erasingSite (n .erasing) ≡ Found.At s → ⊥) → Spares logodwen s (fileName file) c n flash
@@ -107,6 +108,7 @@ call-held (Call.Erase budget) n flash s file sound o p h = by (eraseVerdict n (l
     by : (v : Verdict) → Held s file (judged v n (lentFlash flash) (eraseEffect n budget flash) .after .flash)
     by Verdict.Fine = step-held s file flash h (n .erasing) budget (sound .fresh .blank) o
     by (Verdict.No r) = h
+call-held (Call.Slow clock list) n flash s file sound o p h = h
 
 -- what a run keeps
 record Stays (s : ℕ) (file : List ℕ) (n : Node) (flash : List ℕ) : Type 0 where
@@ -169,7 +171,7 @@ reads-back n flash r clock link bc errors packet m x reply b c h =
         let l : Lent = lent flash m x reply in
         let file : List ℕ = brought n bc packet x in
         let sound = reached-sound r in
-        let w = placed-tells n link bc packet l file (p .sector) (v .source) (p .idle) (p .placed) in
+        let w = placed-tells n link bc packet l clock file (p .sector) (v .source) (p .idle) (p .placed) in
         let laid-so = v .flash ∙ ap (λ (d : Did). flashAfter (d .change) (n .erasing) flash) (p .is) in
         let erasing = v .erasing ∙ ap (λ (d : Did). erasingNext (d .change) (n .erasing) (unitOf flash)) (p .is) ∙ p .idle in
         let stays : Stays (p .sector) file (requestOf n clock link bc errors packet l .turn .node) (requestOf n clock link bc errors packet l .after .flash) =

@@ -7,17 +7,20 @@ use mathlib.Core.List.{List, [], _∷_}
 use native.Mathlib.Omega.{arith}
 use lib.ListN.{length, getD}
 use lib.Dec.{ltb, leb, eqb}
-use borrow.Author.Tests.{lt-ltb, eqb-false}
+use borrow.Author.Tests.{lt-ltb, eqb-false, ne-eqb}
 use Rattle.base.specs.Pick.{pick}
+use Rattle.base.proofs.Pick.{yes, no}
 use Rattle.flash.specs.Geometry.{isSector, sizeOf}
 use Rattle.flash.specs.declared.Erasing.{Erasing}
 use Rattle.group.specs.Slaves.{above}
+use Rattle.qlist.specs.Words.{recordsIn}
+use Rattle.qlist.specs.declared.Listing.{Listing}
 use Rattle.node.specs.State.{refusalNumber, turn}
-use Rattle.node.specs.Valid.{sizeOk, kindOk, portsOk, masksOk, erasingOk, askOk, gatheringOk, pendingOk, writingOk, stateOk}
-use Rattle.node.specs.Refusals.{firstOf, isPending, isAsked, requestVerdict, replyVerdict, pollVerdict, eraseVerdict, startVerdict}
-use Rattle.node.specs.Refusals.{Cause as Test, cause as test, flashCause as flashTest, replyCause as replyTest, memoryCause as memoryTest, areaCause as areaTest, linkCause as linkTest, slaveCause as slaveTest, stateCause as stateTest, busyCause as busyTest, pollCause as pollTest, unaskedCause as unaskedTest}
+use Rattle.node.specs.Valid.{sizeOk, kindOk, portsOk, masksOk, erasingOk, askOk, gatheringOk, pendingOk, writingOk, listingOk, stateOk}
+use Rattle.node.specs.Refusals.{firstOf, isPending, isAsked, requestVerdict, replyVerdict, pollVerdict, eraseVerdict, slowVerdict, startVerdict}
+use Rattle.node.specs.Refusals.{Cause as Test, cause as test, flashCause as flashTest, replyCause as replyTest, memoryCause as memoryTest, areaCause as areaTest, listCause as listTest, linkCause as linkTest, slaveCause as slaveTest, stateCause as stateTest, busyCause as busyTest, pollCause as pollTest, unaskedCause as unaskedTest}
 use Rattle.node.specs.Effect.{Effect, Lent, lent}
-use Rattle.node.specs.Calls.{judged, lentReply, lentFlash, given, nobody, startBy, startOf, requestOf, replyOf, pollOf, eraseEffect, eraseOf}
+use Rattle.node.specs.Calls.{judged, lentReply, lentFlash, lentList, given, nobody, startBy, startOf, requestOf, replyOf, pollOf, eraseEffect, eraseOf, slowEffect, slowOf}
 use Rattle.node.specs.Slaves.{replyEffect, pollEffect}
 use Rattle.node.specs.declared.Answer.{Answer}
 use Rattle.node.specs.declared.Ask.{Ask}
@@ -29,10 +32,10 @@ use Rattle.node.specs.declared.Refusal.{Refusal}
 use Rattle.node.specs.declared.Verdict.{Verdict}
 use Rattle.node.specs.declared.Writing.{Writing}
 use Rattle.node.proofs.Ranges.{and-both, mask-below, ranges-told}
-use Rattle.node.proofs.Verdicts.{request-fine, reply-fine, poll-fine, erase-fine}
+use Rattle.node.proofs.Verdicts.{request-fine, reply-fine, poll-fine, erase-fine, slow-fine}
 use Rattle.demands.specs.Machine.{logodwen, Call, turnOf, isRefused}
 use Rattle.demands.specs.Reached.{Reached}
-use Rattle.demands.specs.Refusals.{numberOf, Cause, FirstOf, FlashSize, ErasingIn, AskIn, GatheringIn, PendingIn, WritingIn, IsState, IsPending, IsAsked, startCauses, requestCauses, replyCauses, pollCauses, eraseCauses, Exactly, Unchanged, RefusedExactly, NeverRefusedBy5, ZerosRefused}
+use Rattle.demands.specs.Refusals.{numberOf, Cause, FirstOf, FlashSize, ErasingIn, AskIn, GatheringIn, PendingIn, WritingIn, ListingIn, IsState, IsPending, IsAsked, startCauses, requestCauses, replyCauses, pollCauses, eraseCauses, slowCauses, Exactly, Unchanged, RefusedExactly, NeverRefusedBy5, ZerosRefused}
 use Rattle.demands.proofs.Tests.{Tells, leb-tells, ltb-tells, eqb-tells, yes-tells, no-tells, and-tells, or-tells, not-tells, same-tells}
 use Rattle.demands.proofs.Taken.{verdictOn, requestEffect, request-taken, reply-taken, poll-taken, judged-unchanged}
 use Rattle.demands.proofs.Sound.{reached-sound}
@@ -80,27 +83,44 @@ writing-tells : (ports : ℕ) (w : Writing) → Tells (writingOk ports w) (Writi
 writing-tells ports Writing.Nothing = yes-tells
 writing-tells ports (Writing.File j) = and-tells (ltb-tells (j .link) ports) (leb-tells (j .words) 32768)
 
+-- the turn is at a listed place; where none is listed, at 0
+turn-tells : (entries turn : ℕ) → Tells (pick (eqb entries 0) (eqb turn 0) (ltb turn entries)) ((turn < entries) ⊎ ((entries ≡ 0) × (turn ≡ 0)))
+turn-tells entries turn = record { told = told (eqb entries 0) refl; tells = tells }
+  where
+    told : (t : Bool) → eqb entries 0 ≡ t → pick t (eqb turn 0) (ltb turn entries) ≡ true → (turn < entries) ⊎ ((entries ≡ 0) × (turn ≡ 0))
+    told true e q = inr (eqb-tells entries 0 .told e, eqb-tells turn 0 .told q)
+    told false e q = inl (ltb-tells turn entries .told q)
+
+    tells : (turn < entries) ⊎ ((entries ≡ 0) × (turn ≡ 0)) → pick (eqb entries 0) (eqb turn 0) (ltb turn entries) ≡ true
+    tells (inl l) = sym (no _ (ne-eqb entries 0 (λ e. absurd (omega arith))) (sym (ltb-tells turn entries .tells l)))
+    tells (inr z) = sym (yes _ (eqb-tells entries 0 .tells (z .0)) (sym (eqb-tells turn 0 .tells (z .1))))
+
+pub listing-tells : (g : Listing) → Tells (listingOk g) (ListingIn g)
+listing-tells g =
+    same-tells (λ x. record { most = x .0; turn = x .1 }) (λ x. (x .most, x .turn)) (and-tells (leb-tells (g .entries) 910) (turn-tells (g .entries) (g .turn)))
+
 pub state-tells : (n : Node) → Tells (stateOk n) (IsState n)
 unfolding stateOk
 state-tells n =
     let g : Given = n .given in
     same-tells
     (λ x. record {
-      kind = x .0 .0 .0 .0 .0 .0 .0 .0;
-      ports = x .0 .0 .0 .0 .0 .0 .0 .1;
-      subdetector = x .0 .0 .0 .0 .0 .0 .1;
-      size = x .0 .0 .0 .0 .0 .1;
-      mode = x .0 .0 .0 .0 .1;
-      masks = x .0 .0 .0 .1;
-      erasing = x .0 .0 .1;
-      pending = x .0 .1;
-      writing = x .1;
+      kind = x .0 .0 .0 .0 .0 .0 .0 .0 .0;
+      ports = x .0 .0 .0 .0 .0 .0 .0 .0 .1;
+      subdetector = x .0 .0 .0 .0 .0 .0 .0 .1;
+      size = x .0 .0 .0 .0 .0 .0 .1;
+      mode = x .0 .0 .0 .0 .0 .1;
+      masks = x .0 .0 .0 .0 .1;
+      erasing = x .0 .0 .0 .1;
+      pending = x .0 .0 .1;
+      writing = x .0 .1;
+      listing = x .1;
     })
-    (λ x. ((((((((x .kind, x .ports), x .subdetector), x .size), x .mode), x .masks), x .erasing), x .pending), x .writing))
-    (and-tells (and-tells (and-tells (and-tells (and-tells
+    (λ x. (((((((((x .kind, x .ports), x .subdetector), x .size), x .mode), x .masks), x .erasing), x .pending), x .writing), x .listing))
+    (and-tells (and-tells (and-tells (and-tells (and-tells (and-tells
     (and-tells (and-tells (and-tells (kind-tells (g .kind)) (ports-tells (g .ports))) (leb-tells (g .subdetector) 7)) (size-tells (g .«flash_words»)))
     (leb-tells (n .mode) 3)) (masks-tells (n .masks))) (erasing-tells (g .«flash_words») (n .erasing))) (pending-tells (g .ports) (n .pending)))
-    (writing-tells (g .ports) (n .writing)))
+    (writing-tells (g .ports) (n .writing))) (listing-tells (n .listing)))
 
 -- the tests of the other causes
 busy-tells : (p : Pending) → Tells (isPending p) (IsPending p)
@@ -115,6 +135,9 @@ asked-tells (Pending.Group a g) slave = eqb-tells (a .slave) slave
 
 flash-tells : (n : Node) (flash : ℕ) → Tells (not (sizeOk flash) || not (eqb flash (n .given .«flash_words»))) ((FlashSize flash → ⊥) ⊎ (flash ≡ n .given .«flash_words» → ⊥))
 flash-tells n flash = or-tells (not-tells (size-tells flash)) (not-tells (eqb-tells flash (n .given .«flash_words»)))
+
+list-tells : (n : Node) (records : ℕ) → Tells (ltb 910 records || ltb records (n .listing .entries)) ((910 < records) ⊎ (records < n .listing .entries))
+list-tells n records = or-tells (ltb-tells 910 records) (ltb-tells records (n .listing .entries))
 
 -- at least is not below
 link-tells : (ports link : ℕ) → Tells (leb ports link) (link < ports → ⊥)
@@ -160,6 +183,7 @@ done-number (Answer.Ask a) h = refl
 done-number (Answer.Next s) h = refl
 done-number Answer.Waiting h = refl
 done-number (Answer.Erased count) h = refl
+done-number (Answer.Slow s) h = refl
 
 judged-number : (v : Verdict) (n : Node) (l : Lent) (e : Effect) → isRefused (e .answer) ≡ false → numberOf (judged v n l e .turn .answer) ≡ verdictNumber v
 judged-number Verdict.Fine n l e h = done-number (e .answer) h
@@ -173,7 +197,7 @@ exactly : (tests : List Test) (causes : List Cause) (n : Node) (l : Lent) (e : E
 exactly tests causes n l e t d =
     (numbered (judged (firstOf tests) n l e .turn .answer) tests causes (judged-number (firstOf tests) n l e t) d, judged-unchanged (firstOf tests) n l e t)
 
--- the five calls
+-- the six calls
 start-exactly : (kind ports subdetector program version tests clock : ℕ) (flash : List ℕ)
     → Exactly (startCauses kind ports subdetector flash) (startOf kind ports subdetector program version tests clock flash .answer)
     × (isRefused (startOf kind ports subdetector program version tests clock flash .answer) ≡ true → startOf kind ports subdetector program version tests clock flash .node ≡ nobody)
@@ -209,7 +233,7 @@ request-exactly n clock link bc errors packet l =
     let dm = length (l .memories .dm) in
     let io = length (l .memories .io) in
     exactly
-    (flashTest n (length (l .flash)) ∷ replyTest (length (l .reply)) ∷ memoryTest pm dm io ∷ areaTest (length (l .further .area)) ∷ linkTest n link ∷ stateTest n ∷ busyTest n (length packet) ∷ [])
+    (flashTest n (length (l .flash)) ∷ replyTest (length (l .reply)) ∷ memoryTest pm dm io ∷ areaTest (length (l .further .area)) ∷ listTest n (recordsIn (l .further .list)) ∷ linkTest n link ∷ stateTest n ∷ busyTest n (length packet) ∷ [])
     (requestCauses n link packet l) n l (requestEffect n clock link bc errors packet l) (request-taken n clock link bc errors packet l) (
       (refl, flash-tells n (length (l .flash))),
       (
@@ -219,12 +243,15 @@ request-exactly n clock link bc errors packet l =
           (
             (refl, ltb-tells (length (l .further .area)) 32768),
             (
-              (refl, link-tells (n .given .ports) link),
+              (refl, list-tells n (recordsIn (l .further .list))),
               (
-                (refl, not-tells (state-tells n)),
+                (refl, link-tells (n .given .ports) link),
                 (
-                  (refl, and-tells (busy-tells (n .pending)) (leb-tells 1 (length packet))),
-                  tt,
+                  (refl, not-tells (state-tells n)),
+                  (
+                    (refl, and-tells (busy-tells (n .pending)) (leb-tells 1 (length packet))),
+                    tt,
+                  ),
                 ),
               ),
             ),
@@ -253,8 +280,14 @@ erase-exactly n budget flash =
     exactly (flashTest n (length flash) ∷ stateTest n ∷ []) (eraseCauses n flash) n (lentFlash flash) (eraseEffect n budget flash) refl
     ((refl, flash-tells n (length flash)), ((refl, not-tells (state-tells n)), tt))
 
+slow-exactly : (n : Node) (clock : ℕ) (list : List ℕ) → Exactly (slowCauses n list) (slowOf n clock list .turn .answer) × Unchanged (slowOf n clock list) n (lentList list)
+unfolding slowOf slowVerdict
+slow-exactly n clock list =
+    exactly (listTest n (recordsIn list) ∷ stateTest n ∷ []) (slowCauses n list) n (lentList list) (slowEffect n clock list) refl
+    ((refl, list-tells n (recordsIn list)), ((refl, not-tells (state-tells n)), tt))
+
 pub refused-exactly : RefusedExactly logodwen
-refused-exactly = record { start = start-exactly; request = request-exactly; reply = reply-exactly; poll = poll-exactly; erase = erase-exactly }
+refused-exactly = record { start = start-exactly; request = request-exactly; reply = reply-exactly; poll = poll-exactly; erase = erase-exactly; slow = slow-exactly }
 
 -- a number that is none's whose cause holds is not answered
 abbrev None : List Cause → ℕ → Type 0
@@ -273,7 +306,7 @@ not-5 : (n : Node) → IsState n → (c : Call) (flash : List ℕ) → numberOf 
 not-5 n s (Call.Start kind ports subdetector program version tests clock) flash h =
     first-none (startCauses kind ports subdetector flash) 5 (other 1 refl, (other 4 refl, eqb-false 0 5 refl)) (start-exactly kind ports subdetector program version tests clock flash .0 5 .0 h)
 not-5 n s (Call.Request clock link bc errors packet m x reply) flash h =
-    first-none (requestCauses n link packet (lent flash m x reply)) 5 (other 1 refl, (other 2 refl, (other 3 refl, (other 8 refl, (other 4 refl, (λ e k. k s, (other 6 refl, eqb-false 0 5 refl)))))))
+    first-none (requestCauses n link packet (lent flash m x reply)) 5 (other 1 refl, (other 2 refl, (other 3 refl, (other 8 refl, (other 9 refl, (other 4 refl, (λ e k. k s, (other 6 refl, eqb-false 0 5 refl))))))))
     (request-exactly n clock link bc errors packet (lent flash m x reply) .0 5 .0 h)
 not-5 n s (Call.Reply clock slave bc errors status address words reply) flash h =
     first-none (replyCauses n slave reply) 5 (other 2 refl, (other 4 refl, (λ e k. k s, (other 7 refl, eqb-false 0 5 refl)))) (reply-exactly n clock slave bc errors status address words reply .0 5 .0 h)
@@ -281,6 +314,8 @@ not-5 n s (Call.Poll clock reply) flash h =
     first-none (pollCauses n reply) 5 (other 2 refl, (λ e k. k s, (other 7 refl, eqb-false 0 5 refl))) (poll-exactly n clock reply .0 5 .0 h)
 not-5 n s (Call.Erase budget) flash h =
     first-none (eraseCauses n flash) 5 (other 1 refl, (λ e k. k s, eqb-false 0 5 refl)) (erase-exactly n budget flash .0 5 .0 h)
+not-5 n s (Call.Slow clock list) flash h =
+    first-none (slowCauses n list) 5 (other 9 refl, (λ e k. k s, eqb-false 0 5 refl)) (slow-exactly n clock list .0 5 .0 h)
 
 reached-state : (n : Node) (flash : List ℕ) → Reached logodwen n flash → IsState n
 reached-state n flash r = state-tells n .told (ranges-told n (reached-sound r .valid .ranges))
@@ -298,11 +333,11 @@ refused Verdict.Fine n l e h = absurd (h refl)
 refused (Verdict.No r) n l e h = refl
 
 pub zeros-refused : ZerosRefused logodwen
-unfolding requestOf replyOf pollOf eraseOf
+unfolding requestOf replyOf pollOf eraseOf slowOf
 zeros-refused (Call.Start kind ports subdetector program version tests clock) t flash = absurd (false≢true (sym t))
 zeros-refused (Call.Request clock link bc errors packet m x reply) t flash =
     refused (verdictOn nobody link packet (lent flash m x reply)) nobody (lent flash m x reply) (requestEffect nobody clock link bc errors packet (lent flash m x reply))
-    (λ e. zeros-state (request-fine nobody link _ _ _ _ _ _ _ e .fits .state))
+    (λ e. zeros-state (request-fine nobody link _ _ _ _ _ _ _ _ e .fits .state))
 zeros-refused (Call.Reply clock slave bc errors status address words reply) t flash =
     refused (replyVerdict nobody slave (length reply)) nobody (lentReply reply) (replyEffect nobody clock errors status address bc words reply)
     (λ e. zeros-state (reply-fine nobody slave (length reply) e .state))
@@ -310,3 +345,5 @@ zeros-refused (Call.Poll clock reply) t flash =
     refused (pollVerdict nobody (length reply)) nobody (lentReply reply) (pollEffect nobody clock reply) (λ e. zeros-state (poll-fine nobody (length reply) e .state))
 zeros-refused (Call.Erase budget) t flash =
     refused (eraseVerdict nobody (length flash)) nobody (lentFlash flash) (eraseEffect nobody budget flash) (λ e. zeros-state (erase-fine nobody (length flash) e .state))
+zeros-refused (Call.Slow clock list) t flash =
+    refused (slowVerdict nobody (recordsIn list)) nobody (lentList list) (slowEffect nobody clock list) (λ e. zeros-state (slow-fine nobody (recordsIn list) e .state))

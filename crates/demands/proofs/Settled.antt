@@ -5,8 +5,10 @@ use Rattle.memory.specs.Command.{Read, Written, Performed}
 use Rattle.memory.specs.Load.{Loaded}
 use Rattle.group.specs.Fragment.{Assembly}
 use Rattle.group.specs.Ending.{Sent}
+use Rattle.qlist.specs.Words.{Stepped, Closed, Cleared}
+use Rattle.qlist.specs.Commands.{Changed, Read as ToldRead}
 use Rattle.node.specs.Effect.{Outcome}
-use Rattle.demands.specs.Settled.{BaseSettled, FcsSettled, ImageSettled, FlashSettled, MemorySettled, GroupSettled, ReportSettled, CaptureSettled, NodeSettled, Settled}
+use Rattle.demands.specs.Settled.{BaseSettled, FcsSettled, ImageSettled, FlashSettled, MemorySettled, GroupSettled, ReportSettled, QlistSettled, CaptureSettled, NodeSettled, Settled}
 
 pub base-settled : BaseSettled
 base-settled =
@@ -93,6 +95,7 @@ memory-settled =
       write-dm = λ κs given x y v w p q. (ap (λ (o : Written). o .done) (p ∙ sym q), λ i. ((p ∙ sym q) i .after, v .1));
       can-perform = λ κs given x y v w p q. (p ∙ sym q, refl);
       perform-io = λ κs given x y v w p q. (ap (λ (o : Performed). o .answer) (p ∙ sym q), λ i. ((p ∙ sym q) i .io, (v .1 .0, ((p ∙ sym q) i .reply, v .1 .1 .1))));
+      segments-is-segment = λ κs given x y v w p q. (p ∙ sym q, refl);
       can-load = λ κs given x y v w p q. (p ∙ sym q, refl);
       load = λ κs given x y v w p q. (ap (λ (o : Loaded). o .done) (p ∙ sym q), λ i. (v .0, ((p ∙ sym q) i .after .pm, ((p ∙ sym q) i .after .dm, ((p ∙ sym q) i .after .io, v .1 .1 .1 .1)))));
     }
@@ -131,6 +134,22 @@ report-settled =
       has-masks = λ κs given x y v w p q. (p ∙ sym q, refl);
     }
 
+pub qlist-settled : QlistSettled
+qlist-settled =
+    record {
+      advanced = λ κs given x y v w p q. (p ∙ sym q, refl);
+      said = λ κs given x y v w p q. (p ∙ sym q, refl);
+      is-own = λ κs given x y v w p q. (p ∙ sym q, refl);
+      moved-on = λ κs given x y v w p q. (p ∙ sym q, refl);
+      words-step = λ κs given x y v w p q. (ap (λ (o : Stepped). o .slow) (p ∙ sym q), λ i. ((p ∙ sym q) i .words, v .1));
+      words-close = λ κs given x y v w p q. (ap (λ (o : Closed). o .count) (p ∙ sym q), λ i. ((p ∙ sym q) i .words, v .1));
+      words-clear = λ κs given x y v w p q. (ap (λ (o : Cleared). o .found) (p ∙ sym q), λ i. ((p ∙ sym q) i .words, v .1));
+      commands-can-write = λ κs given x y v w p q. (p ∙ sym q, refl);
+      commands-write = λ κs given x y v w p q. (ap (λ (o : Changed). o .listed) (p ∙ sym q), λ i. ((p ∙ sym q) i .words, v .1));
+      commands-delete = λ κs given x y v w p q. (ap (λ (o : Changed). o .listed) (p ∙ sym q), λ i. ((p ∙ sym q) i .words, v .1));
+      commands-read-list = λ κs given x y v w p q. (ap (λ (o : ToldRead). o .told) (p ∙ sym q), λ i. (v .0, (v .1 .0, ((p ∙ sym q) i .reply, v .1 .1 .1))));
+    }
+
 pub capture-settled : CaptureSettled
 capture-settled =
     record {
@@ -145,10 +164,11 @@ pub node-settled : NodeSettled
 node-settled =
     record {
       start = λ κs given x y v w p q. (p ∙ sym q, refl);
-      request = λ κs given x y v w p q. (ap (λ (o : Outcome). o .turn) (p ∙ sym q), λ i. (v .0, (v .1 .0, (v .1 .1 .0, (v .1 .1 .1 .0, (v .1 .1 .1 .1 .0, (v .1 .1 .1 .1 .1 .0, ((p ∙ sym q) i .after .flash, ((p ∙ sym q) i .after .memories .pm, ((p ∙ sym q) i .after .memories .dm, ((p ∙ sym q) i .after .memories .io, ((p ∙ sym q) i .after .further .area, ((p ∙ sym q) i .after .reply, v .1 .1 .1 .1 .1 .1 .1 .1 .1 .1 .1 .1)))))))))))));
+      request = λ κs given x y v w p q. (ap (λ (o : Outcome). o .turn) (p ∙ sym q), λ i. (v .0, (v .1 .0, (v .1 .1 .0, (v .1 .1 .1 .0, (v .1 .1 .1 .1 .0, (v .1 .1 .1 .1 .1 .0, ((p ∙ sym q) i .after .flash, ((p ∙ sym q) i .after .memories .pm, ((p ∙ sym q) i .after .memories .dm, ((p ∙ sym q) i .after .memories .io, ((p ∙ sym q) i .after .further .area, ((p ∙ sym q) i .after .further .list, ((p ∙ sym q) i .after .reply, v .1 .1 .1 .1 .1 .1 .1 .1 .1 .1 .1 .1 .1))))))))))))));
       reply = λ κs given x y v w p q. (ap (λ (o : Outcome). o .turn) (p ∙ sym q), λ i. (v .0, (v .1 .0, (v .1 .1 .0, (v .1 .1 .1 .0, (v .1 .1 .1 .1 .0, (v .1 .1 .1 .1 .1 .0, (v .1 .1 .1 .1 .1 .1 .0, (v .1 .1 .1 .1 .1 .1 .1 .0, ((p ∙ sym q) i .after .reply, v .1 .1 .1 .1 .1 .1 .1 .1 .1))))))))));
       poll = λ κs given x y v w p q. (ap (λ (o : Outcome). o .turn) (p ∙ sym q), λ i. (v .0, (v .1 .0, ((p ∙ sym q) i .after .reply, v .1 .1 .1))));
       erase = λ κs given x y v w p q. (ap (λ (o : Outcome). o .turn) (p ∙ sym q), λ i. (v .0, (v .1 .0, ((p ∙ sym q) i .after .flash, v .1 .1 .1))));
+      slow = λ κs given x y v w p q. (ap (λ (o : Outcome). o .turn) (p ∙ sym q), λ i. (v .0, (v .1 .0, ((p ∙ sym q) i .after .further .list, v .1 .1 .1))));
       refusals-refusal-number = λ κs given x y v w p q. (p ∙ sym q, refl);
       refusals-is-pending = λ κs given x y v w p q. (p ∙ sym q, refl);
       refusals-is-asked = λ κs given x y v w p q. (p ∙ sym q, refl);
@@ -156,6 +176,7 @@ node-settled =
       refusals-reply-verdict = λ κs given x y v w p q. (p ∙ sym q, refl);
       refusals-poll-verdict = λ κs given x y v w p q. (p ∙ sym q, refl);
       refusals-erase-verdict = λ κs given x y v w p q. (p ∙ sym q, refl);
+      refusals-slow-verdict = λ κs given x y v w p q. (p ∙ sym q, refl);
       refusals-start-verdict = λ κs given x y v w p q. (p ∙ sym q, refl);
       routing-word-at = λ κs given x y v w p q. (p ∙ sym q, refl);
       routing-route-of = λ κs given x y v w p q. (p ∙ sym q, refl);
@@ -168,6 +189,7 @@ node-settled =
       files-is-served = λ κs given x y v w p q. (p ∙ sym q, refl);
       files-named-by = λ κs given x y v w p q. (p ∙ sym q, refl);
       files-status-in = λ κs given x y v w p q. (p ∙ sym q, refl);
+      lists-take-slow = λ κs given x y v w p q. (ap (λ (o : Outcome). o .turn) (p ∙ sym q), λ i. (v .0, (v .1 .0, ((p ∙ sym q) i .after .further .list, v .1 .1 .1))));
       requests-pass-by = λ κs given x y v w p q. (p ∙ sym q, refl);
       routing-route-by = λ κs given x y v w p q. (p ∙ sym q, refl);
       slaves-asked-at = λ κs given x y v w p q. (p ∙ sym q, refl);
@@ -189,6 +211,7 @@ settled =
       memory = memory-settled;
       group = group-settled;
       report = report-settled;
+      qlist = qlist-settled;
       capture = capture-settled;
       node = node-settled;
     }

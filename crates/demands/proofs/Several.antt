@@ -218,6 +218,7 @@ call-single (Call.Erase budget) n flash sound h = by (eraseVerdict n (length fla
     by : (v : Verdict) → Single (judged v n (lentFlash flash) (eraseEffect n budget flash) .after .flash)
     by Verdict.Fine = step-single (n .erasing) flash budget (sound .fresh .blank) h
     by (Verdict.No r) = h
+call-single (Call.Slow clock list) n flash sound h = h
 
 pub stays-single : StaysSingle logodwen
 stays-single n flash r h next after (Step.Made c b) = call-single c n flash (reached-sound r) h

@@ -2,7 +2,7 @@
 -- of zeros of which a sector is erased, or with a group of one slave that answers in packets. Assumes nothing.
 use Prim.Native.Nat.{ℕ, zero, suc, _+_, _*_, _≤_, _<_}
 use mathlib.Core.Path.{_≡_, refl, sym, ap, _∙_, subst}
-use mathlib.Core.Logic.{inr, ⊎-elim}
+use mathlib.Core.Logic.{inl, inr, ⊎-elim}
 use mathlib.Core.Bool.{Bool, true, false, false≢true}
 use mathlib.Core.List.{List, [], _∷_}
 use native.Mathlib.Nat.{add-zero}
@@ -31,7 +31,7 @@ use Rattle.flash.specs.declared.Progress.{Progress}
 use Rattle.flash.specs.declared.Target.{Target}
 use Rattle.flash.proofs.Geometry.{sector-fits, length-sector}
 use Rattle.flash.proofs.Statuses.{first-word}
-use Rattle.memory.specs.Segment.{Memories, memories}
+use Rattle.memory.specs.Segment.{Memories, memories, isSegment}
 use Rattle.report.specs.Status.{ownStatus}
 use Rattle.group.specs.Time.{isLate}
 use Rattle.group.specs.Kind.{datOf, codeOf, dataKind, firstKind, laterJudged, kindOf, partBy, Answer as SlaveAnswer}
@@ -43,15 +43,20 @@ use Rattle.group.specs.Whole.{fragmentsOf, kindsOf, joined, assembled, dataRepl
 use Rattle.group.specs.declared.Kind.{Kind}
 use Rattle.group.specs.declared.Reply.{Reply}
 use Rattle.group.specs.declared.Tally.{Tally}
-use Rattle.node.specs.State.{refusalNumber, turn, joining, withPending, withWriting}
+use Rattle.qlist.specs.Entry.{advancedOf, toldOf, isOwn}
+use Rattle.qlist.specs.Words.{listing, entryIn, putIn, stepIn, closeFrom}
+use Rattle.qlist.specs.Commands.{isWrite, allOwn, broughtBy, addFrom, canWrite, writeIn, deleteIn}
+use Rattle.qlist.specs.Laws.{total, brings}
+use Rattle.node.specs.State.{refusalNumber, turn, joining, withPending, withWriting, withListing}
 use Rattle.node.specs.Valid.{masksOk, stateOk}
-use Rattle.node.specs.Refusals.{startVerdict, requestVerdict, eraseVerdict, replyVerdict, isPending}
+use Rattle.node.specs.Refusals.{startVerdict, requestVerdict, eraseVerdict, replyVerdict, slowVerdict, isPending}
 use Rattle.node.specs.Route.{asking, writes, groupFrom, addressed, routeOf}
 use Rattle.node.specs.Files.{namedBy, readOf, fileWriteOf, loadOf, toErase, eraseStartOf}
 use Rattle.node.specs.Settings.{statusIn as ownStatusIn, modeReadOf}
-use Rattle.node.specs.Own.{settingsOf, filesOf, ownOf}
-use Rattle.node.specs.Calls.{routed, startOf, requestOf, eraseOf, replyOf, pollOf}
-use Rattle.node.specs.Effect.{Outcome, outcome, applied, further}
+use Rattle.node.specs.Lists.{listWriteOf, listDeleteOf}
+use Rattle.node.specs.Own.{settingsOf, filesOf, listsOf, ownOf}
+use Rattle.node.specs.Calls.{routed, startOf, requestOf, eraseOf, replyOf, pollOf, slowOf}
+use Rattle.node.specs.Effect.{Outcome, outcome, applied, lent, further}
 use Rattle.node.specs.Slaves.{ask, received, nothingReceived, gathering, askedAt, replyEffect}
 use Rattle.node.specs.declared.Answer.{Answer}
 use Rattle.node.specs.declared.Node.{Node}
@@ -71,7 +76,8 @@ use Rattle.demands.specs.Events.{Event, Host, host, stepped, hosted, Und
 use Rattle.demands.specs.Groups.{isGroup, StartsFull, GroupRun, packetsStored, begun as groupBegun, atLast, slaves, said, Ascending, GroupIsItsFragments, PacketsStore}
 use Rattle.demands.specs.Ends.{pendingIn, unfinishedIn, isTaken, takenIn, Ticking, Timed, askedTick, EachLowersOrStores, AlwaysEnds, NeverAskedTwice, SettledInTime}
 use Rattle.demands.specs.ClosedRun.{with, started, written, ClosedRun}
-use Rattle.demands.specs.ShutOut.{refusing, unstarted, disorderly, aborting, constant, idle, lying, denying, judging, hoarding, mixing, empty, sealing, hurrying, counting, insisting, waitsOn, patient, loader, hasty, boasting, dropping, rogue, scanning, remembering, measuring, overlooking, choosing, doubling, ShutOut}
+use Rattle.demands.specs.Listing.{handsOut, ListStep, Listed, RepetitionsConserved, TurnInOrder, writesOne, DueAcrossWrap}
+use Rattle.demands.specs.ShutOut.{refusing, unstarted, disorderly, aborting, constant, idle, lying, denying, judging, hoarding, mixing, empty, sealing, hurrying, counting, insisting, waitsOn, patient, losing, skipping, greater, loader, hasty, boasting, dropping, rogue, scanning, remembering, measuring, overlooking, choosing, doubling, ShutOut}
 use Rattle.demands.specs.Flash.{countOf, Course, HasSet, ErasureFollows, Erases}
 use Rattle.demands.proofs.Refusals.{refused-exactly}
 use Rattle.demands.proofs.Held.{named-blank}
@@ -90,6 +96,7 @@ not-done Refusal.State e = omega arith
 not-done Refusal.Busy e = omega arith
 not-done Refusal.Unasked e = omega arith
 not-done Refusal.AreaSize e = omega arith
+not-done Refusal.ListSize e = omega arith
 
 -- an erase-progress call that ours takes
 taken : eraseOf (started logodwen .node) 0 blank .turn .answer ≡ Answer.Erased 0
@@ -143,7 +150,7 @@ first M e = Reached.First 2 4 0 0 0 0 0 blank (ap (λ (x : Turn). isRefused (x .
 
 first-write : (M : Machine) → started M ≡ started logodwen → isRefused (written M .turn .answer) ≡ false → Writes M → written M .turn .answer ≡ end
 first-write M e t w =
-    w (started M .node) blank (first M e) (ap (λ (x : Turn). x .node .erasing) e ∙ not-erasing) 0 0 3 false (0x452E ∷ file) (memories [] [] []) (further (replicate 32768 0)) (replicate 12288 0) refl
+    w (started M .node) blank (first M e) (ap (λ (x : Turn). x .node .erasing) e ∙ not-erasing) 0 0 3 false (0x452E ∷ file) (memories [] [] []) (further (replicate 32768 0) []) (replicate 12288 0) refl
     (record { taken = t; clean = refl; least = leb-true 1 6 refl; most = leb-true 6 8192 refl; free = λ _. ap (λ (x : Turn). writes (x .node .writing) 0) e ∙ not-writing })
     file-valid (blank-unused (fileName file)) 3 blank-takes
 
@@ -162,7 +169,7 @@ words-16 (suc (suc (suc (suc (suc (suc i)))))) = ltb-true 0 65536 refl
 -- a blank flash does not have the file laid in a sector
 changes-nothing : ReadsBack idle → ⊥
 changes-nothing w =
-    let o = w (started idle .node) blank (first idle refl) 0 0 3 false (0x452E ∷ file) (memories [] [] []) (further (replicate 32768 0)) (replicate 12288 0) words-16 refl (closed-run .writes) in
+    let o = w (started idle .node) blank (first idle refl) 0 0 3 false (0x452E ∷ file) (memories [] [] []) (further (replicate 32768 0) []) (replicate 12288 0) words-16 refl (closed-run .writes) in
     let at : ℕ = sectorStart (unitOf blank) (o .sector) in
     let size : length blank ≡ 32768 = length-replicate {A = ℕ} 32768 0xFFFF in
     let fits = sector-fits (unitOf blank) (o .sector) in
@@ -182,7 +189,7 @@ word-16 (suc i) = ltb-true 0 65536 refl
 stores-nothing : ReadsBack lying → ⊥
 unfolding laid headerOk fileEnd masksOk stateOk startVerdict requestVerdict addressed routeOf fileWriteOf filesOf ownOf startOf requestOf
 stores-nothing w =
-    no-file (w (started lying .node) blank (first lying refl) 0 0 3 false (0x452E ∷ []) (memories [] [] []) (further (replicate 32768 0)) (replicate 12288 0) word-16 refl refl .valid)
+    no-file (w (started lying .node) blank (first lying refl) 0 0 3 false (0x452E ∷ []) (memories [] [] []) (further (replicate 32768 0) []) (replicate 12288 0) word-16 refl refl .valid)
   where
     no-file : End.Invalid ≡ End.At 0 → ⊥
     no-file e = let z : _≡_ {A = ℕ} 0 1 = cc in omega arith
@@ -203,6 +210,7 @@ true-directory n flash r = by r
     made (Call.Reply clock slave bc errors status address words reply) m f k = k
     made (Call.Poll clock reply) m f k = k
     made (Call.Erase budget) m f k = k
+    made (Call.Slow clock list) m f k = k
 
     stray : (c : Call) (m : Node) (f other : List ℕ) → isRefused (turnOf idle c m other .answer) ≡ true → Fresh f m → Fresh f (stateAfter idle c m other)
     stray (Call.Start kind ports subdetector program version tests clock) m f other h k = subst (Fresh f) (yes _ h refl) k
@@ -210,6 +218,7 @@ true-directory n flash r = by r
     stray (Call.Reply clock slave bc errors status address words reply) m f other h k = k
     stray (Call.Poll clock reply) m f other h k = k
     stray (Call.Erase budget) m f other h k = k
+    stray (Call.Slow clock list) m f other h k = k
 
     kept : (c : Call) (m : Node) (f : List ℕ) (other : Node) → Fresh f m → Fresh (flashOf idle c other f) m
     kept (Call.Start kind ports subdetector program version tests clock) m f other k = k
@@ -217,6 +226,7 @@ true-directory n flash r = by r
     kept (Call.Reply clock slave bc errors status address words reply) m f other k = k
     kept (Call.Poll clock reply) m f other k = k
     kept (Call.Erase budget) m f other k = k
+    kept (Call.Slow clock list) m f other k = k
 
     by : {m : Node} {f : List ℕ} → Reached idle m f → Fresh f m
     by (Reached.First kind ports subdetector program version tests clock f h) =
@@ -282,7 +292,7 @@ drops-erasure : Erases dropping → ⊥
 unfolding zeros zeroed packet modeRead begun laid headerOk fileEnd isSector bySector sectorOf isEmpty statusOf statusIn fourthWord entryOf entryFor entriesFrom directoryOf entered firstFrom masksOk stateOk startVerdict requestVerdict addressed routeOf sectorAt eraseStartOf filesOf ownOf startOf requestOf
 drops-erasure w =
     not-erased (w .sets zeroed 0 0 3 false packet (with zeros) 3 refl refl third _ _ _ _
-    (Course.Then Course.Begun some-size (Step.Made (Call.Request 0 0 3 false modeRead (memories [] [] []) (further (replicate 32768 0)) (replicate 12288 0)) mode-16) refl) .going some-size)
+    (Course.Then Course.Begun some-size (Step.Made (Call.Request 0 0 3 false modeRead (memories [] [] []) (further (replicate 32768 0) []) (replicate 12288 0)) mode-16) refl) .going some-size)
   where
     not-erased : {p : Progress} → Erasing.Nothing ≡ Erasing.Sector p → ⊥
     not-erased e = let z : _≡_ {A = ℕ} 0 1 = cc in omega arith
@@ -307,7 +317,7 @@ judges-first w = eqb-false 2 0 refl (ap bcIn (w .first (started logodwen .node) 
 joins-header : AnyDivision hoarding → ⊥
 unfolding masksOk stateOk startVerdict requestVerdict routeOf startOf requestOf
 joins-header w =
-    eqb-false 1 0 refl (ap (λ (n : Node). joinedIn (n .writing)) (w .stands 0 (started logodwen .node) blank (replicate 32768 0) refl _ _ _ _ (Sent.First 0 2 [] (memories [] [] []) (replicate 12288 0) _ refl (leb-true 0 8191 refl) refl refl) .0))
+    eqb-false 1 0 refl (ap (λ (n : Node). joinedIn (n .writing)) (w .stands 0 (started logodwen .node) blank (replicate 32768 0) refl _ _ _ _ (Sent.First 0 2 [] (memories [] [] []) [] (replicate 12288 0) _ refl (leb-true 0 8191 refl) refl refl) .0))
 
 standing : Node
 standing = withWriting (started logodwen .node) (Writing.File (joining 0 0))
@@ -316,7 +326,7 @@ mixes-links : LeftAlone mixing → ⊥
 unfolding standing masksOk stateOk startVerdict requestVerdict routeOf startOf requestOf
 mixes-links w =
     eqb-false 1 0 refl
-    (ap joinedIn (w (Call.Request 0 1 0 false (0 ∷ []) (memories [] [] []) (further (replicate 32768 0)) (replicate 12288 0)) standing blank (joining 0 0) refl refl .0))
+    (ap joinedIn (w (Call.Request 0 1 0 false (0 ∷ []) (memories [] [] []) (further (replicate 32768 0) []) (replicate 12288 0)) standing blank (joining 0 0) refl refl .0))
 
 -- mask 0 after the start of a CDDC
 starts-empty : StartsFull empty → ⊥
@@ -734,9 +744,9 @@ doubles : StaysSingle doubling → ⊥
 unfolding again isSector
 doubles w =
     let one : Step doubling (started doubling .node) blank (written doubling .turn .node) (written doubling .after .flash) =
-    Step.Made (Call.Request 0 0 3 false (0x452E ∷ file) (memories [] [] []) (further (replicate 32768 0)) (replicate 12288 0)) words-16 in
+    Step.Made (Call.Request 0 0 3 false (0x452E ∷ file) (memories [] [] []) (further (replicate 32768 0) []) (replicate 12288 0)) words-16 in
     let two : Step doubling (written doubling .turn .node) (written doubling .after .flash) (again .turn .node) (again .after .flash) =
-    Step.Made (Call.Request 0 0 3 false (0x452E ∷ file) (memories [] [] []) (further (replicate 32768 0)) (replicate 12288 0)) words-16 in
+    Step.Made (Call.Request 0 0 3 false (0x452E ∷ file) (memories [] [] []) (further (replicate 32768 0) []) (replicate 12288 0)) words-16 in
     let single = w (started doubling .node) blank (first doubling refl) blank-single (written doubling .turn .node) (written doubling .after .flash) one in
     eqb-false 3 4 refl (w (written doubling .turn .node) (written doubling .after .flash) (Reached.Then (first doubling refl) one) single (again .turn .node) (again .after .flash) two 0x42 3 4 refl refl in-third in-fourth)
 
@@ -772,7 +782,7 @@ refuses-out-of-order w =
 -- the file that was written stands in the flash, and not in the directory
 reached-written : Reached scanning (written scanning .turn .node) (written scanning .after .flash)
 reached-written =
-    Reached.Then (first scanning refl) (Step.Made (Call.Request 0 0 3 false (0x452E ∷ file) (memories [] [] []) (further (replicate 32768 0)) (replicate 12288 0)) words-16)
+    Reached.Then (first scanning refl) (Step.Made (Call.Request 0 0 3 false (0x452E ∷ file) (memories [] [] []) (further (replicate 32768 0) []) (replicate 12288 0)) words-16)
 
 scans-once : NoStaleRecord scanning → ⊥
 unfolding laid fcsBit fcsBits fcsWord fcsFrom headerOk memoryOf pageOf lengthOk pageOk spanOf bodyOk segmentOk segmentEnd walk fileEnd isSector bySector sectorOf isEmpty statusOf statusIn fourthWord entryOf entryFor entriesFrom directoryOf entered entrySays entryIs keptStatus firstFrom countFrom isNamed searchOf targetOf takes placeOf stored masksOk stateOk startVerdict requestVerdict addressed routeOf fileWriteOf filesOf ownOf startOf requestOf
@@ -792,8 +802,8 @@ reached-erased : Reached remembering (erasedAfter .turn .node) (erasedAfter .aft
 unfolding erasedAfter packet
 reached-erased =
     Reached.Then
-    (Reached.Then (first remembering refl) (Step.Made (Call.Request 0 0 3 false (0x452E ∷ file) (memories [] [] []) (further (replicate 32768 0)) (replicate 12288 0)) words-16))
-    (Step.Made (Call.Request 0 0 3 false packet (memories [] [] []) (further (replicate 32768 0)) (replicate 12288 0)) packet-16)
+    (Reached.Then (first remembering refl) (Step.Made (Call.Request 0 0 3 false (0x452E ∷ file) (memories [] [] []) (further (replicate 32768 0) []) (replicate 12288 0)) words-16))
+    (Step.Made (Call.Request 0 0 3 false packet (memories [] [] []) (further (replicate 32768 0) []) (replicate 12288 0)) packet-16)
 
 keeps-length : NoStaleRecord remembering → ⊥
 unfolding erasedAfter packet laid fcsBit fcsBits fcsWord fcsFrom headerOk memoryOf pageOf lengthOk pageOk spanOf bodyOk segmentOk segmentEnd walk fileEnd isSector bySector sectorOf isEmpty statusOf statusIn fourthWord entryOf entryFor entriesFrom directoryOf entered entrySays entryIs keptStatus firstFrom countFrom isNamed searchOf targetOf takes placeOf stored masksOk stateOk startVerdict requestVerdict addressed routeOf fileWriteOf sectorAt eraseStartOf filesOf ownOf startOf requestOf
@@ -802,6 +812,29 @@ keeps-length w = eqb-false 5 0 refl (ap (λ (d : List ℕ). getD d 3 0) (w (eras
 measures-bad : NoStaleRecord measuring → ⊥
 unfolding zeros laid headerOk fileEnd isSector bySector sectorOf isEmpty statusOf statusIn fourthWord entryOf entryFor entriesFrom directoryOf startVerdict startOf
 measures-bad w = eqb-false 1 0 refl (ap (λ (d : List ℕ). getD d 3 0) (w _ zeros (Reached.First 2 4 0 0 0 0 0 zeros refl)))
+
+-- one entry of one repetition, written and due: a step takes the repetition
+loses : RepetitionsConserved losing → ⊥
+unfolding total brings laid fcsBit fcsBits fcsWord fcsFrom memoryOf pageOf lengthOk pageOk spanOf bodyOk segmentOk segmentEnd isSegment isOwn entryIn putIn stepIn advancedOf toldOf isWrite allOwn broughtBy addFrom canWrite writeIn masksOk stateOk startVerdict requestVerdict slowVerdict addressed routeOf listWriteOf listsOf ownOf startOf requestOf slowOf
+loses w =
+    eqb-false 0 1 refl
+    (w _ _ _
+    (Listed.Then
+    (Listed.Then (Listed.First 2 4 0 0 0 0 0 blank (replicate 7 0) refl)
+    (ListStep.Made (Call.Request 0xFFFFFFF0 0 3 false writesOne (memories [] [] []) (further (replicate 32768 0) []) (replicate 12288 0)) blank))
+    (ListStep.Made (Call.Slow 0xFFF0 []) blank)))
+
+-- two entries with repetitions left, and the second in turn
+skips : TurnInOrder skipping → ⊥
+unfolding laid entryIn putIn closeFrom deleteIn masksOk stateOk startVerdict requestVerdict addressed routeOf listDeleteOf listsOf ownOf startOf requestOf
+skips w =
+    eqb-false 1 0 refl
+    (w .anew (withListing (started logodwen .node) (listing 2 1)) 0 0 3 false (0x5B2E ∷ []) (lent blank (memories [] [] []) (further (replicate 32768 0) (replicate 14 1)) (replicate 12288 0))
+    refl (inl refl) refl)
+
+compares : DueAcrossWrap greater → ⊥
+unfolding laid fcsBit fcsBits fcsWord fcsFrom memoryOf pageOf lengthOk pageOk spanOf bodyOk segmentOk segmentEnd isSegment isOwn entryIn putIn stepIn advancedOf toldOf isWrite allOwn broughtBy addFrom canWrite writeIn masksOk stateOk startVerdict requestVerdict slowVerdict addressed routeOf listWriteOf listsOf ownOf startOf requestOf slowOf
+compares w = eqb-false 1 0 refl (ap handsOut (w .early))
 
 pub shut-out : ShutOut
 shut-out =
@@ -827,6 +860,9 @@ shut-out =
       waits-on = waits-on;
       waits-for-ever = waits-for-ever;
       waits-too-long = waits-too-long;
+      loses = loses;
+      skips = skips;
+      compares = compares;
       loads-half = loads-half;
       overlooks-remains = overlooks-remains;
       chooses = chooses;

@@ -17,17 +17,18 @@ use Rattle.flash.specs.declared.Erasing.{Erasing}
 use Rattle.flash.proofs.Storing.{stored-only}
 use Rattle.flash.proofs.Erasure.{erased-only}
 use Rattle.memory.specs.Segment.{Memories}
+use Rattle.qlist.specs.Words.{recordsIn}
 use Rattle.node.specs.State.{turn}
-use Rattle.node.specs.Refusals.{replyVerdict, pollVerdict, eraseVerdict, startVerdict}
+use Rattle.node.specs.Refusals.{replyVerdict, pollVerdict, eraseVerdict, slowVerdict, startVerdict}
 use Rattle.node.specs.Valid.{sizeOk, kindOk, portsOk, masksOk, erasingOk, pendingOk}
-use Rattle.node.specs.Effect.{Effect, effect, Lent, lent, nodeAfter, Change, flashAfter, erasingNext, Setup, Join, Further}
+use Rattle.node.specs.Effect.{Effect, effect, Lent, lent, nodeAfter, Change, flashAfter, erasingNext, Setup, Join, Relist, Further}
 use Rattle.node.specs.Slaves.{replyEffect, pollEffect}
-use Rattle.node.specs.Calls.{judged, lentReply, lentFlash, given, started, startBy, startOf, requestOf, replyOf, pollOf, eraseEffect, eraseOf}
+use Rattle.node.specs.Calls.{judged, lentReply, lentFlash, lentList, given, started, startBy, startOf, requestOf, replyOf, pollOf, eraseEffect, eraseOf, slowEffect, slowOf}
 use Rattle.node.specs.declared.Node.{Node}
 use Rattle.node.specs.declared.Verdict.{Verdict}
 use Rattle.node.proofs.Why.{Quiet, request-why, reply-quiet, poll-quiet}
 use Rattle.node.proofs.Directories.{Fresh, why-fresh, step-fresh}
-use Rattle.node.proofs.Ranges.{and-both, Ranges, size-some, why-erasing, step-erasing, sets-mode, sets-masks, request-pending, request-writing, reply-pending, poll-pending}
+use Rattle.node.proofs.Ranges.{and-both, Ranges, size-some, why-erasing, step-erasing, sets-mode, sets-masks, request-pending, request-writing, relists-listing, slow-listing, reply-pending, poll-pending}
 use Rattle.node.proofs.Verdicts.{request-fine, reply-fine, poll-fine, start-fine}
 use Rattle.demands.specs.Machine.{Call, logodwen, turnOf, flashOf, isRefused}
 use Rattle.demands.specs.Reached.{Lends16, stateAfter, Step, Reached}
@@ -79,47 +80,51 @@ module _ (n : Node) (clock link bc : ℕ) (errors : Bool) (packet : List ℕ) (l
   abbrev after : List ℕ
   after = flashAfter (asked .change) (n .erasing) (l .flash)
 
-  request-valid : Below 65536 packet → link < n .given .ports → Valid n (l .flash) → Valid (nodeAfter n (l .flash) asked) after
-  request-valid b k v =
+  request-valid : Below 65536 packet → link < n .given .ports → recordsIn (l .further .list) ≤ 910
+      → Valid n (l .flash) → Valid (nodeAfter n (l .flash) asked) after
+  request-valid b k most v =
       let words : ℕ = n .given .«flash_words» in
       let why = request-why n link bc packet l clock errors in
       let r = v .ranges in
       record {
         ranges = record {
           given = r .given;
-          mode = sets-mode (asked .setup) packet (n .mode) (why .1) (r .mode);
-          masks = sets-masks (asked .setup) packet (n .masks) b (why .1) (r .masks);
+          mode = sets-mode (asked .setup) packet (n .mode) (why .1 .0) (r .mode);
+          masks = sets-masks (asked .setup) packet (n .masks) b (why .1 .0) (r .masks);
           erasing =
               subst (λ (x : ℕ). erasingOk words (erasingNext (asked .change) (n .erasing) (x / 16)) ≡ true) (v .size)
               (why-erasing words (asked .change) n link bc packet l (size-some words (given-size n r)) (why .0) (r .erasing));
           pending = request-pending n clock link bc errors packet l b k (r .masks) (r .pending);
           writing = request-writing n clock link bc errors packet l k (r .writing);
+          listing = relists-listing (asked .list) n clock packet (l .further .list) most (why .1 .1) (r .listing);
         };
         size = v .size ∙ sym (change-size (asked .change) (n .erasing) (l .flash));
       }
 
-  request-sound : Below 65536 packet → link < n .given .ports → Sound n (l .flash) → Sound (nodeAfter n (l .flash) asked) after
-  request-sound b k s =
+  request-sound : Below 65536 packet → link < n .given .ports → recordsIn (l .further .list) ≤ 910
+      → Sound n (l .flash) → Sound (nodeAfter n (l .flash) asked) after
+  request-sound b k most s =
       record {
-        valid = request-valid b k (s .valid);
+        valid = request-valid b k most (s .valid);
         fresh = why-fresh (asked .change) n link bc packet l (some-unit n (l .flash) (s .valid)) (request-why n link bc packet l clock errors .0) (s .fresh);
       }
 
 -- a slave's answer, and a poll
 quiet-kept : (P : Node → Type 0) (n : Node) (none : List ℕ) (e : Effect) → Quiet e
-    → P (nodeAfter n none (effect (e .answer) Change.Kept (e .store) Setup.Kept Join.Kept (e .amswire) (e .fault) (e .pending) (e .reply))) → P (nodeAfter n none e)
+    → P (nodeAfter n none (effect (e .answer) Change.Kept (e .store) Setup.Kept Join.Kept Relist.Kept (e .amswire) (e .fault) (e .pending) (e .reply))) → P (nodeAfter n none e)
 quiet-kept P n none e q kept =
-    subst (λ (c : Change). P (next c (e .setup) (e .join))) (sym (q .change))
-    (subst (λ (u : Setup). P (next Change.Kept u (e .join))) (sym (q .setup)) (subst (λ (j : Join). P (next Change.Kept Setup.Kept j)) (sym (q .join)) kept))
+    subst (λ (c : Change). P (next c (e .setup) (e .join) (e .list))) (sym (q .change))
+    (subst (λ (u : Setup). P (next Change.Kept u (e .join) (e .list))) (sym (q .setup))
+    (subst (λ (j : Join). P (next Change.Kept Setup.Kept j (e .list))) (sym (q .join)) (subst (λ (x : Relist). P (next Change.Kept Setup.Kept Join.Kept x)) (sym (q .list)) kept)))
   where
-    next : Change → Setup → Join → Node
-    next c u j = nodeAfter n none (effect (e .answer) c (e .store) u j (e .amswire) (e .fault) (e .pending) (e .reply))
+    next : Change → Setup → Join → Relist → Node
+    next c u j x = nodeAfter n none (effect (e .answer) c (e .store) u j x (e .amswire) (e .fault) (e .pending) (e .reply))
 
 quiet-valid : (n : Node) (flash none : List ℕ) (e : Effect) → Quiet e → pendingOk (n .given .ports) (e .pending) ≡ true → Valid n flash → Valid (nodeAfter n none e) flash
 quiet-valid n flash none e q p v =
     let r = v .ranges in
     quiet-kept (λ (m : Node). Valid m flash) n none e q
-    (record { ranges = record { given = r .given; mode = r .mode; masks = r .masks; erasing = r .erasing; pending = p; writing = r .writing }; size = v .size })
+    (record { ranges = record { given = r .given; mode = r .mode; masks = r .masks; erasing = r .erasing; pending = p; writing = r .writing; listing = r .listing }; size = v .size })
 
 quiet-sound : (n : Node) (flash none : List ℕ) (e : Effect) → Quiet e → pendingOk (n .given .ports) (e .pending) ≡ true → Sound n flash → Sound (nodeAfter n none e) flash
 quiet-sound n flash none e q p s =
@@ -142,6 +147,7 @@ step-valid n flash budget v =
             (step-erasing (n .given .«flash_words») (n .erasing) budget (r .erasing));
         pending = r .pending;
         writing = r .writing;
+        listing = r .listing;
       };
       size = v .size ∙ sym (change-size (Change.Blanked budget) (n .erasing) flash);
     }
@@ -149,6 +155,26 @@ step-valid n flash budget v =
 step-sound : (n : Node) (flash : List ℕ) (budget : ℕ) → Sound n flash → Sound (nodeAfter n flash (eraseEffect n budget flash)) (erased flash (n .erasing) budget)
 step-sound n flash budget s =
     record { valid = step-valid n flash budget (s .valid); fresh = step-fresh (n .directory) (n .erasing) flash budget (s .fresh) }
+
+-- a slow-control step
+pub slow-valid : (n : Node) (flash : List ℕ) (clock : ℕ) (list : List ℕ) → Valid n flash → Valid (nodeAfter n [] (slowEffect n clock list)) flash
+slow-valid n flash clock list v =
+    let r = v .ranges in
+    record {
+      ranges = record {
+        given = r .given;
+        mode = r .mode;
+        masks = r .masks;
+        erasing = r .erasing;
+        pending = r .pending;
+        writing = r .writing;
+        listing = slow-listing (n .listing) (r .listing);
+      };
+      size = v .size;
+    }
+
+slow-sound : (n : Node) (flash : List ℕ) (clock : ℕ) (list : List ℕ) → Sound n flash → Sound (nodeAfter n [] (slowEffect n clock list)) flash
+slow-sound n flash clock list s = record { valid = slow-valid n flash clock list (s .valid); fresh = s .fresh }
 
 -- a start
 start-sound : (kind ports subdetector program version tests clock : ℕ) (flash : List ℕ) → startVerdict kind ports subdetector (length flash) ≡ Verdict.Fine
@@ -165,6 +191,7 @@ start-sound kind ports subdetector program version tests clock flash h =
           erasing = refl;
           pending = refl;
           writing = refl;
+          listing = refl;
         };
         size = refl;
       };
@@ -174,10 +201,11 @@ start-sound kind ports subdetector program version tests clock flash h =
 -- what a start gives, and a request, a slave's answer and a step keep, every call keeps: refused, it hands on the state before
 module _ (P : Node → List ℕ → Type 0)
     (starts : (kind ports subdetector program version tests clock : ℕ) (flash : List ℕ) → startVerdict kind ports subdetector (length flash) ≡ Verdict.Fine → P (started (given kind ports subdetector program version tests clock (length flash)) flash) flash)
-    (requests : (n : Node) (clock link bc : ℕ) (errors : Bool) (packet : List ℕ) (l : Lent) → Below 65536 packet → link < n .given .ports → P n (l .flash)
+    (requests : (n : Node) (clock link bc : ℕ) (errors : Bool) (packet : List ℕ) (l : Lent) → Below 65536 packet → link < n .given .ports → recordsIn (l .further .list) ≤ 910 → P n (l .flash)
     → P (nodeAfter n (l .flash) (requestEffect n clock link bc errors packet l)) (flashAfter (requestEffect n clock link bc errors packet l .change) (n .erasing) (l .flash)))
     (quiets : (n : Node) (flash none : List ℕ) (e : Effect) → Quiet e → pendingOk (n .given .ports) (e .pending) ≡ true → P n flash → P (nodeAfter n none e) flash)
     (steps : (n : Node) (flash : List ℕ) (budget : ℕ) → P n flash → P (nodeAfter n flash (eraseEffect n budget flash)) (erased flash (n .erasing) budget))
+    (slows : (n : Node) (flash : List ℕ) (clock : ℕ) (list : List ℕ) → P n flash → P (nodeAfter n [] (slowEffect n clock list)) flash)
     (valid : (n : Node) (flash : List ℕ) → P n flash → Valid n flash) where
   abbrev Keeps : Call → Node → List ℕ → Type 0
   Keeps c n flash = P n flash → P (stateAfter logodwen c n flash) (flashOf logodwen c n flash)
@@ -198,7 +226,9 @@ module _ (P : Node → List ℕ → Type 0)
     where
       by : (v : Verdict) → verdictOn n link packet (lent flash m x reply) ≡ v
           → P (judged v n (lent flash m x reply) (requestEffect n clock link bc errors packet (lent flash m x reply)) .turn .node) (judged v n (lent flash m x reply) (requestEffect n clock link bc errors packet (lent flash m x reply)) .after .flash)
-      by Verdict.Fine e = requests n clock link bc errors packet (lent flash m x reply) b (request-fine n link _ _ _ _ _ _ _ e .below) s
+      by Verdict.Fine e =
+          let f = request-fine n link _ _ _ _ _ _ _ _ e in
+          requests n clock link bc errors packet (lent flash m x reply) b (f .below) (f .most) s
       by (Verdict.No r) e = s
 
   reply-keeps : (clock slave bc : ℕ) (errors : Bool) (status address : ℕ) (words reply : List ℕ) (n : Node) (flash : List ℕ) → Keeps (Call.Reply clock slave bc errors status address words reply) n flash
@@ -229,29 +259,39 @@ module _ (P : Node → List ℕ → Type 0)
       by Verdict.Fine = steps n flash budget s
       by (Verdict.No r) = s
 
+  slow-keeps : (clock : ℕ) (list : List ℕ) (n : Node) (flash : List ℕ) → Keeps (Call.Slow clock list) n flash
+  unfolding slowOf
+  slow-keeps clock list n flash s = by (slowVerdict n (recordsIn list))
+    where
+      by : (v : Verdict) → P (judged v n (lentList list) (slowEffect n clock list) .turn .node) flash
+      by Verdict.Fine = slows n flash clock list s
+      by (Verdict.No r) = s
+
   each-keeps : (c : Call) (n : Node) (flash : List ℕ) → Lends16 c → Keeps c n flash
   each-keeps (Call.Start kind ports subdetector program version tests clock) n flash b = start-keeps kind ports subdetector program version tests clock n flash
   each-keeps (Call.Request clock link bc errors packet m x reply) n flash b = request-keeps clock link bc errors packet m x reply n flash b
   each-keeps (Call.Reply clock slave bc errors status address words reply) n flash b = reply-keeps clock slave bc errors status address words reply n flash
   each-keeps (Call.Poll clock reply) n flash b = poll-keeps clock reply n flash
   each-keeps (Call.Erase budget) n flash b = erase-keeps budget n flash
+  each-keeps (Call.Slow clock list) n flash b = slow-keeps clock list n flash
 
 pub call-valid : (c : Call) (n : Node) (flash : List ℕ) → Lends16 c → Valid n flash → Valid (stateAfter logodwen c n flash) (flashOf logodwen c n flash)
 call-valid =
     each-keeps Valid (λ kind ports subdetector program version tests clock flash h. start-sound kind ports subdetector program version tests clock flash h .valid)
-    request-valid quiet-valid step-valid (λ n flash v. v)
+    request-valid quiet-valid step-valid slow-valid (λ n flash v. v)
 
 pub call-keeps : (c : Call) (n : Node) (flash : List ℕ) → Lends16 c → Sound n flash → Sound (stateAfter logodwen c n flash) (flashOf logodwen c n flash)
-call-keeps = each-keeps Sound start-sound request-sound quiet-sound step-sound (λ n flash s. s .valid)
+call-keeps = each-keeps Sound start-sound request-sound quiet-sound step-sound slow-sound (λ n flash s. s .valid)
 
 -- a refused call leaves the host with the state it had
 pub refused-same : (c : Call) (n : Node) (flash : List ℕ) → isRefused (turnOf logodwen c n flash .answer) ≡ true → stateAfter logodwen c n flash ≡ n
-unfolding requestOf replyOf pollOf eraseOf
+unfolding requestOf replyOf pollOf eraseOf slowOf
 refused-same (Call.Start kind ports subdetector program version tests clock) n flash h = sym (yes _ h refl)
 refused-same (Call.Request clock link bc errors packet m x reply) n flash h = judged-unchanged (verdictOn n link packet (lent flash m x reply)) n (lent flash m x reply) (requestEffect n clock link bc errors packet (lent flash m x reply)) (request-taken n clock link bc errors packet (lent flash m x reply)) h .0
 refused-same (Call.Reply clock slave bc errors status address words reply) n flash h = judged-unchanged (replyVerdict n slave (length reply)) n (lentReply reply) (replyEffect n clock errors status address bc words reply) (reply-taken n clock errors status address bc words reply) h .0
 refused-same (Call.Poll clock reply) n flash h = judged-unchanged (pollVerdict n (length reply)) n (lentReply reply) (pollEffect n clock reply) (poll-taken n clock reply) h .0
 refused-same (Call.Erase budget) n flash h = judged-unchanged (eraseVerdict n (length flash)) n (lentFlash flash) (eraseEffect n budget flash) refl h .0
+refused-same (Call.Slow clock list) n flash h = judged-unchanged (slowVerdict n (recordsIn list)) n (lentList list) (slowEffect n clock list) refl h .0
 
 first-sound : (kind ports subdetector program version tests clock : ℕ) (flash : List ℕ) → isRefused (startOf kind ports subdetector program version tests clock flash .answer) ≡ false
     → Sound (startOf kind ports subdetector program version tests clock flash .node) flash
@@ -274,6 +314,7 @@ refused-flash (Call.Reply clock slave bc errors status address words reply) n fl
 refused-flash (Call.Poll clock reply) n flash h = refl
 refused-flash (Call.Erase budget) n flash h =
     ap (λ (l : Lent). l .flash) (judged-unchanged (eraseVerdict n (length flash)) n (lentFlash flash) (eraseEffect n budget flash) refl h .1)
+refused-flash (Call.Slow clock list) n flash h = refl
 
 -- a step of the host keeps whatever every call keeps
 pub step-case : (P : Node → List ℕ → Type 0) {n : Node} {flash : List ℕ} {next : Node} {after : List ℕ} → Step logodwen n flash next after → P n flash

@@ -13,6 +13,7 @@ use Rattle.group.specs.Time.{isLate}
 use Rattle.group.specs.declared.Heard.{Heard}
 use Rattle.group.specs.declared.Next.{Next}
 use Rattle.group.specs.declared.Reply.{Reply}
+use Rattle.qlist.specs.Words.{recordsIn}
 use Rattle.node.specs.Effect.{Effect, Lent}
 use Rattle.node.specs.Refusals.{requestVerdict}
 use Rattle.node.specs.Route.{routeOf}
@@ -31,7 +32,7 @@ use Rattle.demands.specs.Refusals.{Unchanged}
 abbrev pub verdictOn : Node → ℕ → List ℕ → Lent → Verdict
 verdictOn n link packet l =
     requestVerdict n link (length packet) (length (l .flash)) (length (l .memories .pm)) (length (l .memories .dm)) (length (l .memories .io))
-    (length (l .further .area)) (length (l .reply))
+    (length (l .further .area)) (recordsIn (l .further .list)) (length (l .reply))
 
 abbrev pub requestEffect : Node → ℕ → ℕ → ℕ → Bool → List ℕ → Lent → Effect
 requestEffect n clock link bc errors packet l = routed (routeOf n link bc errors packet) n clock link packet l

@@ -1,7 +1,7 @@
 -- What the house was promised of a node, on one page: the sentences of the three demands in their order, and beneath each the statements
--- that stand for it. That any packet, slave reply, clock reading, node state and lent memory gets an answer is the contract of the five
+-- that stand for it. That any packet, slave reply, clock reading, node state and lent memory gets an answer is the contract of the six
 -- calls, which has no condition; and that replies, status words, check sequences, next states, flash and memories are those of 01 is that
--- the machine is `logodwen`, its five definitions. Here is what holds of them. Assumes nothing.
+-- the machine is `logodwen`, its six definitions. Here is what holds of them. Assumes nothing.
 use Rattle.demands.specs.Machine.{Machine}
 use Rattle.demands.specs.Refusals.{RefusedExactly, NeverRefusedBy5, ZerosRefused}
 use Rattle.demands.specs.Reached.{NoStaleRecord, LengthsShown, SummaryIsTrue}
@@ -11,6 +11,7 @@ use Rattle.demands.specs.Packets.{AnyDivision, LeftAlone}
 use Rattle.demands.specs.Groups.{StartsFull, GroupIsAsked, GroupIsItsFragments, AskedInOrder, EachAskedOnce, FragmentsStand, NothingPastTheWords, PacketsStore, DataIsAcceptable}
 use Rattle.demands.specs.Ends.{EachLowersOrStores, AlwaysEnds, NeverAskedTwice, SettledInTime, DeadEndInTime, AllEndInTime}
 use Rattle.demands.specs.ClosedRun.{ClosedRun}
+use Rattle.demands.specs.Listing.{RepetitionsConserved, WritesWhole, TurnInOrder, UnlistedUnread, DueAcrossWrap}
 
 pub record Demands (M : Machine) : Type 0 where
   -- 1 Conduct. Refusals come for their listed causes and no other, and change nothing.
@@ -54,6 +55,14 @@ pub record Demands (M : Machine) : Type 0 where
   pub settled-in-time : SettledInTime M
   pub dead-end-in-time : DeadEndInTime M
   pub all-end-in-time : AllEndInTime M
+  -- Of the Q-List: the repetitions listed, handed out, and cleared or deleted are those written since the last accepted start, whatever calls come.
+  pub repetitions-conserved : RepetitionsConserved M
+  -- A write to it adds whole or not at all; its steps look at the listed entries in turn and at no other; records beyond those listed are never
+  -- read; and of one run, worked out, an entry that is due after the clock's wrap is handed out then and not before.
+  pub writes-whole : WritesWhole M
+  pub turn-in-order : TurnInOrder M
+  pub unlisted-unread : UnlistedUnread M
+  pub due-across-wrap : DueAcrossWrap M
   -- One run, worked out: start, File Write, File Read.
   pub closed-run : ClosedRun M
   -- 3 No stale record. After any sequence of calls, refused ones and half-done erasures included, the directory kept is the one worked out

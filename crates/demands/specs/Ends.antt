@@ -53,6 +53,7 @@ isAnswer (Event.Requested clock link bc errors packet m x) p = false
 isAnswer (Event.Replied clock slave bc errors status address words) p = isAsked p slave
 isAnswer (Event.Polled clock) p = false
 isAnswer (Event.Erased budget) p = false
+isAnswer (Event.Slowed clock list) p = false
 
 -- Such an answer, or a poll at 60 ticks or later.
 abbrev pub isTaken : Event → Pending → Bool
@@ -60,6 +61,7 @@ isTaken (Event.Requested clock link bc errors packet m x) p = false
 isTaken (Event.Replied clock slave bc errors status address words) p = isAsked p slave
 isTaken (Event.Polled clock) p = isLate clock (askedAt p)
 isTaken (Event.Erased budget) p = false
+isTaken (Event.Slowed clock list) p = false
 
 -- A packet that another one follows: it came before 60 ticks, without receive errors, has words, BC 10 if it is the first and 00 if it is a later
 -- one, and room for all words received with it. Every other answer is final, 0-length or failing.
@@ -72,6 +74,7 @@ isFollowed (Event.Replied clock slave bc errors status address words) p =
     && (eqb (bc % 4) (followedBc (receivedIn p)) && hasRoom keptFree (builtIn p) (receivedIn p + length words) (yetToAskIn p))))
 isFollowed (Event.Polled clock) p = false
 isFollowed (Event.Erased budget) p = false
+isFollowed (Event.Slowed clock list) p = false
 
 -- A call's clock, 0 where it has none; and the words that it brings from a slave.
 abbrev pub clockOf : Event → ℕ
@@ -79,12 +82,14 @@ clockOf (Event.Requested clock link bc errors packet m x) = clock
 clockOf (Event.Replied clock slave bc errors status address words) = clock
 clockOf (Event.Polled clock) = clock
 clockOf (Event.Erased budget) = 0
+clockOf (Event.Slowed clock list) = clock
 
 abbrev pub wordsOf : Event → List ℕ
 wordsOf (Event.Requested clock link bc errors packet m x) = []
 wordsOf (Event.Replied clock slave bc errors status address words) = words
 wordsOf (Event.Polled clock) = []
 wordsOf (Event.Erased budget) = []
+wordsOf (Event.Slowed clock list) = []
 
 -- A call that leaves the number of slaves yet to finish, and stores at least one word behind those received, within the room.
 pub record StoresWords (words : List ℕ) (h h′ : Host) : Type 0 where
@@ -135,6 +140,7 @@ ComesAt tick (Event.Requested clock link bc errors packet m x) = clock ≡ tick 
 ComesAt tick (Event.Replied clock slave bc errors status address words) = clock ≡ tick % 4294967296
 ComesAt tick (Event.Polled clock) = clock ≡ tick % 4294967296
 ComesAt tick (Event.Erased budget) = Unit {0}
+ComesAt tick (Event.Slowed clock list) = clock ≡ tick % 4294967296
 
 -- The tick of the last poll, with this call.
 abbrev pub polledBy : ℕ → ℕ → Event → ℕ
@@ -142,6 +148,7 @@ polledBy polled tick (Event.Requested clock link bc errors packet m x) = polled
 polledBy polled tick (Event.Replied clock slave bc errors status address words) = polled
 polledBy polled tick (Event.Polled clock) = tick
 polledBy polled tick (Event.Erased budget) = polled
+polledBy polled tick (Event.Slowed clock list) = polled
 
 -- The calls of a run come at these ticks, and then it is now: none comes before the one before it, and while something is pending no 60 ticks in a
 -- row go by without a poll.

@@ -1,5 +1,5 @@
 -- The calls of one group as its host makes them: each lent what the call before left. 01 'Call refusals' and 'Group assembly', and 02,
--- request 8. Assumes nothing.
+-- requests 7 and 8. Assumes nothing.
 use Prim.Native.Nat.{ℕ, _+_}
 use mathlib.Core.Path.{_≡_}
 use mathlib.Core.Bool.{Bool, false, _&&_, not}
@@ -25,6 +25,7 @@ pub data Event : Type 0 where
   Replied : (clock slave bc : ℕ) (errors : Bool) (status address : ℕ) (words : List ℕ) → Event
   Polled : (clock : ℕ) → Event
   Erased : (budget : ℕ) → Event
+  Slowed : (clock : ℕ) (list : List ℕ) → Event
 
 -- Where the host stands: the last answer with the state, the flash, the reply buffer, and the slaves that it was told to ask.
 pub record Host : Type 0 where
@@ -42,13 +43,14 @@ slaveIn (Answer.Ask a) = a .slave ∷ []
 slaveIn (Answer.Next s) = []
 slaveIn Answer.Waiting = []
 slaveIn (Answer.Erased count) = []
+slaveIn (Answer.Slow s) = []
 
 -- After a call: the slave that its answer says to ask comes behind those asked before.
 abbrev pub host : List ℕ → Turn → List ℕ → List ℕ → Host
 host asked t flash buffer = record { turn = t; flash = flash; buffer = buffer; asked = asked ++ slaveIn (t .answer) }
 
 -- One call, lent state, flash and reply buffer as the call before left them. Reply and poll aren't lent the flash, erase progress
--- isn't lent the reply buffer.
+-- isn't lent the reply buffer, the slow-control step neither.
 abbrev pub stepped : Machine → Event → Host → Host
 stepped M (Event.Requested clock link bc errors packet m x) h =
     let o : Outcome = M .request (h .turn .node) clock link bc errors packet (lent (h .flash) m x (h .buffer)) in
@@ -60,6 +62,8 @@ stepped M (Event.Polled clock) h =
     let o : Outcome = M .poll (h .turn .node) clock (h .buffer) in host (h .asked) (o .turn) (h .flash) (o .after .reply)
 stepped M (Event.Erased budget) h =
     let o : Outcome = M .erase (h .turn .node) budget (h .flash) in host (h .asked) (o .turn) (o .after .flash) (h .buffer)
+stepped M (Event.Slowed clock list) h =
+    let o : Outcome = M .slow (h .turn .node) clock list in host (h .asked) (o .turn) (h .flash) (h .buffer)
 
 -- The host goes on while something is pending.
 unfoldable pub hosted : Machine → List Event → Host → Host
@@ -72,6 +76,7 @@ dropsGroup link (Event.Requested clock l bc errors packet m x) = not errors && (
 dropsGroup link (Event.Replied clock slave bc errors status address words) = false
 dropsGroup link (Event.Polled clock) = false
 dropsGroup link (Event.Erased budget) = false
+dropsGroup link (Event.Slowed clock list) = false
 
 -- No call of a run drops it.
 unfoldable pub Undropped : ℕ → List Event → Type 0
@@ -126,3 +131,4 @@ heards x (s ∷ ss) w (Event.Polled clock ∷ es) =
     (endedBy (silentBy x) (heards (asked clock) ss (w + length (fragmentOf s (silentBy x) w (length ss))) es))
     (heards x (s ∷ ss) w es)
 heards x (s ∷ ss) w (Event.Erased budget ∷ es) = heards x (s ∷ ss) w es
+heards x (s ∷ ss) w (Event.Slowed clock list ∷ es) = heards x (s ∷ ss) w es

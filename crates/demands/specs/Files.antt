@@ -68,6 +68,7 @@ ErasesSector s (Call.Request clock link bc errors packet m x reply) n = (isComma
 ErasesSector s (Call.Reply clock slave bc errors status address words reply) n = ⊥
 ErasesSector s (Call.Poll clock reply) n = ⊥
 ErasesSector s (Call.Erase budget) n = ⊥
+ErasesSector s (Call.Slow clock list) n = ⊥
 
 abbrev pub setsAttribute : ℕ → Call → Bool
 setsAttribute name (Call.Start kind ports subdetector program version tests clock) = false
@@ -75,6 +76,7 @@ setsAttribute name (Call.Request clock link bc errors packet m x reply) = isComm
 setsAttribute name (Call.Reply clock slave bc errors status address words reply) = false
 setsAttribute name (Call.Poll clock reply) = false
 setsAttribute name (Call.Erase budget) = false
+setsAttribute name (Call.Slow clock list) = false
 
 -- A call spares a file of the name in the sector, unless it is one of these, answered END, the Attribute Set with a change.
 pub record Spares (M : Machine) (s name : ℕ) (c : Call) (n : Node) (flash : List ℕ) : Type 0 where

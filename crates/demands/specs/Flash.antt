@@ -33,13 +33,15 @@ abbrev pub erasingSite : Erasing → Found
 erasingSite Erasing.Nothing = Found.Nothing
 erasingSite (Erasing.Sector p) = Found.At (p .sector)
 
--- The sector that a call may change, by what it is given and the state: start reads the flash, and reply and poll aren't lent it.
+-- The sector that a call may change, by what it is given and the state: start reads the flash, and reply, poll and the slow-control
+-- step aren't lent it.
 abbrev pub siteOf : Call → Node → List ℕ → Found
 siteOf (Call.Start kind ports subdetector program version tests clock) n flash = Found.Nothing
 siteOf (Call.Request clock link bc errors packet m x reply) n flash = requestSite n flash link bc packet x
 siteOf (Call.Reply clock slave bc errors status address words reply) n flash = Found.Nothing
 siteOf (Call.Poll clock reply) n flash = Found.Nothing
 siteOf (Call.Erase budget) n flash = erasingSite (n .erasing)
+siteOf (Call.Slow clock list) n flash = Found.Nothing
 
 -- The words below U are as they were.
 abbrev pub FirstKept : List ℕ → List ℕ → Type 0
@@ -68,6 +70,7 @@ SetByErasing (Call.Request clock link bc errors packet m x reply) n flash i = �
 SetByErasing (Call.Reply clock slave bc errors status address words reply) n flash i = ⊥
 SetByErasing (Call.Poll clock reply) n flash i = ⊥
 SetByErasing (Call.Erase budget) n flash i = InStep (n .erasing) flash budget i
+SetByErasing (Call.Slow clock list) n flash i = ⊥
 
 -- A bit that was 0 is 0, but in the words that a step of an erasure sets. Any call, on any state and any flash.
 abbrev pub NoBitRises : Machine → Type 0
@@ -95,7 +98,7 @@ pub record GoesOn (n : Node) (budget : ℕ) (flash : List ℕ) (o : Outcome) : T
   pub words : o .after .flash ≡ erased flash (n .erasing) budget
 
 -- What is being erased follows the commands, whatever the state and the flash: nothing is after a start; a request leaves it, or is an
--- Erase that begins it; a slave's reply and a poll leave it; erase progress goes on with it.
+-- Erase that begins it; a slave's reply, a poll and a slow-control step leave it; erase progress goes on with it.
 pub record ErasureFollows (M : Machine) : Type 0 where
   pub start : (kind ports subdetector program version tests clock : ℕ) (flash : List ℕ)
       → M .start kind ports subdetector program version tests clock flash .node .erasing ≡ Erasing.Nothing
@@ -107,6 +110,7 @@ pub record ErasureFollows (M : Machine) : Type 0 where
   pub poll : (n : Node) (clock : ℕ) (reply : List ℕ) → M .poll n clock reply .turn .node .erasing ≡ n .erasing
   pub erase : (n : Node) (budget : ℕ) (flash : List ℕ) → isRefused (M .erase n budget flash .turn .answer) ≡ false
       → GoesOn n budget flash (M .erase n budget flash)
+  pub slow : (n : Node) (clock : ℕ) (list : List ℕ) → M .slow n clock list .turn .node .erasing ≡ n .erasing
 
 -- Of a step that a host makes: the words that it is given to erase, those that it counts, and whether it starts the node again.
 abbrev pub budgetOf : Call → ℕ
@@ -115,6 +119,7 @@ budgetOf (Call.Request clock link bc errors packet m x reply) = 0
 budgetOf (Call.Reply clock slave bc errors status address words reply) = 0
 budgetOf (Call.Poll clock reply) = 0
 budgetOf (Call.Erase budget) = budget
+budgetOf (Call.Slow clock list) = 0
 
 abbrev pub countOf : Answer → ℕ
 countOf (Answer.Refused r) = 0
@@ -124,6 +129,7 @@ countOf (Answer.Ask a) = 0
 countOf (Answer.Next s) = 0
 countOf Answer.Waiting = 0
 countOf (Answer.Erased count) = count
+countOf (Answer.Slow s) = 0
 
 abbrev pub budgetIn : {M : Machine} {n : Node} {flash : List ℕ} {next : Node} {after : List ℕ} → Step M n flash next after → ℕ
 budgetIn (Step.Made c b) = budgetOf c

@@ -10,6 +10,7 @@ pub mod Groups
 pub mod Ends
 pub mod Anchors
 pub mod ClosedRun
+pub mod Listing
 pub mod Demands
 pub mod Examples
 pub mod Settled

@@ -1,26 +1,27 @@
--- Anything that answers the five calls. The demands are stated of any such machine, so that they can be seen to shut out wrong ones;
--- ours is the node's definitions. 01 'Covered' and 'What calls owe'. Assumes nothing.
+-- Anything that answers the six calls. The demands are stated of any such machine, so that they can be seen to shut out wrong ones;
+-- ours is the node's definitions. 01 'Covered' and 'What calls owe', and 02, request 7. Assumes nothing.
 use Prim.Native.Nat.{ℕ}
 use mathlib.Core.Bool.{Bool, true, false}
 use mathlib.Core.List.{List}
 use Rattle.memory.specs.Segment.{Memories}
 use Rattle.node.specs.Effect.{Further, Lent, lent, Outcome}
-use Rattle.node.specs.Calls.{startOf, requestOf, replyOf, pollOf, eraseOf}
+use Rattle.node.specs.Calls.{startOf, requestOf, replyOf, pollOf, eraseOf, slowOf}
 use Rattle.node.specs.declared.Answer.{Answer}
 use Rattle.node.specs.declared.Node.{Node}
 use Rattle.node.specs.declared.Turn.{Turn}
 
--- The five calls, each a function of what it is given and lent.
+-- The six calls, each a function of what it is given and lent.
 pub record Machine : Type 0 where
   pub start : ℕ → ℕ → ℕ → ℕ → ℕ → ℕ → ℕ → List ℕ → Turn
   pub request : Node → ℕ → ℕ → ℕ → Bool → List ℕ → Lent → Outcome
   pub reply : Node → ℕ → ℕ → ℕ → Bool → ℕ → ℕ → List ℕ → List ℕ → Outcome
   pub poll : Node → ℕ → List ℕ → Outcome
   pub erase : Node → ℕ → List ℕ → Outcome
+  pub slow : Node → ℕ → List ℕ → Outcome
 
 -- The node.
 abbrev pub logodwen : Machine
-logodwen = record { start = startOf; request = requestOf; reply = replyOf; poll = pollOf; erase = eraseOf }
+logodwen = record { start = startOf; request = requestOf; reply = replyOf; poll = pollOf; erase = eraseOf; slow = slowOf }
 
 -- A call, with all that it is given and lent but the state and the flash.
 pub data Call : Type 0 where
@@ -29,6 +30,7 @@ pub data Call : Type 0 where
   Reply : (clock slave bc : ℕ) (errors : Bool) (status address : ℕ) (words reply : List ℕ) → Call
   Poll : (clock : ℕ) (reply : List ℕ) → Call
   Erase : (budget : ℕ) → Call
+  Slow : (clock : ℕ) (list : List ℕ) → Call
 
 -- A call that starts the node; every other takes a state.
 abbrev pub isStart : Call → Bool
@@ -37,6 +39,7 @@ isStart (Call.Request clock link bc errors packet m x reply) = false
 isStart (Call.Reply clock slave bc errors status address words reply) = false
 isStart (Call.Poll clock reply) = false
 isStart (Call.Erase budget) = false
+isStart (Call.Slow clock list) = false
 
 -- What a call answers, with the next state.
 abbrev pub turnOf : Machine → Call → Node → List ℕ → Turn
@@ -48,8 +51,9 @@ turnOf M (Call.Reply clock slave bc errors status address words reply) n flash =
     M .reply n clock slave bc errors status address words reply .turn
 turnOf M (Call.Poll clock reply) n flash = M .poll n clock reply .turn
 turnOf M (Call.Erase budget) n flash = M .erase n budget flash .turn
+turnOf M (Call.Slow clock list) n flash = M .slow n clock list .turn
 
--- The flash after it: start reads it, reply and poll are not lent it.
+-- The flash after it: start reads it; reply, poll and the slow-control step are not lent it.
 abbrev pub flashOf : Machine → Call → Node → List ℕ → List ℕ
 flashOf M (Call.Start kind ports subdetector program version tests clock) n flash = flash
 flashOf M (Call.Request clock link bc errors packet m x reply) n flash =
@@ -57,6 +61,7 @@ flashOf M (Call.Request clock link bc errors packet m x reply) n flash =
 flashOf M (Call.Reply clock slave bc errors status address words reply) n flash = flash
 flashOf M (Call.Poll clock reply) n flash = flash
 flashOf M (Call.Erase budget) n flash = M .erase n budget flash .after .flash
+flashOf M (Call.Slow clock list) n flash = flash
 
 -- Whether an answer is a refusal.
 abbrev pub isRefused : Answer → Bool
@@ -67,3 +72,4 @@ isRefused (Answer.Ask a) = false
 isRefused (Answer.Next s) = false
 isRefused Answer.Waiting = false
 isRefused (Answer.Erased count) = false
+isRefused (Answer.Slow s) = false

@@ -1,5 +1,6 @@
 -- Demand 1, of refusals: each call is refused by the number of the first cause that holds and then changes nothing, and no state
--- reached is refused by 5. 01 'Call refusals', each cause in the words of its table; 8 is of 02, request 1. Assumes nothing.
+-- reached is refused by 5. 01 'Call refusals', each cause in the words of its table; 8 and 9 are of 02, requests 1 and 7. Assumes
+-- nothing.
 use Prim.Native.Nat.{ℕ, _+_, _*_, _/_, _%_, _^_, _≤_, _<_}
 use mathlib.Core.Path.{_≡_}
 use mathlib.Core.Logic.{_⊎_, _↔_}
@@ -9,9 +10,11 @@ use lib.ListN.{length, getD}
 use Rattle.flash.specs.Geometry.{sizeOf}
 use Rattle.flash.specs.declared.Erasing.{Erasing}
 use Rattle.group.specs.Slaves.{above}
+use Rattle.qlist.specs.Words.{recordsIn}
+use Rattle.qlist.specs.declared.Listing.{Listing}
 use Rattle.node.specs.State.{refusalNumber}
 use Rattle.node.specs.Effect.{Lent, Outcome}
-use Rattle.node.specs.Calls.{nobody, lentReply, lentFlash}
+use Rattle.node.specs.Calls.{nobody, lentReply, lentFlash, lentList}
 use Rattle.node.specs.declared.Answer.{Answer}
 use Rattle.node.specs.declared.Ask.{Ask}
 use Rattle.node.specs.declared.Gathering.{Gathering}
@@ -31,6 +34,7 @@ numberOf (Answer.Ask a) = 0
 numberOf (Answer.Next s) = 0
 numberOf Answer.Waiting = 0
 numberOf (Answer.Erased count) = 0
+numberOf (Answer.Slow s) = 0
 
 -- A row of the table: its number and its cause.
 pub record Cause : Type 1 where
@@ -79,8 +83,13 @@ abbrev pub WritingIn : ℕ → Writing → Type 0
 WritingIn ports Writing.Nothing = Unit {0}
 WritingIn ports (Writing.File j) = (j .link < ports) × (j .words ≤ 32768)
 
+-- At most 910 entries are listed, and the turn is at a listed place, or at 0 where none is listed. 02, request 7.
+pub record ListingIn (g : Listing) : Type 0 where
+  pub most : g .entries ≤ 910
+  pub turn : (g .turn < g .entries) ⊎ ((g .entries ≡ 0) × (g .turn ≡ 0))
+
 -- Kind CDP 1 or CDDC 2, 1 to 4 ports, sub-detector up to 7, a flash of either size, mode 0 to 3, masks of 24 bits, and what is erasing,
--- what is pending and the write that stands as above.
+-- what is pending, the write that stands and what is listed as above.
 pub record IsState (n : Node) : Type 0 where
   pub kind : (n .given .kind ≡ 1) ⊎ (n .given .kind ≡ 2)
   pub ports : (1 ≤ n .given .ports) × (n .given .ports ≤ 4)
@@ -91,6 +100,7 @@ pub record IsState (n : Node) : Type 0 where
   pub erasing : ErasingIn (n .given .«flash_words») (n .erasing)
   pub pending : PendingIn (n .given .ports) (n .pending)
   pub writing : WritingIn (n .given .ports) (n .writing)
+  pub listing : ListingIn (n .listing)
 
 -- 6 and 7: a request is pending; a slave is now being asked.
 abbrev pub IsPending : Pending → Type 0
@@ -103,12 +113,15 @@ IsAsked Pending.Nothing slave = ⊥
 IsAsked (Pending.Slave a) slave = a .slave ≡ slave
 IsAsked (Pending.Group a g) slave = a .slave ≡ slave
 
--- The rows that more than one call has: 1, 2 and 5.
+-- The rows that more than one call has: 1, 2, 9 and 5.
 abbrev pub flashCause : Node → List ℕ → Cause
 flashCause n flash = cause 1 ((FlashSize (length flash) → ⊥) ⊎ (length flash ≡ n .given .«flash_words» → ⊥))
 
 abbrev pub replyCause : List ℕ → Cause
 replyCause reply = cause 2 (length reply < 12288)
+
+abbrev pub listCause : Node → List ℕ → Cause
+listCause n list = cause 9 ((910 < recordsIn list) ⊎ (recordsIn list < n .listing .entries))
 
 abbrev pub stateCause : Node → Cause
 stateCause n = cause 5 (IsState n → ⊥)
@@ -126,6 +139,7 @@ requestCauses n link packet l =
     ∷ replyCause (l .reply)
     ∷ cause 3 (((32768 < length (l .memories .pm)) ⊎ (32768 < length (l .memories .dm))) ⊎ (4096 < length (l .memories .io)))
     ∷ cause 8 (length (l .further .area) < 32768)
+    ∷ listCause n (l .further .list)
     ∷ cause 4 (link < n .given .ports → ⊥)
     ∷ stateCause n
     ∷ cause 6 (IsPending (n .pending) × (1 ≤ length packet))
@@ -139,6 +153,9 @@ pollCauses n reply = replyCause reply ∷ stateCause n ∷ cause 7 (IsPending (n
 
 abbrev pub eraseCauses : Node → List ℕ → List Cause
 eraseCauses n flash = flashCause n flash ∷ stateCause n ∷ []
+
+abbrev pub slowCauses : Node → List ℕ → List Cause
+slowCauses n list = listCause n list ∷ stateCause n ∷ []
 
 -- A call answers the number of the first cause that holds.
 abbrev pub Exactly : List Cause → Answer → Type 0
@@ -165,6 +182,9 @@ pub record RefusedExactly (M : Machine) : Type 0 where
   pub erase : (n : Node) (budget : ℕ) (flash : List ℕ)
       → let o : Outcome = M .erase n budget flash in
       Exactly (eraseCauses n flash) (o .turn .answer) × Unchanged o n (lentFlash flash)
+  pub slow : (n : Node) (clock : ℕ) (list : List ℕ)
+      → let o : Outcome = M .slow n clock list in
+      Exactly (slowCauses n list) (o .turn .answer) × Unchanged o n (lentList list)
 
 -- No state reached from an accepted start is refused by 5, whatever else the call is given and lent: it is a state of a node.
 pub record NeverRefusedBy5 (M : Machine) : Type 0 where

@@ -13,6 +13,7 @@ use Rattle.flash.proofs as Flash
 use Rattle.memory.proofs as Memory
 use Rattle.group.proofs as Group
 use Rattle.report.proofs as Report
+use Rattle.qlist.proofs as Qlist
 use Rattle.capture.proofs as Capture
 use Rattle.node.proofs as Node
 
@@ -105,6 +106,7 @@ pub record MemorySettled : Type 0 where
   pub write-dm : Settles Memory.write_dm.Kinds.ps Memory.write_dm.Kinds.r Memory.write_dm.Reads.Learnt
   pub can-perform : Settles Memory.can_perform.Kinds.ps Memory.can_perform.Kinds.r Memory.can_perform.Reads.Learnt
   pub perform-io : Settles Memory.perform_io.Kinds.ps Memory.perform_io.Kinds.r Memory.perform_io.Reads.Learnt
+  pub segments-is-segment : Settles Memory.segments.is_segment.Kinds.ps Memory.segments.is_segment.Kinds.r Memory.segments.is_segment.Reads.Learnt
   pub can-load : Settles Memory.can_load.Kinds.ps Memory.can_load.Kinds.r Memory.can_load.Reads.Learnt
   pub load : Settles Memory.load.Kinds.ps Memory.load.Kinds.r Memory.load.Reads.Learnt
 
@@ -138,6 +140,20 @@ pub record ReportSettled : Type 0 where
   pub attributes : Settles Report.attributes.Kinds.ps Report.attributes.Kinds.r Report.attributes.Reads.Learnt
   pub has-masks : Settles Report.has_masks.Kinds.ps Report.has_masks.Kinds.r Report.has_masks.Reads.Learnt
 
+-- The Q-List.
+pub record QlistSettled : Type 0 where
+  pub advanced : Settles Qlist.advanced.Kinds.ps Qlist.advanced.Kinds.r Qlist.advanced.Reads.Learnt
+  pub said : Settles Qlist.said.Kinds.ps Qlist.said.Kinds.r Qlist.said.Reads.Learnt
+  pub is-own : Settles Qlist.is_own.Kinds.ps Qlist.is_own.Kinds.r Qlist.is_own.Reads.Learnt
+  pub moved-on : Settles Qlist.moved_on.Kinds.ps Qlist.moved_on.Kinds.r Qlist.moved_on.Reads.Learnt
+  pub words-step : Settles Qlist.words.step.Kinds.ps Qlist.words.step.Kinds.r Qlist.words.step.Reads.Learnt
+  pub words-close : Settles Qlist.words.close.Kinds.ps Qlist.words.close.Kinds.r Qlist.words.close.Reads.Learnt
+  pub words-clear : Settles Qlist.words.clear.Kinds.ps Qlist.words.clear.Kinds.r Qlist.words.clear.Reads.Learnt
+  pub commands-can-write : Settles Qlist.commands.can_write.Kinds.ps Qlist.commands.can_write.Kinds.r Qlist.commands.can_write.Reads.Learnt
+  pub commands-write : Settles Qlist.commands.write.Kinds.ps Qlist.commands.write.Kinds.r Qlist.commands.write.Reads.Learnt
+  pub commands-delete : Settles Qlist.commands.delete.Kinds.ps Qlist.commands.delete.Kinds.r Qlist.commands.delete.Reads.Learnt
+  pub commands-read-list : Settles Qlist.commands.read_list.Kinds.ps Qlist.commands.read_list.Kinds.r Qlist.commands.read_list.Reads.Learnt
+
 -- Captured group replies.
 pub record CaptureSettled : Type 0 where
   pub read-group : Settles Capture.read_group.Kinds.ps Capture.read_group.Kinds.r Capture.read_group.Reads.Learnt
@@ -146,13 +162,14 @@ pub record CaptureSettled : Type 0 where
   pub judge-end : Settles Capture.judge_end.Kinds.ps Capture.judge_end.Kinds.r Capture.judge_end.Reads.Learnt
   pub judge-fcs : Settles Capture.judge_fcs.Kinds.ps Capture.judge_fcs.Kinds.r Capture.judge_fcs.Reads.Learnt
 
--- The node: the five calls, and the parts that decide before anything is done.
+-- The node: the six calls, and the parts that decide before anything is done.
 pub record NodeSettled : Type 0 where
   pub start : Settles Node.Node.start.Kinds.ps Node.Node.start.Kinds.r Node.Node.start.Reads.Learnt
   pub request : Settles Node.Node.request.Kinds.ps Node.Node.request.Kinds.r Node.Node.request.Reads.Learnt
   pub reply : Settles Node.Node.reply.Kinds.ps Node.Node.reply.Kinds.r Node.Node.reply.Reads.Learnt
   pub poll : Settles Node.Node.poll.Kinds.ps Node.Node.poll.Kinds.r Node.Node.poll.Reads.Learnt
   pub erase : Settles Node.Node.erase.Kinds.ps Node.Node.erase.Kinds.r Node.Node.erase.Reads.Learnt
+  pub slow : Settles Node.Node.slow.Kinds.ps Node.Node.slow.Kinds.r Node.Node.slow.Reads.Learnt
   pub refusals-refusal-number : Settles Node.refusals.refusal_number.Kinds.ps Node.refusals.refusal_number.Kinds.r Node.refusals.refusal_number.Reads.Learnt
   pub refusals-is-pending : Settles Node.refusals.is_pending.Kinds.ps Node.refusals.is_pending.Kinds.r Node.refusals.is_pending.Reads.Learnt
   pub refusals-is-asked : Settles Node.refusals.is_asked.Kinds.ps Node.refusals.is_asked.Kinds.r Node.refusals.is_asked.Reads.Learnt
@@ -160,6 +177,7 @@ pub record NodeSettled : Type 0 where
   pub refusals-reply-verdict : Settles Node.refusals.reply_verdict.Kinds.ps Node.refusals.reply_verdict.Kinds.r Node.refusals.reply_verdict.Reads.Learnt
   pub refusals-poll-verdict : Settles Node.refusals.poll_verdict.Kinds.ps Node.refusals.poll_verdict.Kinds.r Node.refusals.poll_verdict.Reads.Learnt
   pub refusals-erase-verdict : Settles Node.refusals.erase_verdict.Kinds.ps Node.refusals.erase_verdict.Kinds.r Node.refusals.erase_verdict.Reads.Learnt
+  pub refusals-slow-verdict : Settles Node.refusals.slow_verdict.Kinds.ps Node.refusals.slow_verdict.Kinds.r Node.refusals.slow_verdict.Reads.Learnt
   pub refusals-start-verdict : Settles Node.refusals.start_verdict.Kinds.ps Node.refusals.start_verdict.Kinds.r Node.refusals.start_verdict.Reads.Learnt
   pub routing-word-at : Settles Node.routing.word_at.Kinds.ps Node.routing.word_at.Kinds.r Node.routing.word_at.Reads.Learnt
   pub routing-route-of : Settles Node.routing.route_of.Kinds.ps Node.routing.route_of.Kinds.r Node.routing.route_of.Reads.Learnt
@@ -172,6 +190,7 @@ pub record NodeSettled : Type 0 where
   pub files-is-served : Settles Node.files.is_served.Kinds.ps Node.files.is_served.Kinds.r Node.files.is_served.Reads.Learnt
   pub files-named-by : Settles Node.files.named_by.Kinds.ps Node.files.named_by.Kinds.r Node.files.named_by.Reads.Learnt
   pub files-status-in : Settles Node.files.status_in.Kinds.ps Node.files.status_in.Kinds.r Node.files.status_in.Reads.Learnt
+  pub lists-take-slow : Settles Node.lists.take_slow.Kinds.ps Node.lists.take_slow.Kinds.r Node.lists.take_slow.Reads.Learnt
   pub requests-pass-by : Settles Node.requests.pass_by.Kinds.ps Node.requests.pass_by.Kinds.r Node.requests.pass_by.Reads.Learnt
   pub routing-route-by : Settles Node.routing.route_by.Kinds.ps Node.routing.route_by.Kinds.r Node.routing.route_by.Reads.Learnt
   pub slaves-asked-at : Settles Node.slaves.asked_at.Kinds.ps Node.slaves.asked_at.Kinds.r Node.slaves.asked_at.Reads.Learnt
@@ -191,5 +210,6 @@ pub record Settled : Type 0 where
   pub memory : MemorySettled
   pub group : GroupSettled
   pub report : ReportSettled
+  pub qlist : QlistSettled
   pub capture : CaptureSettled
   pub node : NodeSettled

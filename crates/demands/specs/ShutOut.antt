@@ -4,7 +4,7 @@ use Prim.Native.Nat.{ℕ, _+_, _-_}
 use mathlib.Core.Bool.{Bool, _&&_, not}
 use mathlib.Core.List.{List, [], _∷_}
 use lib.ListN.{length, getD, replicate}
-use lib.Dec.{ltb, eqb}
+use lib.Dec.{ltb, leb, eqb}
 use Rattle.base.specs.Pick.{pick}
 use Rattle.base.specs.Words.{laid, blanks}
 use Rattle.image.specs.Header.{headerOk}
@@ -18,11 +18,14 @@ use Rattle.flash.specs.declared.Status.{Status}
 use Rattle.memory.specs.Segment.{memories}
 use Rattle.group.specs.declared.Reply.{Reply}
 use Rattle.group.specs.Time.{isLate}
-use Rattle.node.specs.State.{turn, joining, withSettings, withFlash, withPending, withWriting}
+use Rattle.qlist.specs.Entry.{later}
+use Rattle.qlist.specs.Words.{listing, entryIn}
+use Rattle.qlist.specs.declared.Slow.{Slow}
+use Rattle.node.specs.State.{turn, joining, withSettings, withFlash, withPending, withWriting, withListing}
 use Rattle.node.specs.Slaves.{ask}
 use Rattle.node.specs.Route.{asking, bcOf}
 use Rattle.node.specs.Effect.{Lent, lent, further, Outcome, outcome}
-use Rattle.node.specs.Calls.{lentReply, lentFlash, nobody, startOf, requestOf, replyOf, pollOf, eraseOf}
+use Rattle.node.specs.Calls.{lentReply, lentFlash, lentList, nobody, startOf, requestOf, replyOf, pollOf, eraseOf, slowOf}
 use Rattle.node.specs.declared.Answer.{Answer}
 use Rattle.node.specs.declared.Node.{Node}
 use Rattle.node.specs.declared.Pending.{Pending}
@@ -39,6 +42,7 @@ use Rattle.demands.specs.Packets.{AnyDivision, LeftAlone}
 use Rattle.demands.specs.Groups.{StartsFull, GroupIsItsFragments, PacketsStore}
 use Rattle.demands.specs.Ends.{EachLowersOrStores, AlwaysEnds, NeverAskedTwice, SettledInTime}
 use Rattle.demands.specs.ClosedRun.{ClosedRun}
+use Rattle.demands.specs.Listing.{RepetitionsConserved, TurnInOrder, DueAcrossWrap}
 
 -- Once started, always refuses.
 abbrev pub refused : Refusal → Node → Lent → Outcome
@@ -52,6 +56,7 @@ refusing r =
       reply = λ n clock slave bc errors status address words reply. refused r n (lentReply reply);
       poll = λ n clock reply. refused r n (lentReply reply);
       erase = λ n budget flash. refused r n (lentFlash flash);
+      slow = λ n clock list. refused r n (lentList list);
     }
 
 -- Says ABORT to every request.
@@ -63,6 +68,7 @@ aborting =
       reply = replyOf;
       poll = pollOf;
       erase = eraseOf;
+      slow = slowOf;
     }
 
 -- Does what a request asks for, but answers each with the same reply.
@@ -77,9 +83,10 @@ constant r ws =
       reply = replyOf;
       poll = pollOf;
       erase = eraseOf;
+      slow = slowOf;
     }
 
--- Answers as it should, but changes nothing: neither state nor flash nor memories.
+-- Answers as it should, but changes nothing: neither state nor flash nor memories nor Q-List.
 abbrev pub unchanging : Node → Lent → Outcome → Outcome
 unchanging n l o = outcome (turn n (o .turn .answer)) (lent (l .flash) (l .memories) (l .further) (o .after .reply))
 
@@ -91,6 +98,7 @@ idle =
       reply = λ n clock slave bc errors status address words reply. unchanging n (lentReply reply) (replyOf n clock slave bc errors status address words reply);
       poll = λ n clock reply. unchanging n (lentReply reply) (pollOf n clock reply);
       erase = λ n budget flash. unchanging n (lentFlash flash) (eraseOf n budget flash);
+      slow = λ n clock list. unchanging n (lentList list) (slowOf n clock list);
     }
 
 -- Erases all at the first progress call, whatever count it reports.
@@ -105,6 +113,7 @@ hasty says =
       reply = replyOf;
       poll = pollOf;
       erase = λ n budget flash. reporting (says budget) (eraseOf n (length flash) flash);
+      slow = slowOf;
     }
 
 -- Reports words that it did not set: its state and its answer go on, the flash stays.
@@ -116,6 +125,7 @@ boasting =
       reply = replyOf;
       poll = pollOf;
       erase = λ n budget flash. outcome (eraseOf n budget flash .turn) (lentFlash flash);
+      slow = slowOf;
     }
 
 -- Scans at start only: the directory stays as start worked it out.
@@ -130,6 +140,7 @@ scanning =
       reply = replyOf;
       poll = pollOf;
       erase = λ n budget flash. stale n (eraseOf n budget flash);
+      slow = slowOf;
     }
 
 -- Looks at the slave of a reply before the reply buffer: refusal 4 comes before 2.
@@ -142,6 +153,7 @@ disorderly =
           pick (ltb 23 slave) (refused Refusal.Number n (lentReply reply)) (replyOf n clock slave bc errors status address words reply);
       poll = pollOf;
       erase = eraseOf;
+      slow = slowOf;
     }
 
 -- Refuses start too.
@@ -153,6 +165,7 @@ unstarted r =
       reply = replyOf;
       poll = pollOf;
       erase = eraseOf;
+      slow = slowOf;
     }
 
 -- Begins to erase sector 3 of its own accord, with every reply that has words, where nothing is being erased; its directory tells it.
@@ -168,6 +181,7 @@ withReply (Answer.Ask a) n flash = n
 withReply (Answer.Next s) n flash = n
 withReply Answer.Waiting n flash = n
 withReply (Answer.Erased count) n flash = n
+withReply (Answer.Slow s) n flash = n
 
 abbrev pub willing : Outcome → Outcome
 willing o = outcome (turn (withReply (o .turn .answer) (o .turn .node) (o .after .flash)) (o .turn .answer)) (o .after)
@@ -180,6 +194,7 @@ rogue =
       reply = replyOf;
       poll = pollOf;
       erase = eraseOf;
+      slow = slowOf;
     }
 
 -- Drops an erasure in progress when a request comes; its directory is worked out afresh.
@@ -196,6 +211,7 @@ dropping =
       reply = replyOf;
       poll = pollOf;
       erase = eraseOf;
+      slow = slowOf;
     }
 
 -- Loads from a half-erased sector: during an erasure it answers Load as it should, and puts that sector's words into PM.
@@ -213,6 +229,7 @@ loader =
       reply = replyOf;
       poll = pollOf;
       erase = eraseOf;
+      slow = slowOf;
     }
 
 -- Says END to a File Write that it answers ABORT, and stores nothing.
@@ -224,6 +241,7 @@ lies (Answer.Ask a) = Answer.Ask a
 lies (Answer.Next s) = Answer.Next s
 lies Answer.Waiting = Answer.Waiting
 lies (Answer.Erased count) = Answer.Erased count
+lies (Answer.Slow s) = Answer.Slow s
 
 abbrev pub lying : Machine
 lying =
@@ -235,6 +253,7 @@ lying =
       reply = replyOf;
       poll = pollOf;
       erase = eraseOf;
+      slow = slowOf;
     }
 
 -- Stores a file, but says ABORT.
@@ -248,6 +267,7 @@ denying =
       reply = replyOf;
       poll = pollOf;
       erase = eraseOf;
+      slow = slowOf;
     }
 
 -- Judges what is in the first packet of a file: ABORT where its words begin with no header of a valid file.
@@ -260,6 +280,7 @@ judging =
       reply = replyOf;
       poll = pollOf;
       erase = eraseOf;
+      slow = slowOf;
     }
 
 -- Forgets the header word's place: in the first packet of a file it joins with the others.
@@ -271,10 +292,11 @@ hoarding =
           let o : Outcome = requestOf n clock link bc errors packet l in
           pick (eqb (bcOf bc) 2)
           (outcome (turn (withWriting (o .turn .node) (Writing.File (joining link (length packet)))) (o .turn .answer))
-          (lent (o .after .flash) (o .after .memories) (further (laid (l .further .area) 0 packet)) (o .after .reply))) o;
+          (lent (o .after .flash) (o .after .memories) (further (laid (l .further .area) 0 packet) (o .after .further .list)) (o .after .reply))) o;
       reply = replyOf;
       poll = pollOf;
       erase = eraseOf;
+      slow = slowOf;
     }
 
 -- Lets any link's packets between into the write that stands.
@@ -290,6 +312,7 @@ mixing =
       reply = replyOf;
       poll = pollOf;
       erase = eraseOf;
+      slow = slowOf;
     }
 
 -- Starts with mask 0 empty.
@@ -304,6 +327,7 @@ empty =
       reply = replyOf;
       poll = pollOf;
       erase = eraseOf;
+      slow = slowOf;
     }
 
 -- Keeps the old length of sector 3 when it is to be erased.
@@ -321,6 +345,7 @@ remembering =
       reply = replyOf;
       poll = pollOf;
       erase = eraseOf;
+      slow = slowOf;
     }
 
 -- Gives sector 3 a length at start where it is bad.
@@ -337,6 +362,7 @@ measuring =
       reply = replyOf;
       poll = pollOf;
       erase = eraseOf;
+      slow = slowOf;
     }
 
 -- Overlooks what is behind a file: at start, and when it is asked for one, sees sector 3 as if all words after its file were FFFF.
@@ -358,6 +384,7 @@ overlooking =
       reply = replyOf;
       poll = pollOf;
       erase = eraseOf;
+      slow = slowOf;
     }
 
 -- Takes the lower of two files of one name: when it is asked for one, it sees no file in sector 4.
@@ -375,6 +402,7 @@ choosing =
       reply = replyOf;
       poll = pollOf;
       erase = eraseOf;
+      slow = slowOf;
     }
 
 -- Doesn't see which name sector 3 has when it writes a file.
@@ -389,6 +417,7 @@ doubling =
       reply = replyOf;
       poll = pollOf;
       erase = eraseOf;
+      slow = slowOf;
     }
 
 -- Leaves the slave's FCS in the fragment of a reply that came in packets: its last word stands where the fragment has its status word. 02, request
@@ -411,6 +440,7 @@ sealing =
           sealed (n .pending) words (replyOf n clock slave bc errors status address words reply);
       poll = pollOf;
       erase = eraseOf;
+      slow = slowOf;
     }
 
 -- Sends NEXT, and leaves the slave what is left of its 60 ticks.
@@ -431,6 +461,7 @@ hurrying =
           outcome (turn (withPending (o .turn .node) (askedAsBefore (n .pending) (o .turn .node .pending))) (o .turn .answer)) (o .after);
       poll = pollOf;
       erase = eraseOf;
+      slow = slowOf;
     }
 
 -- Counts the words of a late packet: the count of a five-word fragment has them too.
@@ -450,6 +481,7 @@ counting =
           counted (n .pending) clock words (replyOf n clock slave bc errors status address words reply);
       poll = pollOf;
       erase = eraseOf;
+      slow = slowOf;
     }
 
 -- After an answer with receive errors asks the slave of a group once more, and nothing else comes of it. 02, request 13.
@@ -469,6 +501,7 @@ insisting =
           asksAgain (n .pending) clock errors n (replyOf n clock slave bc errors status address words reply);
       poll = pollOf;
       erase = eraseOf;
+      slow = slowOf;
     }
 
 -- Waits for ever after NEXT: with words received a poll is answered so, however late, and changes nothing.
@@ -485,6 +518,61 @@ patient =
       reply = replyOf;
       poll = λ n clock reply. waitsOn (n .pending) n reply (pollOf n clock reply);
       erase = eraseOf;
+      slow = slowOf;
+    }
+
+-- Takes a repetition off an entry that is due, and hands out nothing. 02, request 7.
+abbrev pub withheld : Answer → Answer
+withheld (Answer.Refused r) = Answer.Refused r
+withheld Answer.Started = Answer.Started
+withheld (Answer.Reply r) = Answer.Reply r
+withheld (Answer.Ask a) = Answer.Ask a
+withheld (Answer.Next s) = Answer.Next s
+withheld Answer.Waiting = Answer.Waiting
+withheld (Answer.Erased count) = Answer.Erased count
+withheld (Answer.Slow s) = Answer.Slow Slow.Nothing
+
+abbrev pub losing : Machine
+losing =
+    record {
+      start = startOf;
+      request = requestOf;
+      reply = replyOf;
+      poll = pollOf;
+      erase = eraseOf;
+      slow = λ n clock list.
+          let o : Outcome = slowOf n clock list in
+          outcome (turn (o .turn .node) (withheld (o .turn .answer))) (o .after);
+    }
+
+-- Leaves the turn where it is when a delete closes the entries up.
+abbrev pub skipping : Machine
+skipping =
+    record {
+      start = startOf;
+      request = λ n clock link bc errors packet l.
+          let o : Outcome = requestOf n clock link bc errors packet l in
+          pick (isCommand 0x5B bc packet && eqb (length packet) 1)
+          (outcome (turn (withListing (o .turn .node) (listing (o .turn .node .listing .entries) (n .listing .turn))) (o .turn .answer)) (o .after)) o;
+      reply = replyOf;
+      poll = pollOf;
+      erase = eraseOf;
+      slow = slowOf;
+    }
+
+-- Compares clock and due time as numbers: an entry is due to it from a clock on that isn't less, as if the clock never wrapped.
+abbrev pub compared : ℕ → ℕ → ℕ
+compared due clock = pick (leb due clock) due (later due 4294967295)
+
+abbrev pub greater : Machine
+greater =
+    record {
+      start = startOf;
+      request = requestOf;
+      reply = replyOf;
+      poll = pollOf;
+      erase = eraseOf;
+      slow = λ n clock list. slowOf n (compared (entryIn list (n .listing .turn) .due) clock) list;
     }
 
 -- Each fails a demand.
@@ -521,6 +609,10 @@ pub record ShutOut : Type 0 where
   pub waits-on : EachLowersOrStores patient → ⊥
   pub waits-for-ever : AlwaysEnds patient → ⊥
   pub waits-too-long : SettledInTime patient → ⊥
+  -- of the Q-List: loses repetitions; leaves the turn where a delete closes up; compares clock and due time as numbers
+  pub loses : RepetitionsConserved losing → ⊥
+  pub skips : TurnInOrder skipping → ⊥
+  pub compares : DueAcrossWrap greater → ⊥
   -- loads from a half-erased sector
   pub loads-half : NeverCorrupted loader → ⊥
   -- hands out a file with remains behind it
