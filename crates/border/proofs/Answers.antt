@@ -8,7 +8,7 @@ use mathlib.Core.Bool.{Bool, true, false, _&&_, _||_, false≢true}
 use mathlib.Core.List.{List, [], _∷_}
 use lib.ListN.{length, take, length-take}
 use lib.Dec.{ltb, leb, eqb}
-use borrow.Author.Tests.{eqb-true, leb-true, ltb-false}
+use borrow.Author.Tests.{eqb-true, leb-true, ltb-true, ltb-false}
 use Rattle.base.proofs.Pick.{pick-case, and-left, and-right}
 use Rattle.flash.specs.Geometry.{unitOf}
 use Rattle.flash.specs.Change.{eraseCount}
@@ -25,12 +25,16 @@ use Rattle.group.specs.declared.Tally.{Tally}
 use Rattle.group.specs.declared.ZeroLength.{ZeroLength}
 use Rattle.group.proofs.Sets.{up-tells}
 use Rattle.group.proofs.Takes.{taken-changes}
+use Rattle.qlist.specs.Entry.{isReady, toldOf}
+use Rattle.qlist.specs.Words.{Stepped, recordsIn, entryIn, stepIn}
+use Rattle.qlist.specs.declared.Listing.{Listing}
+use Rattle.qlist.specs.declared.Slow.{Slow}
 use Rattle.node.specs.Effect.{Effect, Lent, lent}
-use Rattle.node.specs.Refusals.{replyVerdict, pollVerdict, eraseVerdict}
+use Rattle.node.specs.Refusals.{replyVerdict, pollVerdict, eraseVerdict, slowVerdict}
 use Rattle.node.specs.Valid.{askOk, gatheringOk, pendingOk}
 use Rattle.node.specs.Settings.{statusIn}
 use Rattle.node.specs.Slaves.{heard, silent, goesOn, packetIn, yetToAsk, hears, askedAt, replyEffect, pollEffect}
-use Rattle.node.specs.Calls.{judged, lentReply, lentFlash, routed, requestOf, replyOf, pollOf, eraseEffect, eraseOf}
+use Rattle.node.specs.Calls.{judged, lentReply, lentFlash, lentList, routed, requestOf, replyOf, pollOf, eraseEffect, eraseOf, slowEffect, slowOf}
 use Rattle.node.specs.declared.Answer.{Answer}
 use Rattle.node.specs.declared.Gathering.{Gathering}
 use Rattle.node.specs.Files.{joined}
@@ -38,7 +42,7 @@ use Rattle.node.specs.declared.Node.{Node}
 use Rattle.node.specs.declared.Pending.{Pending}
 use Rattle.node.specs.declared.Verdict.{Verdict}
 use Rattle.node.proofs.Routes.{Named, route-case}
-use Rattle.node.proofs.Ranges.{ranges-tell, gathered-tells}
+use Rattle.node.proofs.Ranges.{ranges-tell, gathered-tells, listing-tells}
 use Rattle.demands.specs.Machine.{isRefused}
 use Rattle.demands.specs.Requests.{end}
 use Rattle.demands.proofs.Taken.{verdictOn, requestEffect}
@@ -47,12 +51,13 @@ use Rattle.codec.specs.StateBytes.{nodeIn, areState}
 use Rattle.logodwen.specs.Number.{fields, answerNumber}
 use Rattle.logodwen.specs.Entry.{memoryWords, replyWords, isSet, furtherWords}
 use Rattle.codec.proofs.Runs.{length-words, length-words-of}
-use Rattle.logodwen.proofs.Entering.{reply-fine, poll-fine, erase-fine}
+use Rattle.logodwen.proofs.Entering.{request-fine, reply-fine, poll-fine, erase-fine, slow-fine}
 use Rattle.codec.proofs.Small.{size-most}
-use Rattle.logodwen.proofs.Fine.{state-sound}
+use Rattle.logodwen.proofs.Fine.{state-sound, records-listed}
 use Rattle.border.specs.Exactly.{entries}
 use Rattle.border.specs.Host.{Entry, numberAfter, isDone}
 use Rattle.border.specs.Answers.{InBits, Says, Bounds, answerIn, NothingCut, endNumber}
+use Rattle.border.proofs.Fine.{records-are}
 use Rattle.border.proofs.Steps.{Made, start-begins, done-made, done-taken}
 use Rattle.border.proofs.Replies.{write-replied, Short, own-replied}
 
@@ -73,6 +78,8 @@ bounds-say (Answer.Ask a) (s, f) = fields-in 2 (a .slave) (a .from) 0 (omega ari
 bounds-say (Answer.Next s) b = fields-in 8 s 0 0 (omega arith) (omega arith) (omega arith) (omega arith)
 bounds-say Answer.Waiting b = fields-in 3 0 0 0 (omega arith) (omega arith) (omega arith) (omega arith)
 bounds-say (Answer.Erased count) b = fields-in 0 0 0 count (omega arith) (omega arith) (omega arith) (omega arith)
+bounds-say (Answer.Slow (Slow.Handed place)) b = fields-in 6 0 0 place (omega arith) (omega arith) (omega arith) (omega arith)
+bounds-say (Answer.Slow Slow.Nothing) b = fields-in 7 0 0 0 (omega arith) (omega arith) (omega arith) (omega arith)
 
 -- a slave that is asked is one of 24
 next-small : (set b s : ℕ) → nextOf (slavesUp set b) ≡ Next.Slave s → s ≤ 23
@@ -88,13 +95,13 @@ named-from Named.sent = inr refl
 named-from Named.all = inl refl
 
 -- a request
-request-bounds : (n : Node) (clock link bc : ℕ) (errors : Bool) (packet : List ℕ) (l : Lent) → length (n .directory) ≡ 32
-    → Bounds (requestEffect n clock link bc errors packet l .answer)
-request-bounds n clock link bc errors packet l d =
+request-bounds : (n : Node) (clock link bc : ℕ) (errors : Bool) (packet : List ℕ) (l : Lent) → length (n .directory) ≡ 32 → n .listing .entries ≤ 910
+    → n .listing .entries ≤ recordsIn (l .further .list) → Bounds (requestEffect n clock link bc errors packet l .answer)
+request-bounds n clock link bc errors packet l d most lent =
     route-case (λ r. Bounds (routed r n clock link packet l .answer)) n link bc errors packet (omega arith, omega arith)
     (omega arith, omega arith) (λ _ _. (omega arith, omega arith)) (λ _ _. (omega arith, omega arith)) (λ _ _. (omega arith, omega arith))
     (λ from at j. (omega arith, omega arith)) (λ at k. write-replied n l packet (joined (l .further .area) at packet))
-    (λ id w c. own-replied n l packet id clock link d) (λ s h. (h, inl refl))
+    (λ id w c. own-replied n l packet id clock link d most lent) (λ s h. (h, inl refl))
     (λ set from s named e. (next-small set 0 s e, named-from named))
 
 -- a slave's answer, where the reply buffer has at most 12,288 words
@@ -182,6 +189,16 @@ unfolding eraseCount
 erase-bounds u Erasing.Nothing budget h = omega arith
 erase-bounds u (Erasing.Sector p) budget h = omega (arith, size-most u (p .sector))
 
+-- a slow-control step hands out an entry that is listed
+step-bounds : (g : Listing) (clock : ℕ) (list : List ℕ) → g .entries ≤ 910 → Bounds (Answer.Slow (stepIn g clock list .slow))
+unfolding stepIn toldOf
+step-bounds g clock list most =
+    pick-case (λ (s : Stepped). Bounds (Answer.Slow (s .slow))) (ltb (g .turn) (g .entries) && ltb (g .turn) (recordsIn list))
+    (λ e. told (ltb-true (g .turn) (g .entries) (and-left (ltb (g .turn) (g .entries)) (ltb (g .turn) (recordsIn list)) e))) (λ _. tt)
+  where
+    told : g .turn < g .entries → Bounds (Answer.Slow (toldOf clock (g .turn) (entryIn list (g .turn))))
+    told less = pick-case (λ (s : Slow). Bounds (Answer.Slow s)) (isReady clock (entryIn list (g .turn))) (λ _. omega arith) (λ _. tt)
+
 -- a call that is not refused does so much
 judged-bounds : (v : Verdict) (n : Node) (l : Lent) (e : Effect) → Bounds (e .answer) → isRefused (judged v n l e .turn .answer) ≡ false
     → Bounds (judged v n l e .turn .answer)
@@ -192,6 +209,9 @@ judged-bounds (Verdict.No r) n l e b h = absurd (false≢true (sym h))
 state-pending : (state : List ℕ) → areState state ≡ true → pendingOk (nodeIn state .given .ports) (nodeIn state .pending) ≡ true
 state-pending state h = ranges-tell (nodeIn state) (state-sound state h) .pending
 
+state-listing : (state : List ℕ) → areState state ≡ true → nodeIn state .listing .entries ≤ 910
+state-listing state h = listing-tells (nodeIn state .listing) (ranges-tell (nodeIn state) (state-sound state h) .listing) .most
+
 directory-long : (state : List ℕ) → length (nodeIn state .directory) ≡ 32
 unfolding nodeIn
 directory-long state = length-words 2 32 _
@@ -201,15 +221,17 @@ reply-most reply = omega (arith, length-words-of 2 (take 24576 reply), length-ta
 
 entry-bounds : (e : Entry) (state flash : List ℕ) → Made e state flash → isRefused (answerIn e state flash) ≡ false
     → Bounds (answerIn e state flash)
-unfolding requestOf replyOf pollOf eraseOf
+unfolding requestOf replyOf pollOf eraseOf slowOf
 entry-bounds (Entry.Start kind ports subdetector program version tests clock) state flash m t =
     subst Bounds (sym (start-begins kind ports subdetector program version tests clock state flash (m .fine))) tt
 entry-bounds (Entry.Request clock link bc errors packet mem x reply) state flash m t =
     let n = nodeIn state in
+    let f = request-fine link _ state _ _ _ _ _ _ _ (m .fine) in
     let words = wordsOf 2 packet in
     let l : Lent = lent (wordsOf 2 flash) (memoryWords mem) (furtherWords x) (replyWords reply) in
     judged-bounds (verdictOn n link words l) n l (requestEffect n clock link bc (isSet errors) words l)
-    (request-bounds n clock link bc (isSet errors) words l (directory-long state)) t
+    (request-bounds n clock link bc (isSet errors) words l (directory-long state) (state-listing state (f .bytes))
+    (omega (arith, records-listed state (length (x .list) / 14) (f .bytes) (f .listed), records-are (x .list)))) t
 entry-bounds (Entry.Reply clock slave bc errors status address packet reply) state flash m t =
     let f = reply-fine slave (length packet / 2) state (length reply / 2) (m .fine) in
     let n = nodeIn state in
@@ -230,6 +252,11 @@ entry-bounds (Entry.Erase budget) state flash m t =
     let words = wordsOf 2 flash in
     judged-bounds (eraseVerdict n (length words)) n (lentFlash words) (eraseEffect n budget words)
     (erase-bounds (unitOf words) (n .erasing) budget (omega (arith, length-words-of 2 flash, f .0))) t
+entry-bounds (Entry.Slow clock list) state flash m t =
+    let n = nodeIn state in
+    let words = wordsOf 2 list in
+    judged-bounds (slowVerdict n (recordsIn words)) n (lentList words) (slowEffect n clock words)
+    (step-bounds (n .listing) clock words (state-listing state (slow-fine state (length list / 14) (m .fine)))) t
 
 pub nothing-cut : NothingCut entries
 nothing-cut e state flash h =
@@ -253,3 +280,5 @@ ended-answer e state flash h = by (answerIn e state flash) refl (nothing-cut e s
     by (Answer.Next t) q s = absurd (omega (arith, h, s .kind))
     by Answer.Waiting q s = absurd (omega (arith, h, s .kind))
     by (Answer.Erased count) q s = absurd (omega (arith, h, s .kind))
+    by (Answer.Slow (Slow.Handed place)) q s = absurd (omega (arith, h, s .kind))
+    by (Answer.Slow Slow.Nothing) q s = absurd (omega (arith, h, s .kind))

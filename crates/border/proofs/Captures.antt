@@ -68,6 +68,7 @@ IsWire (Call.Requested clock link bc errors packet m x) = Unit {0}
 IsWire (Call.Replied clock slave bc errors status address words) = (status < 65536) × (address < 65536) × Below 65536 words
 IsWire (Call.Polled clock) = Unit {0}
 IsWire (Call.Erased budget) = Unit {0}
+IsWire (Call.Slowed clock list) = Unit {0}
 
 AreWire : List Call → Type 0
 AreWire [] = Unit {0}
@@ -85,6 +86,7 @@ calls-wire (Event.Replied clock slave bc errors status address packet ∷ es) h 
     go false rest = ((h .0 .4, h .0 .5, words-of-below packet (h .0 .6)), rest)
 calls-wire (Event.Polled clock ∷ es) h = (tt, calls-wire es (h .1))
 calls-wire (Event.Erased budget ∷ es) h = (tt, calls-wire es (h .1))
+calls-wire (Event.Slowed clock list ∷ es) h = (tt, calls-wire es (h .1))
 
 -- .. and so did what is received of a reply under way
 record Wired (x : Awaited) : Type 0 where
@@ -117,6 +119,7 @@ heard-wire x (s ∷ ss) w (Call.Polled clock ∷ cs) d e =
     (λ _. (on, heard-wire (asked clock) ss (w + length (fragmentOf s (silentBy x) w (length ss))) cs (fresh-wire clock) (e .1)))
     (λ _. heard-wire x (s ∷ ss) w cs d (e .1))
 heard-wire x (s ∷ ss) w (Call.Erased budget ∷ cs) d e = heard-wire x (s ∷ ss) w cs d (e .1)
+heard-wire x (s ∷ ss) w (Call.Slowed clock list ∷ cs) d e = heard-wire x (s ∷ ss) w cs d (e .1)
 
 -- so what a group's host gets is accepted: the words are those that the node sent
 pub data-is-accepted : DataIsAccepted entries

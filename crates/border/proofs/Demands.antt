@@ -1,4 +1,4 @@
--- The five entries meet all that the house was promised. Assumes nothing.
+-- The six entries meet all that the house was promised. Assumes nothing.
 use Rattle.border.specs.Exactly.{entries}
 use Rattle.border.specs.Demands.{Demands}
 use Rattle.border.proofs.Exactly.{refused-exactly}
@@ -13,6 +13,7 @@ use Rattle.border.proofs.Groups.{group-is-its-fragments}
 use Rattle.border.proofs.Captures.{data-is-accepted}
 use Rattle.border.proofs.Ends.{each-lowers-or-stores, always-ends, never-asked-twice, settled-in-time, dead-end-in-time, all-end-in-time}
 use Rattle.border.proofs.ClosedRun.{closed-run}
+use Rattle.border.proofs.Listing.{repetitions-conserved}
 use Rattle.border.proofs.OneSector.{one-sector, no-bit-rises}
 
 pub demands : Demands entries
@@ -34,6 +35,7 @@ demands =
       settled-in-time = settled-in-time;
       dead-end-in-time = dead-end-in-time;
       all-end-in-time = all-end-in-time;
+      repetitions-conserved = repetitions-conserved;
       closed-run = closed-run;
       no-stale-record = no-stale-record;
       lengths-shown = lengths-shown;

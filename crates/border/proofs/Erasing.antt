@@ -22,6 +22,7 @@ use Rattle.flash.specs.declared.Progress.{Progress}
 use Rattle.flash.proofs.Geometry.{sector-fits, length-sector}
 use Rattle.flash.proofs.Statuses.{empty-blanks}
 use Rattle.memory.specs.Segment.{Memories}
+use Rattle.qlist.specs.declared.Slow.{Slow}
 use Rattle.node.specs.Effect.{lent, Outcome, Further}
 use Rattle.node.specs.Calls.{requestOf}
 use Rattle.node.specs.State.{refusalNumber}
@@ -123,7 +124,7 @@ module _ (state flash : List ℕ) (st : Stands state flash) (clock link bc error
   -- what it lays
   lays-bytes : Made asks state flash → (s : ℕ) (words : List ℕ) → WordsLay (lent (wordsOf 2 flash) (memoryWords m) (furtherWords x) (replyWords reply)) does s words → Lays flash (answerOf entries asks state flash) s words
   lays-bytes made s words l =
-      let bench = request-fine link _ state _ _ _ _ _ _ (made .fine) .bench in
+      let bench = request-fine link _ state _ _ _ _ _ _ _ (made .fine) .bench in
       record {
         number = made .number ∙ ap answerNumber (l .answer);
         bytes = made .words (st .below) ∙ ap (λ (x : List ℕ). storeWords 2 x flash) (l .flash) ∙ sector-laid flash (st .below) bench s words (l .room);
@@ -223,6 +224,14 @@ erasure-follows state flash hosted (Entry.Poll clock reply) c = by (entry-step p
     by (Step.Leaves l) = ap erasingIn (l .node)
     by (Step.Makes m) = erasing-after polls state flash c (hosted-stands hosted) m ∙ words-follow .poll (nodeIn state) clock (replyWords reply) ∙ erasing-is state
 erasure-follows state flash hosted (Entry.Erase budget) c = erase-goes-on state flash (hosted-stands hosted) budget c
+erasure-follows state flash hosted (Entry.Slow clock list) c = by (entry-step steps state flash)
+  where
+    steps : Entry
+    steps = Entry.Slow clock list
+
+    by : Step steps state flash → erasingIn (stateAfter entries steps state flash) ≡ erasingIn state
+    by (Step.Leaves l) = ap erasingIn (l .node)
+    by (Step.Makes m) = erasing-after steps state flash c (hosted-stands hosted) m ∙ words-follow .slow (nodeIn state) clock (wordsOf 2 list) ∙ erasing-is state
 
 size-is : (state : List ℕ) → nodeIn state .given .«flash_words» ≡ sizeIn state
 unfolding nodeIn
@@ -272,6 +281,8 @@ count-is-answer e state flash done = by (answerIn e state flash) (nothing-cut e 
     by (Answer.Next s) q = counts 8 0 (q .kind) (q .words)
     by Answer.Waiting q = counts 3 0 (q .kind) (q .words)
     by (Answer.Erased count) q = counts 0 count (q .kind) (q .words)
+    by (Answer.Slow (Slow.Handed place)) q = counts 6 place (q .kind) (q .words)
+    by (Answer.Slow Slow.Nothing) q = counts 7 0 (q .kind) (q .words)
 
 -- an entry that is refused counts nothing
 low-counts : (number : ℕ) → number < 256 → countOf number ≡ 0
@@ -295,6 +306,7 @@ undone-counts e state flash h = by (entry-step e state flash)
         refused (Answer.Next s) n q = absurd (false≢true (sym q ∙ eq-eqb (answerNumber (Answer.Next s) % 256) 0 (done-low (Answer.Next s) refl)))
         refused Answer.Waiting n q = absurd (false≢true (sym q ∙ eq-eqb (answerNumber Answer.Waiting % 256) 0 (done-low Answer.Waiting refl)))
         refused (Answer.Erased count) n q = absurd (false≢true (sym q ∙ eq-eqb (answerNumber (Answer.Erased count) % 256) 0 (done-low (Answer.Erased count) refl)))
+        refused (Answer.Slow t) n q = absurd (false≢true (sym q ∙ eq-eqb (answerNumber (Answer.Slow t) % 256) 0 (done-low (Answer.Slow t) refl)))
 
 -- words stored again are the last ones stored
 store-again : (a b bytes : List ℕ) → length a ≡ length b → storeWords 2 a (storeWords 2 b bytes) ≡ storeWords 2 a bytes
@@ -321,6 +333,7 @@ budget-is (Entry.Request clock link bc errors packet m x reply) = refl
 budget-is (Entry.Reply clock slave bc errors status address packet reply) = refl
 budget-is (Entry.Poll clock reply) = refl
 budget-is (Entry.Erase budget) = refl
+budget-is (Entry.Slow clock list) = refl
 
 start-is : (e : Entry) → isStart e ≡ isStartWords (onWords e)
 start-is (Entry.Start kind ports subdetector program version tests clock) = refl
@@ -328,6 +341,7 @@ start-is (Entry.Request clock link bc errors packet m x reply) = refl
 start-is (Entry.Reply clock slave bc errors status address packet reply) = refl
 start-is (Entry.Poll clock reply) = refl
 start-is (Entry.Erase budget) = refl
+start-is (Entry.Slow clock list) = refl
 
 module _ (size : ℕ) (state flash : List ℕ) where
   abbrev CarriedTo : List ℕ → List ℕ → ℕ → ℕ → Type 0
@@ -378,6 +392,7 @@ module _ (size : ℕ) (state flash : List ℕ) where
       none (Entry.Reply clock slave bc errors status address packet reply) q = refl
       none (Entry.Poll clock reply) q = refl
       none (Entry.Erase budget) q = absurd (false≢true (sym q ∙ erase-done later now (k .stands) budget))
+      none (Entry.Slow clock list) q = refl
 
   course-carried : {later after : List ℕ} {given counted : ℕ} → Stands state flash → Course entries size state flash later after given counted → CarriedTo later after given counted
   course-carried st Course.Begun = record { stands = st; course = WordsCourse.Begun; stored = sym (bytes-kept 2 flash (st .below)) }

@@ -10,13 +10,15 @@ use lib.ListN.{length}
 use lib.Dec.{ltb, leb, eqb}
 use Rattle.base.specs.Pick.{pick}
 use Rattle.group.specs.Fragment.{built}
+use Rattle.qlist.specs.Words.{recordsIn}
+use Rattle.qlist.specs.declared.Slow.{Slow}
 use Rattle.node.specs.State.{refusalNumber}
 use Rattle.node.specs.Effect.{Effect, Lent, Outcome, outcome}
 use Rattle.node.specs.Valid.{kindOk, portsOk}
-use Rattle.node.specs.Refusals.{firstOf, isPending, isAsked, replyVerdict, pollVerdict, eraseVerdict, startVerdict}
+use Rattle.node.specs.Refusals.{firstOf, isPending, isAsked, replyVerdict, pollVerdict, eraseVerdict, slowVerdict, startVerdict}
 use Rattle.node.specs.Refusals.{Cause as Test, cause as test, replyCause as replyTest, areaCause as areaTest, slaveCause as slaveTest, busyCause as busyTest, pollCause as pollTest, unaskedCause as unaskedTest}
 use Rattle.node.specs.Slaves.{ask, received, gathering, replyEffect, pollEffect}
-use Rattle.node.specs.Calls.{judged, given, startBy, lentReply, lentFlash, eraseEffect, startOf, requestOf, replyOf, pollOf, eraseOf}
+use Rattle.node.specs.Calls.{judged, given, startBy, lentReply, lentFlash, lentList, eraseEffect, slowEffect, startOf, requestOf, replyOf, pollOf, eraseOf, slowOf}
 use Rattle.node.specs.declared.Answer.{Answer}
 use Rattle.node.specs.declared.Ask.{Ask}
 use Rattle.node.specs.declared.Gathering.{Gathering}
@@ -31,13 +33,13 @@ use Rattle.demands.proofs.Tests.{Tells, leb-tells, ltb-tells, eqb-tells, and-te
 use Rattle.demands.proofs.Refusals.{kind-tells, ports-tells, Decides, verdictNumber, first-is}
 use Rattle.demands.proofs.Taken.{verdictOn, requestEffect, request-taken, reply-taken, poll-taken}
 use Rattle.codec.specs.Bytes.{numberAt, wordsOf}
-use Rattle.codec.specs.StateBytes.{sizeIn, portsIn, tallyOf, waitIn, nodeIn}
+use Rattle.codec.specs.StateBytes.{sizeIn, portsIn, listedIn, tallyOf, waitIn, nodeIn}
 use Rattle.logodwen.specs.Number.{answerNumber}
-use Rattle.logodwen.specs.Causes.{benchCause as benchTest, memoriesCause as memoriesTest, lengthCause as lengthTest, portCause as portTest, bytesCause as bytesTest, requestCheck, replyCheck, pollCheck, eraseCheck, startCheck}
-use Rattle.logodwen.specs.Entry.{Answered, entered, isSet, replyWords, runWords, startEntry, requestEntry, replyEntry, pollEntry, eraseEntry}
+use Rattle.logodwen.specs.Causes.{benchCause as benchTest, memoriesCause as memoriesTest, lengthCause as lengthTest, recordsCause as recordsTest, portCause as portTest, bytesCause as bytesTest, requestCheck, replyCheck, pollCheck, eraseCheck, slowCheck, startCheck}
+use Rattle.logodwen.specs.Entry.{Answered, entered, isSet, replyWords, runWords, startEntry, requestEntry, replyEntry, pollEntry, eraseEntry, slowEntry}
 use Rattle.codec.specs.declared.Wait.{Wait}
-use Rattle.border.specs.Exactly.{entries, Above, BenchSize, Pends, Asks, startCauses, requestCauses, replyCauses, pollCauses, eraseCauses, Exactly, Unchanged, RefusedExactly}
-use Rattle.border.proofs.Fine.{request-fine, reply-fine, poll-fine, erase-fine, start-fine}
+use Rattle.border.specs.Exactly.{entries, Above, BenchSize, Pends, Asks, startCauses, requestCauses, replyCauses, pollCauses, eraseCauses, slowCauses, Exactly, Unchanged, RefusedExactly}
+use Rattle.border.proofs.Fine.{request-fine, reply-fine, poll-fine, erase-fine, slow-fine, start-fine}
 use Rattle.border.proofs.OfState.{state-bytes-tell}
 
 -- tests on words decide causes on bytes
@@ -56,7 +58,7 @@ bench-tells flash = same-tells long words (eqb-tells (length flash / 2) 32768)
     words (inl e) = omega arith
     words (inr e) = omega arith
 
--- what is looked at only where the state bytes are 188
+-- what is looked at only where the state bytes are 192
 where-tells : {t u : Bool} {A B : Type 0} → Tells t A → Tells u B → Tells (not (pick t u true)) (A × (B → ⊥))
 where-tells {t} {u} {A} {B} p q = record { told = left t p; tells = right t p }
   where
@@ -70,9 +72,9 @@ where-tells {t} {u} {A} {B} p q = record { told = left t p; tells = right t p }
 
 flash-tells : (state flash : List ℕ)
     → Tells (benchTest state (length flash / 2) .holds)
-    ((BenchSize flash → ⊥) ⊎ ((length state ≡ 188) × (length flash / 2 ≡ sizeIn state → ⊥)))
+    ((BenchSize flash → ⊥) ⊎ ((length state ≡ 192) × (length flash / 2 ≡ sizeIn state → ⊥)))
 flash-tells state flash =
-    or-tells (not-tells (bench-tells flash)) (where-tells (eqb-tells (length state) 188) (eqb-tells (length flash / 2) (sizeIn state)))
+    or-tells (not-tells (bench-tells flash)) (where-tells (eqb-tells (length state) 192) (eqb-tells (length flash / 2) (sizeIn state)))
 
 short-tells : (words : ℕ) (run : List ℕ) → Tells (ltb (length run / 2) words) (length run < 2 * words)
 short-tells words run = same-tells (λ h. omega arith) (λ h. omega arith) (ltb-tells (length run / 2) words)
@@ -82,6 +84,16 @@ above-two words run = same-tells (λ h. omega arith) (λ h. omega arith) (ltb-te
 
 above-four : (words : ℕ) (run : List ℕ) → Tells (ltb words (length run / 4)) (Above 4 words run)
 above-four words run = same-tells (λ h. omega arith) (λ h. omega arith) (ltb-tells words (length run / 4))
+
+above-fourteen : (records : ℕ) (run : List ℕ) → Tells (ltb records (length run / 14)) (Above 14 records run)
+above-fourteen records run = same-tells (λ h. omega arith) (λ h. omega arith) (ltb-tells records (length run / 14))
+
+list-tells : (state list : List ℕ)
+    → Tells (recordsTest state (length list / 14) .holds) (Above 14 910 list ⊎ ((length state ≡ 192) × (length list / 14 < listedIn state)))
+list-tells state list =
+    or-tells (above-fourteen 910 list)
+    (same-tells (λ h. (h .0, omega (arith, h .1))) (λ h. (h .0, λ e. omega (arith, h .1, e)))
+    (where-tells (eqb-tells (length state) 192) (leb-tells (listedIn state) (length list / 14))))
 
 word-tells : (packet : List ℕ) → Tells (leb 1 (length packet / 2)) (2 ≤ length packet)
 word-tells packet = same-tells (λ h. omega arith) (λ h. omega arith) (leb-tells 1 (length packet / 2))
@@ -131,6 +143,8 @@ done-low (Answer.Ask a) h = omega arith
 done-low (Answer.Next s) h = omega arith
 done-low Answer.Waiting h = refl
 done-low (Answer.Erased count) h = omega arith
+done-low (Answer.Slow (Slow.Handed place)) h = omega arith
+done-low (Answer.Slow Slow.Nothing) h = refl
 
 pub refusal-low : (r : Refusal) → refusalNumber r < 256
 refusal-low Refusal.FlashSize = omega arith
@@ -141,6 +155,7 @@ refusal-low Refusal.State = omega arith
 refusal-low Refusal.Busy = omega arith
 refusal-low Refusal.Unasked = omega arith
 refusal-low Refusal.AreaSize = omega arith
+refusal-low Refusal.ListSize = omega arith
 
 -- an entry whose call is not refused where its own verdict is fine
 entered-exactly : (tests : List Test) (causes : List Cause) (state : List ℕ) (runs : Lent) (o : Outcome)
@@ -166,7 +181,7 @@ judged-taken : (v : Verdict) (n : Node) (l : Lent) (e : Effect) → isRefused (e
     → isRefused (judged v n l e .turn .answer) ≡ false
 judged-taken v n l e t fine = ap (λ (w : Verdict). isRefused (judged w n l e .turn .answer)) fine ∙ t
 
--- the five entries
+-- the six entries
 
 request-exactly : (clock link bc errors : ℕ) (packet state : List ℕ) (runs : Lent)
     → Exactly (requestCauses link packet state runs) (requestEntry clock link bc errors packet state runs .number % 256)
@@ -182,8 +197,8 @@ request-exactly clock link bc errors packet state runs =
     let dm = length (runs .memories .dm) / 2 in
     let io = length (runs .memories .io) / 2 in
     entered-exactly
-    (benchTest state flash ∷ replyTest (length (runs .reply) / 2) ∷ memoriesTest pm dm io ∷ areaTest (length (runs .further .area) / 2) ∷ portTest state link ∷ bytesTest state
-    ∷ busyTest n (length packet / 2) ∷ [])
+    (benchTest state flash ∷ replyTest (length (runs .reply) / 2) ∷ memoriesTest pm dm io ∷ areaTest (length (runs .further .area) / 2)
+    ∷ recordsTest state (length (runs .further .list) / 14) ∷ portTest state link ∷ bytesTest state ∷ busyTest n (length packet / 2) ∷ [])
     (requestCauses link packet state runs) state runs (requestOf n clock link bc e words lent)
     (λ h. judged-taken (verdictOn n link words lent) n lent (requestEffect n clock link bc e words lent)
     (request-taken n clock link bc e words lent) (request-fine link packet state runs h)) (
@@ -199,12 +214,15 @@ request-exactly clock link bc errors packet state runs =
           (
             (refl, short-tells 32768 (runs .further .area)),
             (
-              (refl, where-tells (eqb-tells (length state) 188) (ltb-tells link (portsIn state))),
+              (refl, list-tells state (runs .further .list)),
               (
-                (refl, not-tells (state-bytes-tell state)),
+                (refl, where-tells (eqb-tells (length state) 192) (ltb-tells link (portsIn state))),
                 (
-                  (refl, and-tells (pends-tells state) (word-tells packet)),
-                  tt,
+                  (refl, not-tells (state-bytes-tell state)),
+                  (
+                    (refl, and-tells (pends-tells state) (word-tells packet)),
+                    tt,
+                  ),
                 ),
               ),
             ),
@@ -268,6 +286,17 @@ erase-exactly budget state flash =
     (λ h. judged-taken (eraseVerdict n (length words)) n (lentFlash words) (eraseEffect n budget words) refl (erase-fine state flash h))
     ((refl, flash-tells state flash), ((refl, not-tells (state-bytes-tell state)), tt))
 
+slow-exactly : (clock : ℕ) (state list : List ℕ)
+    → Exactly (slowCauses state list) (slowEntry clock state list .number % 256)
+    × Unchanged (slowEntry clock state list) state (lentList list)
+unfolding slowEntry slowOf slowCheck
+slow-exactly clock state list =
+    let n = nodeIn state in
+    let words = wordsOf 2 list in
+    entered-exactly (recordsTest state (length list / 14) ∷ bytesTest state ∷ []) (slowCauses state list) state (lentList list) (slowOf n clock words)
+    (λ h. judged-taken (slowVerdict n (recordsIn words)) n (lentList words) (slowEffect n clock words) refl (slow-fine state list h))
+    ((refl, list-tells state list), ((refl, not-tells (state-bytes-tell state)), tt))
+
 -- the number of a start is its refusal's alone, so its low byte is the whole
 start-exactly : (kind ports subdetector program version tests clock : ℕ) (flash state : List ℕ)
     → Exactly (startCauses kind ports subdetector flash state)
@@ -290,7 +319,7 @@ start-exactly kind ports subdetector program version tests clock flash state =
     causes =
         test Refusal.FlashSize (not (eqb (length flash / 2) 32768))
         ∷ test Refusal.Number (not (portsOk ports) || not (kindOk kind) || ltb 7 subdetector)
-        ∷ test Refusal.State (not (eqb (length state) 188))
+        ∷ test Refusal.State (not (eqb (length state) 192))
         ∷ []
 
     done : firstOf causes ≡ Verdict.Fine → o .turn .answer ≡ Answer.Started
@@ -305,7 +334,7 @@ start-exactly kind ports subdetector program version tests clock flash state =
           (refl, not-tells (bench-tells flash)),
           (
             (refl, or-tells (or-tells (not-tells (ports-tells ports)) (not-tells (kind-tells kind))) (ltb-tells 7 subdetector)),
-            ((refl, not-tells (eqb-tells (length state) 188)), tt),
+            ((refl, not-tells (eqb-tells (length state) 192)), tt),
           ),
         )
 
@@ -318,4 +347,4 @@ start-exactly kind ports subdetector program version tests clock flash state =
 
 pub refused-exactly : RefusedExactly entries
 refused-exactly =
-    record { start = start-exactly; request = request-exactly; reply = reply-exactly; poll = poll-exactly; erase = erase-exactly }
+    record { start = start-exactly; request = request-exactly; reply = reply-exactly; poll = poll-exactly; erase = erase-exactly; slow = slow-exactly }

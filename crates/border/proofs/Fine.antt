@@ -11,17 +11,18 @@ use lib.Dec.{ltb, eqb}
 use borrow.Author.Tests.{ltb-false, eqb-true, not-false}
 use Rattle.node.specs.Effect.{Lent}
 use Rattle.node.specs.Valid.{sizeOk, kindOk, portsOk}
-use Rattle.node.specs.Refusals.{cause, flashCause, replyCause, memoryCause, areaCause, linkCause, slaveCause, stateCause, busyCause, pollCause, unaskedCause, requestVerdict, replyVerdict, pollVerdict, eraseVerdict, startVerdict}
+use Rattle.node.specs.Refusals.{cause, flashCause, replyCause, memoryCause, areaCause, listCause, linkCause, slaveCause, stateCause, busyCause, pollCause, unaskedCause, requestVerdict, replyVerdict, pollVerdict, eraseVerdict, slowVerdict, startVerdict}
 use Rattle.node.specs.declared.Refusal.{Refusal}
 use Rattle.node.specs.declared.Verdict.{Verdict}
 use Rattle.node.proofs.Verdicts.{fine-tells}
+use Rattle.qlist.specs.Words.{recordsIn}
 use Rattle.demands.proofs.Taken.{verdictOn}
 use Rattle.codec.specs.Bytes.{wordsOf}
 use Rattle.codec.specs.StateBytes.{nodeIn}
-use Rattle.logodwen.specs.Causes.{benchCause, memoriesCause, lengthCause, portCause, bytesCause, requestCheck, replyCheck, pollCheck, eraseCheck, startCheck}
+use Rattle.logodwen.specs.Causes.{benchCause, memoriesCause, lengthCause, recordsCause, portCause, bytesCause, requestCheck, replyCheck, pollCheck, eraseCheck, slowCheck, startCheck}
 use Rattle.logodwen.specs.Entry.{replyWords, runWords}
 use Rattle.codec.proofs.Runs.{length-words-of}
-use Rattle.logodwen.proofs.Fine.{none-refuses, state-no, flash-no, memory-no, link-no}
+use Rattle.logodwen.proofs.Fine.{none-refuses, state-no, flash-no, memory-no, records-no, link-no, slow-verdict}
 
 -- the lent part of a reply buffer that passes refusal 2 is long enough
 reply-long : (reply : List ℕ) → replyCause (length reply / 2) .holds ≡ false → length (replyWords reply) ≡ 12288
@@ -32,11 +33,16 @@ reply-long reply h =
 buffer-no : (reply : List ℕ) → replyCause (length reply / 2) .holds ≡ false → replyCause (length (replyWords reply)) .holds ≡ false
 buffer-no reply h = ap (λ (n : ℕ). ltb n 12288) (reply-long reply h)
 
--- the five entries
+-- a record is seven words, 14 bytes
+pub records-are : (list : List ℕ) → recordsIn (wordsOf 2 list) ≡ length list / 14
+records-are list = omega (arith, length-words-of 2 list)
+
+-- the six entries
 
 pub request-fine : (link : ℕ) (packet state : List ℕ) (runs : Lent)
     → requestCheck link (length packet / 2) state (length (runs .flash) / 2) (length (runs .memories .pm) / 4)
-    (length (runs .memories .dm) / 2) (length (runs .memories .io) / 2) (length (runs .further .area) / 2) (length (runs .reply) / 2)
+    (length (runs .memories .dm) / 2) (length (runs .memories .io) / 2) (length (runs .further .area) / 2)
+    (length (runs .further .list) / 14) (length (runs .reply) / 2)
     ≡ Verdict.Fine
     → verdictOn (nodeIn state) link (wordsOf 2 packet) (runWords runs) ≡ Verdict.Fine
 unfolding requestCheck requestVerdict
@@ -47,22 +53,23 @@ request-fine link packet state runs h =
     let dm = length (runs .memories .dm) / 2 in
     let io = length (runs .memories .io) / 2 in
     let area = length (runs .further .area) / 2 in
+    let records = length (runs .further .list) / 14 in
     let none =
     fine-tells
-    (benchCause state flash ∷ replyCause (length (runs .reply) / 2) ∷ memoriesCause pm dm io ∷ areaCause area ∷ portCause state link ∷ bytesCause state
-    ∷ busyCause n (length packet / 2) ∷ [])
+    (benchCause state flash ∷ replyCause (length (runs .reply) / 2) ∷ memoriesCause pm dm io ∷ areaCause area ∷ recordsCause state records ∷ portCause state link
+    ∷ bytesCause state ∷ busyCause n (length packet / 2) ∷ [])
     h in
-    let s = none .1 .1 .1 .1 .1 .0 in
+    let s = none .1 .1 .1 .1 .1 .1 .0 in
     (λ i. requestVerdict n link (length-words-of 2 packet i) (length-words-of 2 (runs .flash) i) (length-words-of 4 (runs .memories .pm) i)
     (length-words-of 2 (runs .memories .dm) i) (length-words-of 2 (runs .memories .io) i) (length-words-of 2 (runs .further .area) i)
-    (length (replyWords (runs .reply))))
+    (records-are (runs .further .list) i) (length (replyWords (runs .reply))))
     ∙ none-refuses
-    (flashCause n flash ∷ replyCause (length (replyWords (runs .reply))) ∷ memoryCause pm dm io ∷ areaCause area ∷ linkCause n link ∷ stateCause n
-    ∷ busyCause n (length packet / 2) ∷ []) (
+    (flashCause n flash ∷ replyCause (length (replyWords (runs .reply))) ∷ memoryCause pm dm io ∷ areaCause area ∷ listCause n records ∷ linkCause n link
+    ∷ stateCause n ∷ busyCause n (length packet / 2) ∷ []) (
       flash-no state flash s (none .0),
       (
         buffer-no (runs .reply) (none .1 .0),
-        (memory-no pm dm io (none .1 .1 .0), (none .1 .1 .1 .0, (link-no state link s (none .1 .1 .1 .1 .0), (state-no state s, (none .1 .1 .1 .1 .1 .1 .0, tt))))),
+        (memory-no pm dm io (none .1 .1 .0), (none .1 .1 .1 .0, (records-no state records s (none .1 .1 .1 .1 .0), (link-no state link s (none .1 .1 .1 .1 .1 .0), (state-no state s, (none .1 .1 .1 .1 .1 .1 .1 .0, tt)))))),
       ),
     )
 
@@ -97,6 +104,9 @@ erase-fine state flash h =
     ∙ none-refuses (flashCause n (length flash / 2) ∷ stateCause n ∷ [])
     (flash-no state (length flash / 2) (none .1 .0) (none .0), (state-no state (none .1 .0), tt))
 
+pub slow-fine : (state list : List ℕ) → slowCheck state (length list / 14) ≡ Verdict.Fine → slowVerdict (nodeIn state) (recordsIn (wordsOf 2 list)) ≡ Verdict.Fine
+slow-fine state list h = ap (slowVerdict (nodeIn state)) (records-are list) ∙ slow-verdict state (length list / 14) h
+
 pub start-bench : (kind ports subdetector : ℕ) (state flash : List ℕ)
     → startCheck kind ports subdetector state (length flash / 2) ≡ Verdict.Fine → length flash / 2 ≡ 32768
 unfolding startCheck
@@ -106,7 +116,7 @@ start-bench kind ports subdetector state flash h =
     let none =
     fine-tells
     (cause Refusal.FlashSize (not (eqb words 32768)) ∷ cause Refusal.Number numbers
-    ∷ cause Refusal.State (not (eqb (length state) 188)) ∷ [])
+    ∷ cause Refusal.State (not (eqb (length state) 192)) ∷ [])
     h in
     eqb-true words 32768 (not-false (eqb words 32768) (none .0))
 
@@ -120,7 +130,7 @@ start-fine kind ports subdetector state flash h =
     let none =
     fine-tells
     (cause Refusal.FlashSize (not (eqb words 32768)) ∷ cause Refusal.Number numbers
-    ∷ cause Refusal.State (not (eqb (length state) 188)) ∷ [])
+    ∷ cause Refusal.State (not (eqb (length state) 192)) ∷ [])
     h in
     let bench = start-bench kind ports subdetector state flash h in
     let sized : not (sizeOk words) ≡ false = ap (λ (n : ℕ). not (sizeOk n)) bench in

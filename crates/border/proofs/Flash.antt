@@ -121,6 +121,7 @@ Areas16 (Call.Request clock link bc errors packet m x reply) = Below 65536 (x .a
 Areas16 (Call.Reply clock slave bc errors status address words reply) = Unit {0}
 Areas16 (Call.Poll clock reply) = Unit {0}
 Areas16 (Call.Erase budget) = Unit {0}
+Areas16 (Call.Slow clock list) = Unit {0}
 
 pub flash-below : (c : Call) (n : Node) (flash : List ℕ) → Lends16 c → Areas16 c → Below 65536 flash → Below 65536 (flashOf logodwen c n flash)
 unfolding requestOf eraseOf
@@ -140,6 +141,7 @@ flash-below (Call.Erase budget) n flash b a h = by (eraseVerdict n (length flash
     by : (v : Verdict) → Below 65536 (judged v n (lentFlash flash) (eraseEffect n budget flash) .after .flash)
     by Verdict.Fine = erased-below flash (n .erasing) budget h
     by (Verdict.No r) = h
+flash-below (Call.Slow clock list) n flash b a h = h
 
 -- no call changes the size of the flash
 pub flash-size : (c : Call) (n : Node) (flash : List ℕ) → length (flashOf logodwen c n flash) ≡ length flash
@@ -160,3 +162,4 @@ flash-size (Call.Erase budget) n flash = by (eraseVerdict n (length flash))
     by : (v : Verdict) → length (judged v n (lentFlash flash) (eraseEffect n budget flash) .after .flash) ≡ length flash
     by Verdict.Fine = change-size (Change.Blanked budget) (n .erasing) flash
     by (Verdict.No r) = refl
+flash-size (Call.Slow clock list) n flash = refl

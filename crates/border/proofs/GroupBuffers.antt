@@ -30,6 +30,7 @@ use Rattle.group.proofs.Changes.{end-changes, passed-changes}
 use Rattle.group.proofs.Status.{status-fits}
 use Rattle.group.proofs.Takes.{taken-changes}
 use Rattle.report.specs.Status.{ownStatus}
+use Rattle.qlist.specs.Words.{recordsIn}
 use Rattle.node.specs.Effect.{Effect, Lent, Outcome, Did}
 use Rattle.node.specs.Refusals.{isPending, replyVerdict, pollVerdict}
 use Rattle.node.specs.Settings.{statusIn}
@@ -290,7 +291,7 @@ module _ (n : Node) (clock link bc : ℕ) (errors : Bool) (packet : List ℕ) (l
       empty e h =
           let m = l .memories in
           let free =
-          request-fine n link (length packet) (length (l .flash)) (length (m .pm)) (length (m .dm)) (length (m .io)) (length (l .further .area)) (length (l .reply)) e
+          request-fine n link (length packet) (length (l .flash)) (length (m .pm)) (length (m .dm)) (length (m .io)) (length (l .further .area)) (recordsIn (l .further .list)) (length (l .reply)) e
           .free in
           let none : leb 1 (length packet) ≡ false = ap (λ (t : Bool). t && leb 1 (length packet)) (sym p) ∙ free in
           omega (arith, leb-false 1 (length packet) none)

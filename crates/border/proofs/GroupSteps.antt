@@ -17,6 +17,7 @@ use Rattle.group.specs.Fragment.{built}
 use Rattle.node.specs.State.{turn}
 use Rattle.node.specs.Refusals.{firstOf, slaveCause, unaskedCause, isAsked, replyVerdict, pollVerdict}
 use Rattle.node.specs.Refusals.{isPending as nodePending}
+use Rattle.qlist.specs.declared.Slow.{Slow}
 use Rattle.node.specs.Effect.{Effect, Lent, lent, Outcome, Further}
 use Rattle.node.specs.Slaves.{ask, received, gathering, replyEffect, pollEffect}
 use Rattle.node.specs.Calls.{judged, lentReply, replyOf, pollOf}
@@ -150,6 +151,7 @@ wordOf (Event.Replied clock slave bc errors status address packet) =
     Call.Replied clock slave bc (isSet errors) status address (wordsOf 2 packet)
 wordOf (Event.Polled clock) = Call.Polled clock
 wordOf (Event.Erased budget) = Call.Erased budget
+wordOf (Event.Slowed clock list) = Call.Slowed clock (wordsOf 2 list)
 
 abbrev pub does : Event → Host → Outcome
 does e h = outcomeOf (entryOf e (h .buffer)) (h .state) (h .flash)
@@ -160,6 +162,7 @@ bufferOf (Event.Replied clock slave bc errors status address packet) h =
     does (Event.Replied clock slave bc errors status address packet) h .after .reply
 bufferOf (Event.Polled clock) h = does (Event.Polled clock) h .after .reply
 bufferOf (Event.Erased budget) h = replyWords (h .buffer)
+bufferOf (Event.Slowed clock list) h = replyWords (h .buffer)
 
 stepped-is : (e : Event) (h : Host) (a : Answer)
     → nodeStepped logodwen (wordOf e) (inWords a h)
@@ -169,6 +172,7 @@ stepped-is (Event.Requested clock link bc errors packet m x) h a = refl
 stepped-is (Event.Replied clock slave bc errors status address packet) h a = refl
 stepped-is (Event.Polled clock) h a = refl
 stepped-is (Event.Erased budget) h a = refl
+stepped-is (Event.Slowed clock list) h a = refl
 
 node-is : (e : Event) (h : Host)
     → nodeAfter logodwen (onWords (entryOf e (h .buffer))) (nodeIn (h .state)) (wordsOf 2 (h .flash)) ≡ does e h .turn .node
@@ -176,12 +180,14 @@ node-is (Event.Requested clock link bc errors packet m x) h = refl
 node-is (Event.Replied clock slave bc errors status address packet) h = refl
 node-is (Event.Polled clock) h = refl
 node-is (Event.Erased budget) h = refl
+node-is (Event.Slowed clock list) h = refl
 
 answer-is : (e : Event) (h : Host) → answerIn (entryOf e (h .buffer)) (h .state) (h .flash) ≡ does e h .turn .answer
 answer-is (Event.Requested clock link bc errors packet m x) h = refl
 answer-is (Event.Replied clock slave bc errors status address packet) h = refl
 answer-is (Event.Polled clock) h = refl
 answer-is (Event.Erased budget) h = refl
+answer-is (Event.Slowed clock list) h = refl
 
 buffer-is : {first : List ℕ} (e : Event) (h : Host) → Holds first h → Made (entryOf e (h .buffer)) (h .state) (h .flash)
     → stepped entries e h .buffer ≡ storeWords 2 (bufferOf e h) (h .buffer)
@@ -189,12 +195,14 @@ buffer-is (Event.Requested clock link bc errors packet m x) h k made = ap (λ (a
 buffer-is (Event.Replied clock slave bc errors status address packet) h k made = ap (λ (a : Answered). a .runs .reply) (made .does)
 buffer-is (Event.Polled clock) h k made = ap (λ (a : Answered). a .runs .reply) (made .does)
 buffer-is (Event.Erased budget) h k made = sym (kept-reply (h .buffer) (k .long) (k .bytes))
+buffer-is (Event.Slowed clock list) h k made = sym (kept-reply (h .buffer) (k .long) (k .bytes))
 
 in-c : (e : Event) (buffer : List ℕ) → InC (entryOf e []) → Below 256 buffer → InC (entryOf e buffer)
-in-c (Event.Requested clock link bc errors packet m x) buffer c b = (c .0, c .1, c .2, c .3, c .4, c .5, c .6, c .7, c .8, b)
+in-c (Event.Requested clock link bc errors packet m x) buffer c b = (c .0, c .1, c .2, c .3, c .4, c .5, c .6, c .7, c .8, c .9, b)
 in-c (Event.Replied clock slave bc errors status address packet) buffer c b = (c .0, c .1, c .2, c .3, c .4, c .5, c .6, b)
 in-c (Event.Polled clock) buffer c b = (c .0, b)
 in-c (Event.Erased budget) buffer c b = c
+in-c (Event.Slowed clock list) buffer c b = c
 
 -- the slave that a number says to ask is the one that the answer says
 says-asks : (number : ℕ) (a : Answer) → Says number a → slaveIn number ≡ slaveAsked a
@@ -205,6 +213,8 @@ says-asks number (Answer.Ask a) s = λ i. pick (eqb (s .done i) 0 && eqb (s .kin
 says-asks number (Answer.Next t) s = λ i. pick (eqb (s .done i) 0 && eqb (s .kind i) 2) (number / 65536 % 256 ∷ []) []
 says-asks number Answer.Waiting s = λ i. pick (eqb (s .done i) 0 && eqb (s .kind i) 2) (number / 65536 % 256 ∷ []) []
 says-asks number (Answer.Erased count) s = λ i. pick (eqb (s .done i) 0 && eqb (s .kind i) 2) (number / 65536 % 256 ∷ []) []
+says-asks number (Answer.Slow (Slow.Handed place)) s = λ i. pick (eqb (s .done i) 0 && eqb (s .kind i) 2) (number / 65536 % 256 ∷ []) []
+says-asks number (Answer.Slow Slow.Nothing) s = λ i. pick (eqb (s .done i) 0 && eqb (s .kind i) 2) (number / 65536 % 256 ∷ []) []
 
 -- an entry that is done is its call
 pub done-called : (first : List ℕ) (e : Event) (h : Host) → Holds first h → InC (entryOf e [])
@@ -272,6 +282,9 @@ undone-same (Event.Polled clock) h u =
 undone-same (Event.Erased budget) h u =
     let s = refused-exactly .erase budget (h .state) (h .flash) .1 (eqb-false _ 0 u) in
     record { state = s .bytes; flash = ap (λ (l : Lent). l .flash) (s .lent); buffer = refl; asked = none-asked (Event.Erased budget) h u }
+undone-same (Event.Slowed clock list) h u =
+    let s = refused-exactly .slow clock (h .state) list .1 (eqb-false _ 0 u) in
+    record { state = s .bytes; flash = refl; buffer = refl; asked = none-asked (Event.Slowed clock list) h u }
 
 module _ {e : Event} {h : Host} (s : Same e h) where
   pub same-words : (a : Answer) → inWords a (stepped entries e h) ≡ inWords a h
@@ -366,7 +379,7 @@ module _ {first : List ℕ} (h : Host) (k : Holds first h) (p : isPending (h .st
   kept-status : waitOf (n .pending) .«rx_status» < 65536
   kept-status = stands-typed (h .state) (h .flash) (k .stands) .received
 
-  -- the four kinds of entries: a reply and a poll are calls ..
+  -- the five kinds of entries: a reply and a poll are calls ..
   pub reply-called : (clock slave bc errors status address : ℕ) (packet : List ℕ)
       → let e : Event = Event.Replied clock slave bc errors status address packet in
       InC (entryOf e []) → length packet / 2 ≤ 32768 → Called first (wordOf e) e h
@@ -417,7 +430,7 @@ module _ {first : List ℕ} (h : Host) (k : Holds first h) (p : isPending (h .st
           (refuses (wordOf e) h (pollCheck (h .state) (length (h .buffer) / 2)) (pollVerdict n (length buffer)) (pollEffect n clock buffer)
           (same-poll (h .state) (h .buffer) (k .stands .bytes) (k .long)) (poll-taken n clock buffer) u (λ a. refl))
 
-  -- .. a request and erase progress are, if they are done
+  -- .. a request, erase progress and a slow-control step are, if they are done
   pub request-called : (clock link bc errors : ℕ) (packet : List ℕ) (m : Memories) (x : Further)
       → let e : Event = Event.Requested clock link bc errors packet m x in
       InC (entryOf e []) → isDone (stepped entries e h .number) ≡ true → Called first (wordOf e) e h
@@ -430,3 +443,7 @@ module _ {first : List ℕ} (h : Host) (k : Holds first h) (p : isPending (h .st
   pub erase-called : (budget : ℕ) → let e : Event = Event.Erased budget in
       InC (entryOf e []) → isDone (stepped entries e h .number) ≡ true → Called first (wordOf e) e h
   erase-called budget c d = done-called first (Event.Erased budget) h k c d (left (h .buffer) (k .bytes) refl)
+
+  pub slow-called : (clock : ℕ) (list : List ℕ) → let e : Event = Event.Slowed clock list in
+      InC (entryOf e []) → isDone (stepped entries e h .number) ≡ true → Called first (wordOf e) e h
+  slow-called clock list c d = done-called first (Event.Slowed clock list) h k c d (left (h .buffer) (k .bytes) refl)

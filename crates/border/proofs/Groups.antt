@@ -17,6 +17,7 @@ use Rattle.group.specs.Fragment.{fragmentOf}
 use Rattle.group.specs.Time.{isLate}
 use Rattle.group.specs.Whole.{assembled}
 use Rattle.group.specs.declared.Reply.{Reply}
+use Rattle.qlist.specs.declared.Slow.{Slow}
 use Rattle.node.specs.Effect.{lent, Further}
 use Rattle.node.specs.Refusals.{isPending as nodePending}
 use Rattle.node.specs.Settings.{statusIn}
@@ -43,7 +44,7 @@ use Rattle.border.proofs.Steps.{Made, done-made}
 use Rattle.border.proofs.Stands.{hosted-stands}
 use Rattle.border.proofs.Answers.{nothing-cut}
 use Rattle.border.proofs.GroupBuffers.{asks-leaves}
-use Rattle.border.proofs.GroupSteps.{left, kept-reply, pending-is, inWords, Holds, Told, Called, wordOf, does, done-called, Same, undone-same, same-words, same-holds, same-told, reply-called, long-undone, poll-called, request-called, erase-called}
+use Rattle.border.proofs.GroupSteps.{left, kept-reply, pending-is, inWords, Holds, Told, Called, wordOf, does, done-called, Same, undone-same, same-words, same-holds, same-told, reply-called, long-undone, poll-called, request-called, erase-called, slow-called}
 
 -- a run of calls that hears the same after one call more does so before it
 heards-on : (c : Call) (cs ds : List Call) → ((x : Awaited) (ss : List ℕ) (w : ℕ) → heards x ss w cs ≡ heards x ss w ds)
@@ -61,6 +62,7 @@ heards-on (Call.Polled clock) cs ds q x (s ∷ ss) w =
     λ i. pick (isLate clock (x .at))
     (endedBy (silentBy x) (q (asked clock) ss (w + length (fragmentOf s (silentBy x) w (length ss))) i)) (q x (s ∷ ss) w i)
 heards-on (Call.Erased budget) cs ds q x (s ∷ ss) w = q x (s ∷ ss) w
+heards-on (Call.Slowed clock list) cs ds q x (s ∷ ss) w = q x (s ∷ ss) w
 
 -- what is nothing to the slaves
 pub Unheard : List Call → Type 0
@@ -80,6 +82,11 @@ unheard-erase : (budget : ℕ) → Unheard (Call.Erased budget ∷ [])
 unfolding Unheard heards
 unheard-erase budget cs x [] w = refl
 unheard-erase budget cs x (s ∷ ss) w = refl
+
+unheard-slow : (clock : ℕ) (list : List ℕ) → Unheard (Call.Slowed clock list ∷ [])
+unfolding Unheard heards
+unheard-slow clock list cs x [] w = refl
+unheard-slow clock list cs x (s ∷ ss) w = refl
 
 undropped-both : (link : ℕ) (cs ds : List Call) → Undropped link (cs ++ ds) → Undropped link cs × Undropped link ds
 unfolding Undropped
@@ -123,12 +130,14 @@ comes-at tick (Event.Requested clock link bc errors packet m x) c = c
 comes-at tick (Event.Replied clock slave bc errors status address packet) c = c
 comes-at tick (Event.Polled clock) c = c
 comes-at tick (Event.Erased budget) c = c
+comes-at tick (Event.Slowed clock list) c = c
 
 polled-by : (polled tick : ℕ) (e : Event) → polledBy polled tick e ≡ nodePolledBy polled tick (wordOf e)
 polled-by polled tick (Event.Requested clock link bc errors packet m x) = refl
 polled-by polled tick (Event.Replied clock slave bc errors status address packet) = refl
 polled-by polled tick (Event.Polled clock) = refl
 polled-by polled tick (Event.Erased budget) = refl
+polled-by polled tick (Event.Slowed clock list) = refl
 
 -- what stays as it is settles nothing
 settles-none : (p : Pending) → settles p p ≡ false
@@ -339,6 +348,14 @@ means first (Event.Erased budget) h p k c = by (isDone (stepped entries e h .num
     by : (t : Bool) → isDone (stepped entries e h .number) ≡ t → Means first e h
     by true d = Means.ACall refl (erase-called h k p budget c d)
     by false d = Means.Naught (unheard-erase budget) refl (λ _ _. refl) (undone-same e h d)
+means first (Event.Slowed clock list) h p k c = by (isDone (stepped entries e h .number)) refl
+  where
+    e : Event
+    e = Event.Slowed clock list
+
+    by : (t : Bool) → isDone (stepped entries e h .number) ≡ t → Means first e h
+    by true d = Means.ACall refl (slow-called h k p clock list c d)
+    by false d = Means.Naught (unheard-slow clock (wordsOf 2 list)) refl (λ _ _. refl) (undone-same e h d)
 means first (Event.Polled clock) h p k c = Means.ACall refl (poll-called h k p clock c)
 means first (Event.Replied clock slave bc errors status address packet) h p k c = by (ltb 32768 (length packet / 2)) refl
   where
@@ -419,6 +436,8 @@ says-ask number (Answer.Ask a) s k = record { asking = a; is = refl }
 says-ask number (Answer.Next t) s k = let z : ⊥ = omega (arith, s .kind, k) in absurd z
 says-ask number Answer.Waiting s k = let z : ⊥ = omega (arith, s .kind, k) in absurd z
 says-ask number (Answer.Erased count) s k = let z : ⊥ = omega (arith, s .kind, k) in absurd z
+says-ask number (Answer.Slow (Slow.Handed place)) s k = let z : ⊥ = omega (arith, s .kind, k) in absurd z
+says-ask number (Answer.Slow Slow.Nothing) s k = let z : ⊥ = omega (arith, s .kind, k) in absurd z
 
 -- a way to send is another way to send
 ends-so : {P Q : Reply → List ℕ → Type 0} {ss : List ℕ} {hs : List SlaveAnswer} {own : ℕ} → ((x : Reply) (ws : List ℕ) → P x ws → Q x ws)
@@ -444,7 +463,7 @@ module _ (r : GroupRun entries) where
       let m = r .memories in
       let f =
       request-fine (r .link) (length (r .packet) / 2) (r .state) (length (r .flash) / 2) (length (m .pm) / 4) (length (m .dm) / 2)
-      (length (m .io) / 2) (length (r .further .area) / 2) (length (r .buffer) / 2) (made .fine) in
+      (length (m .io) / 2) (length (r .further .area) / 2) (length (r .further .list) / 14) (length (r .buffer) / 2) (made .fine) in
       omega (arith, f .buffer)
 
   pub holds : Holds (r .buffer) before
@@ -452,8 +471,8 @@ module _ (r : GroupRun entries) where
       record {
         stands = hosted-stands (r .has);
         long = long;
-        bytes = r .typed .9;
-        front = sym (kept-reply (r .buffer) long (r .typed .9));
+        bytes = r .typed .10;
+        front = sym (kept-reply (r .buffer) long (r .typed .10));
       }
 
   -- it asks, and so leaves the reply buffer
@@ -465,8 +484,8 @@ module _ (r : GroupRun entries) where
   pub called : Called (r .buffer) (wordOf request) request before
   called =
       let c = r .typed in
-      done-called (r .buffer) request before holds (c .0, c .1, c .2, c .3, c .4, c .5, c .6, c .7, c .8, λ i. omega arith) done
-      (left (r .buffer) (r .typed .9)
+      done-called (r .buffer) request before holds (c .0, c .1, c .2, c .3, c .4, c .5, c .6, c .7, c .8, c .9, λ i. omega arith) done
+      (left (r .buffer) (r .typed .10)
       (asks-leaves (nodeIn (r .state)) (r .clock) (r .link) (r .bc) (isSet (r .errors)) (wordsOf 2 (r .packet))
       (lent (wordsOf 2 (r .flash)) (memoryWords (r .memories)) (furtherWords (r .further)) (replyWords (r .buffer))) (asks .asking) (asks .is)))
 

@@ -21,6 +21,7 @@ use Rattle.memory.specs.Segment.{Memories}
 use Rattle.memory.specs.Load.{fileSegments, allStored}
 use Rattle.report.specs.Status.{counted}
 use Rattle.node.specs.State.{faulted}
+use Rattle.qlist.specs.declared.Slow.{Slow}
 use Rattle.node.specs.Effect.{Lent, lent, Outcome, Further}
 use Rattle.node.specs.Calls.{requestOf}
 use Rattle.node.specs.declared.Answer.{Answer}
@@ -191,8 +192,8 @@ module _ (clock link bc errors : ℕ) (packet state flash : List ℕ) (m : Memor
   abbrev asks : Entry
   asks = Entry.Request clock link bc errors packet m x reply
 
-  fine : Made asks state flash → RequestFine state (length flash / 2) (length (m .pm) / 4) (length (m .dm) / 2) (length (m .io) / 2) (length (x .area) / 2) (length reply / 2)
-  fine made = request-fine link _ state _ _ _ _ _ _ (made .fine)
+  fine : Made asks state flash → RequestFine state (length flash / 2) (length (m .pm) / 4) (length (m .dm) / 2) (length (m .io) / 2) (length (x .area) / 2) (length (x .list) / 14) (length reply / 2)
+  fine made = request-fine link _ state _ _ _ _ _ _ _ (made .fine)
 
   -- nothing laid leaves the reply
   reply-stays : U8s reply → 12288 ≤ length reply / 2 → storeWords 2 (replyWords reply) reply ≡ reply
@@ -221,7 +222,7 @@ aborts clock link bc packet header state flash m x reply s c b p one whole free 
     made .does
     ∙ ap (λ (o : Outcome). told (inBytes o (lent flash m x reply))) does
     ∙ (λ i. answered abortNumber (fault-bytes state (f .bytes) i)
-    (lent (bytes-kept 2 flash b i) (memories-kept m (c .5) (c .6) (c .7) i) (further-kept x (c .8) i) (reply-stays clock link bc 0 packet state flash m x reply (c .9) (f .buffer) i)))
+    (lent (bytes-kept 2 flash b i) (memories-kept m (c .5) (c .6) (c .7) i) (further-kept x (c .8) (c .9) i) (reply-stays clock link bc 0 packet state flash m x reply (c .10) (f .buffer) i)))
 
 -- what Read hands out, in bytes
 hands-out : (clock link bc errors : ℕ) (header state flash : List ℕ) (m : Memories) (x : Further) (reply : List ℕ) (code words : ℕ)
@@ -268,6 +269,8 @@ hands-out clock link bc errors header state flash m x reply code words c b whole
     by done (Answer.Next s) e q = absurd (omega (arith, n .kind, q .0 .kind))
     by done Answer.Waiting e q = absurd (omega (arith, n .kind, q .0 .kind))
     by done (Answer.Erased k) e q = absurd (omega (arith, n .kind, q .0 .kind))
+    by done (Answer.Slow (Slow.Handed place)) e q = absurd (omega (arith, n .kind, q .0 .kind))
+    by done (Answer.Slow Slow.Nothing) e q = absurd (omega (arith, n .kind, q .0 .kind))
 
 -- an entry that is refused leaves the memories
 left-memories : (clock link bc errors : ℕ) (packet state flash : List ℕ) (m : Memories) (x : Further) (reply : List ℕ)
@@ -305,7 +308,7 @@ loads clock link bc errors header state flash m x reply c b whole h = by (isDone
               made .does
               ∙ ap (λ (o : Outcome). told (inBytes o (lent flash m x reply))) (did .is)
               ∙ (λ i. answered endNumber (encoded-decoded state (f .bytes) i)
-              (lent (bytes-kept 2 flash b i) (memoriesLeft (allStored (fileSegments (did .file)) (memoryWords m)) m) (further-kept x (c .8) i) (reply-stays clock link bc errors (fileLoad header) state flash m x reply (c .9) (f .buffer) i)))
+              (lent (bytes-kept 2 flash b i) (memoriesLeft (allStored (fileSegments (did .file)) (memoryWords m)) m) (further-kept x (c .8) (c .9) i) (reply-stays clock link bc errors (fileLoad header) state flash m x reply (c .10) (f .buffer) i)))
               ∙ ap (loaded state (lent flash m x reply)) (sym (file-is state flash (f .bytes) b (f .bench) (did .sector) (fileLoad header) header 0x462E (load-words header) (did .file) (did .names)));
         }
 

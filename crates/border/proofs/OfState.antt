@@ -35,9 +35,9 @@ below-packed (k ∷ ks) (x ∷ xs) i = below-append (digitsOf k x) (packed ks xs
 pub below-encoded : (n : Node) → Below 256 (encodeOf n)
 unfolding encodeOf
 below-encoded n =
-    below-append (packed sizes (numbersOf n)) (bytesOf 4 (n .masks) ++ (bytesOf 2 (n .directory) ++ tailBytes (n .writing) (n .pending))) (below-packed sizes (numbersOf n))
-    (below-append (bytesOf 4 (n .masks)) (bytesOf 2 (n .directory) ++ tailBytes (n .writing) (n .pending)) (below-bytes 4 (n .masks))
-    (below-append (bytesOf 2 (n .directory)) (tailBytes (n .writing) (n .pending)) (below-bytes 2 (n .directory)) (below-packed tailSizes (tailNumbers (standingOf (n .writing)) (waitOf (n .pending))))))
+    below-append (packed sizes (numbersOf n)) (bytesOf 4 (n .masks) ++ (bytesOf 2 (n .directory) ++ tailBytes (n .writing) (n .pending) (n .listing))) (below-packed sizes (numbersOf n))
+    (below-append (bytesOf 4 (n .masks)) (bytesOf 2 (n .directory) ++ tailBytes (n .writing) (n .pending) (n .listing)) (below-bytes 4 (n .masks))
+    (below-append (bytesOf 2 (n .directory)) (tailBytes (n .writing) (n .pending) (n .listing)) (below-bytes 2 (n .directory)) (below-packed tailSizes (tailNumbers (standingOf (n .writing)) (waitOf (n .pending)) (n .listing)))))
 
 -- what is read has the size of its bytes
 

@@ -152,10 +152,11 @@ one-sector (Entry.Start kind ports subdetector program version tests clock) stat
 one-sector (Entry.Request clock link bc errors packet m x reply) state flash b =
     made-within (Entry.Request clock link bc errors packet m x reply) state flash b
     (λ d. request-fine link (length packet / 2) state (length flash / 2) (length (m .pm) / 4) (length (m .dm) / 2) (length (m .io) / 2)
-    (length (x .area) / 2) (length reply / 2) (d .fine) .bench)
+    (length (x .area) / 2) (length (x .list) / 14) (length reply / 2) (d .fine) .bench)
 one-sector (Entry.Reply clock slave bc errors status address packet reply) state flash b = refl
 one-sector (Entry.Poll clock reply) state flash b = refl
 one-sector (Entry.Erase budget) state flash b = made-within (Entry.Erase budget) state flash b (erase-bench budget state flash)
+one-sector (Entry.Slow clock list) state flash b = refl
 
 -- a step sets just the bytes of the words that it sets
 step-bytes : (budget : ℕ) (state flash : List ℕ) (i : ℕ) → Made (Entry.Erase budget) state flash
@@ -181,6 +182,7 @@ set-bytes (Entry.Request clock link bc errors packet m x reply) state flash i d 
 set-bytes (Entry.Reply clock slave bc errors status address packet reply) state flash i m h = h
 set-bytes (Entry.Poll clock reply) state flash i m h = h
 set-bytes (Entry.Erase budget) state flash i m h = step-bytes budget state flash i m h
+set-bytes (Entry.Slow clock list) state flash i m h = h
 
 pub no-bit-rises : NoBitRises entries
 no-bit-rises e state flash b i k h o z = by (entry-step e state flash)

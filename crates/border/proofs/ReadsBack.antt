@@ -105,7 +105,7 @@ module _ (state flash : List ℕ) (st : Stands state flash) (clock link bc error
   bench : length flash / 2 ≡ 32768
   bench =
       request-fine link (length packet / 2) state (length flash / 2) (length (m .pm) / 4) (length (m .dm) / 2)
-      (length (m .io) / 2) (length (x .area) / 2) (length reply / 2) (made .fine) .bench
+      (length (m .io) / 2) (length (x .area) / 2) (length (x .list) / 14) (length reply / 2) (made .fine) .bench
 
   unit : unitOf words ≡ 2048
   unit = ap (λ (k : ℕ). k / 16) (length-words-of 2 flash ∙ bench)
@@ -163,5 +163,5 @@ pub reads-back : ReadsBack entries
 reads-back state flash hosted clock link bc errors packet m x reply c file b even h =
     let st = hosted-stands hosted in
     let made = done-made (Entry.Request clock link bc errors packet m x reply) state flash (ap isDone h) in
-    let room = request-fine link _ state _ _ _ _ _ _ (made .fine) .room in
+    let room = request-fine link _ state _ _ _ _ _ _ _ (made .fine) .room in
     file-written state flash st clock link bc errors packet m x reply c file (brings-told state link bc packet x (c .4) (c .8) even (st .bytes) room file b) h

@@ -22,12 +22,17 @@ use Rattle.memory.specs.Command.{readable, readAnswer, writable, performable, p
 use Rattle.memory.specs.Load.{loadable}
 use Rattle.memory.proofs.Command.{readable-tells, performable-tells, length-read-answer, length-perform-answer}
 use Rattle.report.specs.Status.{hasMasks}
+use Rattle.qlist.specs.Words.{recordsIn}
+use Rattle.qlist.specs.Commands.{Changed, writeIn, deleteIn, toldWords}
+use Rattle.qlist.specs.declared.Listed.{Listed}
+use Rattle.qlist.proofs.Lengths.{length-told}
 use Rattle.node.specs.Effect.{Did, Lent, says, answers}
 use Rattle.node.specs.Status.{statusWords, maskWords, maskWordsFrom}
 use Rattle.node.specs.Settings.{statusIn, statusOf, pingOf, modeReadOf, modeWriteOf, maskReadOf, maskWriteOf}
 use Rattle.node.specs.Files.{isErasing, unlessErasing, namedBy, seen, readBy, readAt, readOf, testAt, testOf, loadBy, loadAt, loadOf, placedFor, writeAt, fileWriteOf, toErase, eraseAt, eraseStartOf, setTo, attributeBy, attributeAt, attributeSetOf, summaryOf}
 use Rattle.node.specs.Memories.{dataRoom, memoryReadOf, memoryWriteOf, performIoOf}
-use Rattle.node.specs.Own.{settingsOf, memoriesOf, filesOf, onFiles, onMemories, ownOf}
+use Rattle.node.specs.Lists.{relisted, changesList, listWriteOf, listDeleteOf, listReadOf}
+use Rattle.node.specs.Own.{settingsOf, memoriesOf, filesOf, listsOf, onFiles, onMemories, onList, ownOf}
 use Rattle.node.specs.declared.Node.{Node}
 
 -- a reply that has its place in an answer
@@ -208,8 +213,28 @@ module _ (n : Node) (l : Lent) (packet : List ℕ) where
       (λ _. sized 3 _ (pick-case Replied (ltb (getD packet 1 0) 4096) (λ _. end) (λ _. abort))) (λ _. abort))
       (λ _. abort))))))
 
-  pub own-replied : (id clock link : ℕ) → length (n .directory) ≡ 32 → Short (ownOf id n clock link packet l .reply)
+  -- the commands on the Q-List, of which at most 910 entries are listed
+  changes-replied : (c : Changed) → Replied (changesList c)
+  changes-replied c = by (c .listed)
+    where
+      by : (x : Listed) → Replied (relisted x (c .words))
+      by (Listed.Entries g) = end
+      by Listed.Abort = abort
+
+  lists-replied : (id clock : ℕ) → n .listing .entries ≤ 910 → n .listing .entries ≤ recordsIn (l .further .list)
+      → Replied (listsOf id n clock (l .further .list) packet)
+  unfolding listsOf listReadOf listDeleteOf listWriteOf
+  lists-replied id clock most lent =
+      let k = length-told (n .listing .entries) (l .further .list) lent in
+      pick-case Replied (eqb id 0x1C) (λ _. sized 1 _ (short (statusIn n) (toldWords (n .listing .entries) (l .further .list)) (omega arith)))
+      (λ _. pick-case Replied (eqb id 0x5B) (λ _. changes-replied (deleteIn (n .listing) (drop 1 packet) (l .further .list)))
+      (λ _. pick-case Replied (eqb id 0x5C) (λ _. changes-replied (writeIn (n .listing) clock (drop 1 packet) (l .further .list)))
+      (λ _. abort)))
+
+  pub own-replied : (id clock link : ℕ) → length (n .directory) ≡ 32 → n .listing .entries ≤ 910 → n .listing .entries ≤ recordsIn (l .further .list)
+      → Short (ownOf id n clock link packet l .reply)
   unfolding ownOf
-  own-replied id clock link d =
+  own-replied id clock link d most lent =
       pick-case Replied (onFiles id) (λ _. files-replied id d)
-      (λ _. pick-case Replied (onMemories id) (λ _. memories-replied id) (λ _. settings-replied id clock link))
+      (λ _. pick-case Replied (onMemories id) (λ _. memories-replied id)
+      (λ _. pick-case Replied (onList id) (λ _. lists-replied id clock most lent) (λ _. settings-replied id clock link)))

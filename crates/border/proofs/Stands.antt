@@ -1,7 +1,7 @@
 -- The bytes that a host has stand for a state that is reached, with the flash that is reached with it. Assumes nothing.
 use Prim.Native.Nat.{ℕ, _/_}
 use mathlib.Core.Path.{_≡_, refl, sym, ap, _∙_, subst}
-use mathlib.Core.Bool.{true, false≢true}
+use mathlib.Core.Bool.{true, false, false≢true}
 use mathlib.Core.List.{List}
 use lib.ListN.{length}
 use Rattle.base.specs.Words.{Below}
@@ -9,7 +9,7 @@ use Rattle.base.proofs.Pick.{no}
 use Rattle.node.specs.Calls.{startOf}
 use Rattle.node.specs.declared.Node.{Node}
 use Rattle.node.proofs.Ranges.{ranges-told}
-use Rattle.demands.specs.Machine.{logodwen, flashOf}
+use Rattle.demands.specs.Machine.{logodwen, flashOf, isRefused}
 use Rattle.demands.specs.Reached.{Lends16, stateAfter as nodeAfter, Step as Called, Reached}
 use Rattle.demands.proofs.Sound.{reached-sound}
 use Rattle.codec.specs.Bytes.{wordsOf}
@@ -69,6 +69,7 @@ lends (Entry.Request clock link bc errors packet m x reply) c = words-of-below p
 lends (Entry.Reply clock slave bc errors status address packet reply) c = tt
 lends (Entry.Poll clock reply) c = tt
 lends (Entry.Erase budget) c = tt
+lends (Entry.Slow clock list) c = tt
 
 pub areas : (e : Entry) → InC e → Areas16 (onWords e)
 areas (Entry.Start kind ports subdetector program version tests clock) c = tt
@@ -76,6 +77,7 @@ areas (Entry.Request clock link bc errors packet m x reply) c = words-of-below (
 areas (Entry.Reply clock slave bc errors status address packet reply) c = tt
 areas (Entry.Poll clock reply) c = tt
 areas (Entry.Erase budget) c = tt
+areas (Entry.Slow clock list) c = tt
 
 clocked : (e : Entry) → InC e → Clocked (onWords e)
 clocked (Entry.Start kind ports subdetector program version tests clock) c = (c .3, c .4, c .5, c .6)
@@ -83,6 +85,7 @@ clocked (Entry.Request clock link bc errors packet m x reply) c = c .0
 clocked (Entry.Reply clock slave bc errors status address packet reply) c = (c .0, c .4)
 clocked (Entry.Poll clock reply) c = c .0
 clocked (Entry.Erase budget) c = tt
+clocked (Entry.Slow clock list) c = tt
 
 -- a call that is made: its state and its flash are those that the bytes then stand for
 pub record Moved (e : Entry) (state flash : List ℕ) : Type 0 where
@@ -122,11 +125,17 @@ next-stands e state flash c s = by (entry-step e state flash)
     by (Step.Makes m) = made-moves e state flash c s m .stands
 
 -- a start gives them
-first-stands : (kind ports subdetector program version tests clock : ℕ) (state flash : List ℕ)
+pub record Begun (kind ports subdetector program version tests clock : ℕ) (state flash : List ℕ) : Type 0 where
+  pub taken : isRefused (startOf kind ports subdetector program version tests clock (wordsOf 2 flash) .answer) ≡ false
+  pub node : nodeIn (stateAfter entries (Entry.Start kind ports subdetector program version tests clock) state flash)
+      ≡ startOf kind ports subdetector program version tests clock (wordsOf 2 flash) .node
+  pub stands : Stands (stateAfter entries (Entry.Start kind ports subdetector program version tests clock) state flash) flash
+
+pub first-begun : (kind ports subdetector program version tests clock : ℕ) (state flash : List ℕ)
     → InC (Entry.Start kind ports subdetector program version tests clock) → Below 256 flash
     → numberAfter entries (Entry.Start kind ports subdetector program version tests clock) state flash ≡ 0
-    → Stands (stateAfter entries (Entry.Start kind ports subdetector program version tests clock) state flash) flash
-first-stands kind ports subdetector program version tests clock state flash c b h =
+    → Begun kind ports subdetector program version tests clock state flash
+first-begun kind ports subdetector program version tests clock state flash c b h =
     by (entry-step begun state flash)
   where
     begun : Entry
@@ -135,15 +144,21 @@ first-stands kind ports subdetector program version tests clock state flash c b 
     words : List ℕ
     words = wordsOf 2 flash
 
-    by : Step begun state flash → Stands (stateAfter entries begun state flash) flash
+    by : Step begun state flash → Begun kind ports subdetector program version tests clock state flash
     by (Step.Leaves l) = absurd (false≢true (sym (refusal-undone (l .refusal)) ∙ ap isDone (sym (l .number) ∙ h)))
     by (Step.Makes m) =
         let taken = start-taken kind ports subdetector program version tests clock state flash (m .fine) in
-        reached-stands (startOf kind ports subdetector program version tests clock words .node) words
-        (stateAfter entries begun state flash) flash
-        (Reached.First kind ports subdetector program version tests clock words taken)
-        (start-small kind ports subdetector program version tests clock words (clocked begun c)) (words-of-below flash b)
-        (m .node ∙ ap encodeOf (sym (no _ taken refl))) refl b (start-bench kind ports subdetector state flash (m .fine))
+        let node : Node = startOf kind ports subdetector program version tests clock words .node in
+        let after : List ℕ = stateAfter entries begun state flash in
+        let reached : Reached logodwen node words = Reached.First kind ports subdetector program version tests clock words taken in
+        let small = start-small kind ports subdetector program version tests clock words (clocked begun c) in
+        let below = words-of-below flash b in
+        let encodes : after ≡ encodeOf node = m .node ∙ ap encodeOf (sym (no _ taken refl)) in
+        record {
+          taken = taken;
+          node = encoded-node node words after reached small below encodes;
+          stands = reached-stands node words after flash reached small below encodes refl b (start-bench kind ports subdetector state flash (m .fine));
+        }
 
 -- a step of the host hands them on
 pub step-stands : {state flash next after : List ℕ} → HostStep entries state flash next after → Stands state flash → Stands next after
@@ -153,5 +168,5 @@ step-stands {state} {flash} (HostStep.OtherState e other h) s = subst (Stands st
 
 pub hosted-stands : {state flash : List ℕ} → Hosted entries state flash → Stands state flash
 hosted-stands (Hosted.First kind ports subdetector program version tests clock state flash c b h) =
-    first-stands kind ports subdetector program version tests clock state flash c b h
+    first-begun kind ports subdetector program version tests clock state flash c b h .stands
 hosted-stands (Hosted.Then r step) = step-stands step (hosted-stands r)

@@ -9,7 +9,7 @@ use Rattle.base.specs.Words.{Below}
 use Rattle.base.proofs.Pick.{no}
 use Rattle.node.specs.State.{refusalNumber}
 use Rattle.node.specs.Effect.{Lent, lent, Outcome, outcome}
-use Rattle.node.specs.Calls.{lentReply, lentFlash, given, startBy, startOf, requestOf, replyOf, pollOf, eraseOf}
+use Rattle.node.specs.Calls.{lentReply, lentFlash, lentList, given, startBy, startOf, requestOf, replyOf, pollOf, eraseOf, slowOf}
 use Rattle.node.specs.declared.Answer.{Answer}
 use Rattle.node.specs.declared.Refusal.{Refusal}
 use Rattle.node.specs.declared.Verdict.{Verdict}
@@ -18,8 +18,8 @@ use Rattle.demands.specs.Reached.{stateAfter as nodeAfter}
 use Rattle.codec.specs.Bytes.{wordsOf, storeWords}
 use Rattle.codec.specs.StateBytes.{encodeOf, nodeIn}
 use Rattle.logodwen.specs.Number.{answerNumber}
-use Rattle.logodwen.specs.Causes.{requestCheck, replyCheck, pollCheck, eraseCheck, startCheck}
-use Rattle.logodwen.specs.Entry.{Answered, answered, inBytes, told, entered, replyWords, runWords, isSet, startEntry, requestEntry, replyEntry, pollEntry, eraseEntry}
+use Rattle.logodwen.specs.Causes.{requestCheck, replyCheck, pollCheck, eraseCheck, slowCheck, startCheck}
+use Rattle.logodwen.specs.Entry.{Answered, answered, inBytes, told, entered, replyWords, runWords, isSet, startEntry, requestEntry, replyEntry, pollEntry, eraseEntry, slowEntry}
 use Rattle.codec.proofs.ThereAndBack.{bytes-kept}
 use Rattle.border.specs.Exactly.{entries}
 use Rattle.border.specs.Host.{Entry, answerOf, numberAfter, stateAfter, flashLeft, flashAfter, onWords, isDone}
@@ -34,11 +34,12 @@ checkOf (Entry.Start kind ports subdetector program version tests clock) state f
     startCheck kind ports subdetector state (length flash / 2)
 checkOf (Entry.Request clock link bc errors packet m x reply) state flash =
     requestCheck link (length packet / 2) state (length flash / 2) (length (m .pm) / 4) (length (m .dm) / 2) (length (m .io) / 2)
-    (length (x .area) / 2) (length reply / 2)
+    (length (x .area) / 2) (length (x .list) / 14) (length reply / 2)
 checkOf (Entry.Reply clock slave bc errors status address packet reply) state flash =
     replyCheck slave (length packet / 2) state (length reply / 2)
 checkOf (Entry.Poll clock reply) state flash = pollCheck state (length reply / 2)
 checkOf (Entry.Erase budget) state flash = eraseCheck state (length flash / 2)
+checkOf (Entry.Slow clock list) state flash = slowCheck state (length list / 14)
 
 abbrev pub runsOf : Entry → List ℕ → Lent
 runsOf (Entry.Start kind ports subdetector program version tests clock) flash = lentReply []
@@ -46,6 +47,7 @@ runsOf (Entry.Request clock link bc errors packet m x reply) flash = lent flash 
 runsOf (Entry.Reply clock slave bc errors status address packet reply) flash = lentReply reply
 runsOf (Entry.Poll clock reply) flash = lentReply reply
 runsOf (Entry.Erase budget) flash = lentFlash flash
+runsOf (Entry.Slow clock list) flash = lentList list
 
 abbrev pub outcomeOf : Entry → List ℕ → List ℕ → Outcome
 outcomeOf (Entry.Start kind ports subdetector program version tests clock) state flash =
@@ -56,15 +58,17 @@ outcomeOf (Entry.Reply clock slave bc errors status address packet reply) state 
     replyOf (nodeIn state) clock slave bc (isSet errors) status address (wordsOf 2 packet) (replyWords reply)
 outcomeOf (Entry.Poll clock reply) state flash = pollOf (nodeIn state) clock (replyWords reply)
 outcomeOf (Entry.Erase budget) state flash = eraseOf (nodeIn state) budget (wordsOf 2 flash)
+outcomeOf (Entry.Slow clock list) state flash = slowOf (nodeIn state) clock (wordsOf 2 list)
 
 entry-is : (e : Entry) (state flash : List ℕ)
     → answerOf entries e state flash ≡ entered (checkOf e state flash) state (runsOf e flash) (outcomeOf e state flash)
-unfolding startEntry requestEntry replyEntry pollEntry eraseEntry
+unfolding startEntry requestEntry replyEntry pollEntry eraseEntry slowEntry
 entry-is (Entry.Start kind ports subdetector program version tests clock) state flash = refl
 entry-is (Entry.Request clock link bc errors packet m x reply) state flash = refl
 entry-is (Entry.Reply clock slave bc errors status address packet reply) state flash = refl
 entry-is (Entry.Poll clock reply) state flash = refl
 entry-is (Entry.Erase budget) state flash = refl
+entry-is (Entry.Slow clock list) state flash = refl
 
 -- its parts are those of the node's call: the answer ..
 answer-is : (e : Entry) (state flash : List ℕ) → outcomeOf e state flash .turn .answer ≡ answerIn e state flash
@@ -73,6 +77,7 @@ answer-is (Entry.Request clock link bc errors packet m x reply) state flash = re
 answer-is (Entry.Reply clock slave bc errors status address packet reply) state flash = refl
 answer-is (Entry.Poll clock reply) state flash = refl
 answer-is (Entry.Erase budget) state flash = refl
+answer-is (Entry.Slow clock list) state flash = refl
 
 -- .. the next state, where a start that is fine is done ..
 pub start-begins : (kind ports subdetector program version tests clock : ℕ) (state flash : List ℕ)
@@ -97,6 +102,7 @@ node-is (Entry.Request clock link bc errors packet m x reply) state flash h = re
 node-is (Entry.Reply clock slave bc errors status address packet reply) state flash h = refl
 node-is (Entry.Poll clock reply) state flash h = refl
 node-is (Entry.Erase budget) state flash h = refl
+node-is (Entry.Slow clock list) state flash h = refl
 
 -- .. and the flash
 flash-is : (e : Entry) (state flash : List ℕ) → Below 256 flash
@@ -107,6 +113,7 @@ flash-is (Entry.Request clock link bc errors packet m x reply) state flash b = r
 flash-is (Entry.Reply clock slave bc errors status address packet reply) state flash b = sym (bytes-kept 2 flash b)
 flash-is (Entry.Poll clock reply) state flash b = sym (bytes-kept 2 flash b)
 flash-is (Entry.Erase budget) state flash b = refl
+flash-is (Entry.Slow clock list) state flash b = sym (bytes-kept 2 flash b)
 
 flash-left : (e : Entry) (number : ℕ) (state flash : List ℕ) → flashLeft e (answered number state (runsOf e flash)) flash ≡ flash
 flash-left (Entry.Start kind ports subdetector program version tests clock) number state flash = refl
@@ -114,6 +121,7 @@ flash-left (Entry.Request clock link bc errors packet m x reply) number state fl
 flash-left (Entry.Reply clock slave bc errors status address packet reply) number state flash = refl
 flash-left (Entry.Poll clock reply) number state flash = refl
 flash-left (Entry.Erase budget) number state flash = refl
+flash-left (Entry.Slow clock list) number state flash = refl
 
 -- the node's call made
 pub record Made (e : Entry) (state flash : List ℕ) : Type 0 where
@@ -168,6 +176,7 @@ refusal-undone Refusal.State = refl
 refusal-undone Refusal.Busy = refl
 refusal-undone Refusal.Unasked = refl
 refusal-undone Refusal.AreaSize = refl
+refusal-undone Refusal.ListSize = refl
 
 pub done-taken : (a : Answer) → isDone (answerNumber a) ≡ true → isRefused a ≡ false
 done-taken (Answer.Refused r) h = absurd (false≢true (sym (refusal-undone r) ∙ h))
@@ -177,6 +186,7 @@ done-taken (Answer.Ask a) h = refl
 done-taken (Answer.Next s) h = refl
 done-taken Answer.Waiting h = refl
 done-taken (Answer.Erased count) h = refl
+done-taken (Answer.Slow s) h = refl
 
 -- an entry that is done makes the node's call
 pub done-made : (e : Entry) (state flash : List ℕ) → isDone (numberAfter entries e state flash) ≡ true → Made e state flash
@@ -201,6 +211,7 @@ undone-left (Entry.Reply clock slave bc errors status address packet reply) stat
     refused-exactly .reply clock slave bc errors status address packet state reply .1 (undone _ h) .bytes
 undone-left (Entry.Poll clock reply) state flash h = refused-exactly .poll clock state reply .1 (undone _ h) .bytes
 undone-left (Entry.Erase budget) state flash h = refused-exactly .erase budget state flash .1 (undone _ h) .bytes
+undone-left (Entry.Slow clock list) state flash h = refused-exactly .slow clock state list .1 (undone _ h) .bytes
 
 -- and the flash bytes
 pub undone-flash : (e : Entry) (state flash : List ℕ) → isDone (numberAfter entries e state flash) ≡ false → flashAfter entries e state flash ≡ flash
@@ -210,3 +221,4 @@ undone-flash (Entry.Request clock link bc errors packet m x reply) state flash h
 undone-flash (Entry.Reply clock slave bc errors status address packet reply) state flash h = refl
 undone-flash (Entry.Poll clock reply) state flash h = refl
 undone-flash (Entry.Erase budget) state flash h = ap (λ (l : Lent). l .flash) (refused-exactly .erase budget state flash .1 (undone _ h) .lent)
+undone-flash (Entry.Slow clock list) state flash h = refl

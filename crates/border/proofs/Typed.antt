@@ -17,10 +17,11 @@ use Rattle.group.specs.Time.{isLate}
 use Rattle.group.specs.declared.Heard.{Heard}
 use Rattle.group.specs.declared.Next.{Next}
 use Rattle.report.specs.Status.{counted}
-use Rattle.node.specs.Refusals.{replyVerdict, pollVerdict, eraseVerdict, startVerdict}
+use Rattle.qlist.specs.Words.{recordsIn}
+use Rattle.node.specs.Refusals.{replyVerdict, pollVerdict, eraseVerdict, slowVerdict, startVerdict}
 use Rattle.node.specs.Effect.{Effect, Lent, lent, nodeAfter, Setup, masksAfter}
 use Rattle.node.specs.Slaves.{heard, silent, goesOn, packetIn, yetToAsk, hears, askedAt, replyEffect, pollEffect}
-use Rattle.node.specs.Calls.{judged, lentReply, lentFlash, routed, given, startBy, startOf, requestOf, replyOf, pollOf, eraseEffect, eraseOf}
+use Rattle.node.specs.Calls.{judged, lentReply, lentFlash, lentList, routed, given, startBy, startOf, requestOf, replyOf, pollOf, eraseEffect, eraseOf, slowEffect, slowOf}
 use Rattle.node.specs.declared.Node.{Node}
 use Rattle.node.specs.declared.Pending.{Pending}
 use Rattle.node.specs.declared.Verdict.{Verdict}
@@ -54,6 +55,7 @@ Clocked (Call.Request clock link bc errors packet m x reply) = clock < 429496729
 Clocked (Call.Reply clock slave bc errors status address words reply) = (clock < 4294967296) × (status < 65536)
 Clocked (Call.Poll clock reply) = clock < 4294967296
 Clocked (Call.Erase budget) = Unit {0}
+Clocked (Call.Slow clock list) = Unit {0}
 
 counted-small : (t : Bool) (count : ℕ) → count < 65536 → counted t count < 65536
 counted-small true count h = omega arith
@@ -155,7 +157,7 @@ start-small kind ports subdetector program version tests clock flash (p, v, t, c
         }
 
 pub call-small : (c : Call) (n : Node) (flash : List ℕ) → Clocked c → Small n → Small (stateAfter logodwen c n flash)
-unfolding requestOf replyOf pollOf eraseOf
+unfolding requestOf replyOf pollOf eraseOf slowOf
 call-small (Call.Start kind ports subdetector program version tests clock) n flash c s =
     pick-case Small (isRefused (startOf kind ports subdetector program version tests clock flash .answer)) (λ _. s)
     (λ _. start-small kind ports subdetector program version tests clock flash c)
@@ -170,6 +172,8 @@ call-small (Call.Poll clock reply) n flash c s =
     judged-small (pollVerdict n (length reply)) n (lentReply reply) (pollEffect n clock reply) s (poll-asked n clock reply c (s .asked, s .received))
 call-small (Call.Erase budget) n flash c s =
     judged-small (eraseVerdict n (length flash)) n (lentFlash flash) (eraseEffect n budget flash) s (s .asked, s .received)
+call-small (Call.Slow clock list) n flash c s =
+    judged-small (slowVerdict n (recordsIn list)) n (lentList list) (slowEffect n clock list) s (s .asked, s .received)
 
 -- with a directory that is fresh, all of it
 pub small-typed : (n : Node) (flash : List ℕ) → Small n → Sound n flash → Below 65536 flash → Typed n

@@ -7,6 +7,7 @@ use mathlib.Core.Bool.{true}
 use mathlib.Core.List.{List}
 use lib.ListN.{length}
 use Rattle.base.specs.Words.{laid}
+use Rattle.qlist.specs.declared.Slow.{Slow}
 use Rattle.node.specs.Settings.{statusIn}
 use Rattle.node.specs.Effect.{Lent, lent, sealedWords}
 use Rattle.node.specs.declared.Answer.{Answer}
@@ -28,7 +29,8 @@ pub record InBits (number k w f n : ℕ) : Type 0 where
   pub most : n < 4294967296
 
 -- The answer that a number says: a reply's BC and length; the slave to ask, and the word from which the request is sent on; the slave to send
--- NEXT to (02, request 8); waiting; the words that an erase step set. A start says 0, and a refusal is not done.
+-- NEXT to (02, request 8); waiting; the words that an erase step set; the place of the entry that a slow-control step hands out, or that it hands
+-- out none (02, request 7). A start says 0, and a refusal is not done.
 abbrev pub Says : ℕ → Answer → Type 0
 Says number (Answer.Refused r) = ⊥
 Says number Answer.Started = InBits number 0 0 0 0
@@ -37,9 +39,11 @@ Says number (Answer.Ask a) = InBits number 2 (a .slave) (a .from) 0
 Says number (Answer.Next s) = InBits number 8 s 0 0
 Says number Answer.Waiting = InBits number 3 0 0 0
 Says number (Answer.Erased count) = InBits number 0 0 0 count
+Says number (Answer.Slow (Slow.Handed place)) = InBits number 6 0 0 place
+Says number (Answer.Slow Slow.Nothing) = InBits number 7 0 0 0
 
--- How large they can be: BC is two bits, a reply has at most 12,288 words, a slave is at most 23, one or two words are stripped, and an
--- erase step sets at most a sector of 4,096 words.
+-- How large they can be: BC is two bits, a reply has at most 12,288 words, a slave is at most 23, one or two words are stripped, an
+-- erase step sets at most a sector of 4,096 words, and the place of an entry is below 910.
 abbrev pub Bounds : Answer → Type 0
 Bounds (Answer.Refused r) = ⊥
 Bounds Answer.Started = Unit {0}
@@ -48,6 +52,8 @@ Bounds (Answer.Ask a) = (a .slave ≤ 23) × ((a .from ≡ 1) ⊎ (a .from ≡ 2
 Bounds (Answer.Next s) = s ≤ 23
 Bounds Answer.Waiting = Unit {0}
 Bounds (Answer.Erased count) = count ≤ 4096
+Bounds (Answer.Slow (Slow.Handed place)) = place < 910
+Bounds (Answer.Slow Slow.Nothing) = Unit {0}
 
 -- The node's answer to the call that an entry is.
 abbrev pub answerIn : Entry → List ℕ → List ℕ → Answer

@@ -1,7 +1,7 @@
 -- What the house was promised of the C library, on one page: the sentences of the three demands in their order, and beneath each the
 -- statements that stand for it, over the bytes that a host lends and keeps. They are those of the node (demands/specs/Demands), and the
 -- answer's number beside them. That every entry gets an answer, and that it is the node's call on the words of the bytes, is the contract of
--- the five entries, which has no condition. Assumes nothing.
+-- the six entries, which has no condition. Assumes nothing.
 use Rattle.border.specs.Exactly.{Entries, RefusedExactly}
 use Rattle.border.specs.Kept.{AlwaysState, NoStaleRecord, LengthsShown, SummaryIsTrue}
 use Rattle.border.specs.Answers.{NothingCut}
@@ -13,6 +13,7 @@ use Rattle.border.specs.Groups.{GroupIsAsked, GroupIsItsFragments}
 use Rattle.border.specs.Ends.{EachLowersOrStores, AlwaysEnds, NeverAskedTwice, SettledInTime, DeadEndInTime, AllEndInTime}
 use Rattle.border.specs.Captures.{DataIsAccepted}
 use Rattle.border.specs.Flash.{OneSector, NoBitRises}
+use Rattle.border.specs.Listing.{RepetitionsConserved}
 use Rattle.border.specs.ClosedRun.{ClosedRun}
 
 pub record Demands (E : Entries) : Type 0 where
@@ -43,6 +44,8 @@ pub record Demands (E : Entries) : Type 0 where
   pub settled-in-time : SettledInTime E
   pub dead-end-in-time : DeadEndInTime E
   pub all-end-in-time : AllEndInTime E
+  -- Repetitions of the Q-List are conserved: those listed, handed out and cleared are those written.
+  pub repetitions-conserved : RepetitionsConserved E
   -- One run, worked out: start, File Write, File Read.
   pub closed-run : ClosedRun E
   -- 3 No stale record. After any sequence of entries, refused ones and half-done erasures included, the directory kept in the state bytes is

@@ -67,6 +67,7 @@ ComesAt tick (Event.Requested clock link bc errors packet m x) = clock ≡ tick 
 ComesAt tick (Event.Replied clock slave bc errors status address packet) = clock ≡ tick % 4294967296
 ComesAt tick (Event.Polled clock) = clock ≡ tick % 4294967296
 ComesAt tick (Event.Erased budget) = Unit {0}
+ComesAt tick (Event.Slowed clock list) = clock ≡ tick % 4294967296
 
 -- The tick of the last poll, with this entry.
 abbrev pub polledBy : ℕ → ℕ → Event → ℕ
@@ -74,6 +75,7 @@ polledBy polled tick (Event.Requested clock link bc errors packet m x) = polled
 polledBy polled tick (Event.Replied clock slave bc errors status address packet) = polled
 polledBy polled tick (Event.Polled clock) = tick
 polledBy polled tick (Event.Erased budget) = polled
+polledBy polled tick (Event.Slowed clock list) = polled
 
 -- The entries of a run come at these ticks, and then it is now: none comes before the one before it, and while something is pending no 60 ticks in
 -- a row go by without a poll.

@@ -59,14 +59,15 @@ pub record GoesOn (budget : ℕ) (state flash : List ℕ) (a : Answered) : Type 
   pub number : a .number ≡ fields 0 0 0 (eraseCount 2048 (erasingIn state) budget)
   pub bytes : a .runs .flash ≡ laid flash (stepByte state) (blankBytes (eraseCount 2048 (erasingIn state) budget))
 
--- What is being erased follows the commands: nothing is after a start; a request leaves it, or is an Erase that begins it; a slave's reply
--- and a poll leave it; an erase entry goes on with it.
+-- What is being erased follows the commands: nothing is after a start; a request leaves it, or is an Erase that begins it; a slave's reply,
+-- a poll and a slow-control step leave it; an erase entry goes on with it.
 abbrev pub Follows : Entry → Answered → List ℕ → List ℕ → Type 0
 Follows (Entry.Start kind ports subdetector program version tests clock) a state flash = a .number ≡ 0 → sectorIn (a .state) ≡ 0
 Follows (Entry.Request clock link bc errors packet m x reply) a state flash = (erasingIn (a .state) ≡ erasingIn state) ⊎ Begins state flash bc packet a
 Follows (Entry.Reply clock slave bc errors status address packet reply) a state flash = erasingIn (a .state) ≡ erasingIn state
 Follows (Entry.Poll clock reply) a state flash = erasingIn (a .state) ≡ erasingIn state
 Follows (Entry.Erase budget) a state flash = isDone (a .number) ≡ true → GoesOn budget state flash a
+Follows (Entry.Slow clock list) a state flash = erasingIn (a .state) ≡ erasingIn state
 
 abbrev pub ErasureFollows : Entries → Type 0
 ErasureFollows E = (state flash : List ℕ) → Hosted E state flash → (e : Entry) → InC e → Follows e (answerOf E e state flash) state flash
@@ -79,6 +80,7 @@ isStart (Entry.Request clock link bc errors packet m x reply) = false
 isStart (Entry.Reply clock slave bc errors status address packet reply) = false
 isStart (Entry.Poll clock reply) = false
 isStart (Entry.Erase budget) = false
+isStart (Entry.Slow clock list) = false
 
 abbrev pub budgetOf : Entry → ℕ
 budgetOf (Entry.Start kind ports subdetector program version tests clock) = 0
@@ -86,6 +88,7 @@ budgetOf (Entry.Request clock link bc errors packet m x reply) = 0
 budgetOf (Entry.Reply clock slave bc errors status address packet reply) = 0
 budgetOf (Entry.Poll clock reply) = 0
 budgetOf (Entry.Erase budget) = budget
+budgetOf (Entry.Slow clock list) = 0
 
 abbrev pub countOf : ℕ → ℕ
 countOf number = pick (eqb (number / 256 % 256) 0) (number / 4294967296) 0

@@ -1,5 +1,5 @@
 -- The entries of one group as its host makes them: each lent the bytes that the entry before left. 01 'Call refusals' and 'Group
--- assembly'. Assumes nothing.
+-- assembly', and 02, request 7. Assumes nothing.
 use Prim.Native.Nat.{ℕ, _/_, _%_}
 use mathlib.Core.Bool.{Bool, _&&_, _||_}
 use mathlib.Core.List.{List, [], _∷_, _++_}
@@ -20,19 +20,22 @@ pub data Event : Type 0 where
   Replied : (clock slave bc errors status address : ℕ) (packet : List ℕ) → Event
   Polled : (clock : ℕ) → Event
   Erased : (budget : ℕ) → Event
+  Slowed : (clock : ℕ) (list : List ℕ) → Event
 
--- The entry, lent a reply buffer; erase progress isn't lent one. And the reply buffer after it.
+-- The entry, lent a reply buffer; erase progress and the slow-control step aren't lent one. And the reply buffer after it.
 abbrev pub entryOf : Event → List ℕ → Entry
 entryOf (Event.Requested clock link bc errors packet m x) buffer = Entry.Request clock link bc errors packet m x buffer
 entryOf (Event.Replied clock slave bc errors status address packet) buffer = Entry.Reply clock slave bc errors status address packet buffer
 entryOf (Event.Polled clock) buffer = Entry.Poll clock buffer
 entryOf (Event.Erased budget) buffer = Entry.Erase budget
+entryOf (Event.Slowed clock list) buffer = Entry.Slow clock list
 
 abbrev pub bufferLeft : Event → Answered → List ℕ → List ℕ
 bufferLeft (Event.Requested clock link bc errors packet m x) a buffer = a .runs .reply
 bufferLeft (Event.Replied clock slave bc errors status address packet) a buffer = a .runs .reply
 bufferLeft (Event.Polled clock) a buffer = a .runs .reply
 bufferLeft (Event.Erased budget) a buffer = buffer
+bufferLeft (Event.Slowed clock list) a buffer = buffer
 
 -- The node's calls that they are, on words. A reply of more than 32,768 words is refused, so it is none.
 abbrev pub callOf : Event → List Call
@@ -42,6 +45,7 @@ callOf (Event.Replied clock slave bc errors status address packet) =
     pick (ltb 32768 (length packet / 2)) [] (Call.Replied clock slave bc (isSet errors) status address (wordsOf 2 packet) ∷ [])
 callOf (Event.Polled clock) = Call.Polled clock ∷ []
 callOf (Event.Erased budget) = Call.Erased budget ∷ []
+callOf (Event.Slowed clock list) = Call.Slowed clock (wordsOf 2 list) ∷ []
 
 unfoldable pub callsOf : List Event → List Call
 callsOf [] = []

@@ -1,6 +1,6 @@
 -- Refused exactly, over the bytes that a host lends: the low byte of the number that an entry answers is the number of the first cause
 -- that holds, and 0 where none does; and a refused entry leaves every byte. 01 'Call refusals', each cause in the words of its table, with
--- the limits that 'Covered' sets at the C border; 8 is of 02, request 1. Assumes nothing.
+-- the limits that 'Covered' sets at the C border; 8 and 9 are of 02, requests 1 and 7. Assumes nothing.
 use Prim.Native.Nat.{ℕ, _+_, _*_, _/_, _%_, _≤_, _<_}
 use mathlib.Core.Path.{_≡_}
 use mathlib.Core.Logic.{_⊎_, _↔_}
@@ -8,25 +8,26 @@ use mathlib.Core.Bool.{true}
 use mathlib.Core.List.{List, [], _∷_}
 use lib.ListN.{length}
 use Rattle.node.specs.Effect.{Lent}
-use Rattle.node.specs.Calls.{lentReply, lentFlash}
+use Rattle.node.specs.Calls.{lentReply, lentFlash, lentList}
 use Rattle.node.specs.declared.Node.{Node}
 use Rattle.demands.specs.Refusals.{Cause, cause, FirstOf, IsState}
 use Rattle.codec.specs.Bytes.{numberAt}
-use Rattle.codec.specs.StateBytes.{sizeIn, portsIn, encodeOf, nodeIn, areState}
+use Rattle.codec.specs.StateBytes.{sizeIn, portsIn, listedIn, encodeOf, nodeIn, areState}
 use Rattle.codec.specs.Kept.{Typed}
-use Rattle.logodwen.specs.Entry.{Answered, startEntry, requestEntry, replyEntry, pollEntry, eraseEntry}
+use Rattle.logodwen.specs.Entry.{Answered, startEntry, requestEntry, replyEntry, pollEntry, eraseEntry, slowEntry}
 
--- Anything that answers the five entries. The statement is of any such five, so that it can be seen to shut out wrong ones.
+-- Anything that answers the six entries. The statement is of any such six, so that it can be seen to shut out wrong ones.
 pub record Entries : Type 0 where
   pub start : (kind ports subdetector program version tests clock : ℕ) (flash state : List ℕ) → Answered
   pub request : (clock link bc errors : ℕ) (packet state : List ℕ) (runs : Lent) → Answered
   pub reply : (clock slave bc errors status address : ℕ) (packet state reply : List ℕ) → Answered
   pub poll : (clock : ℕ) (state reply : List ℕ) → Answered
   pub erase : (budget : ℕ) (state flash : List ℕ) → Answered
+  pub slow : (clock : ℕ) (state list : List ℕ) → Answered
 
 -- Ours, of the C border.
 abbrev pub entries : Entries
-entries = record { start = startEntry; request = requestEntry; reply = replyEntry; poll = pollEntry; erase = eraseEntry }
+entries = record { start = startEntry; request = requestEntry; reply = replyEntry; poll = pollEntry; erase = eraseEntry; slow = slowEntry }
 
 -- A run holds more than so many words of k bytes: an unfinished last word is none.
 abbrev pub Above : ℕ → ℕ → List ℕ → Type 0
@@ -50,32 +51,37 @@ Pends state = (numberAt 1 15 state ≡ 1) ⊎ (numberAt 1 15 state ≡ 2)
 abbrev pub Asks : List ℕ → ℕ → Type 0
 Asks state slave = Pends state × (numberAt 1 29 state ≡ slave)
 
--- The rows that more than one entry has: 1, with the size used at start as bytes 20-23 keep it where the state bytes are 188; 2 and 5.
+-- The rows that more than one entry has: 1, with the size used at start as bytes 20-23 keep it where the state bytes are 192; 2; 9, of records of 14
+-- bytes, with the entries listed as the two bytes at 188 count them where the state bytes are 192; and 5.
 abbrev pub flashCause : List ℕ → List ℕ → Cause
-flashCause state flash = cause 1 ((BenchSize flash → ⊥) ⊎ ((length state ≡ 188) × (length flash / 2 ≡ sizeIn state → ⊥)))
+flashCause state flash = cause 1 ((BenchSize flash → ⊥) ⊎ ((length state ≡ 192) × (length flash / 2 ≡ sizeIn state → ⊥)))
 
 abbrev pub replyCause : List ℕ → Cause
 replyCause reply = cause 2 (length reply < 2 * 12288)
 
+abbrev pub listCause : List ℕ → List ℕ → Cause
+listCause state list = cause 9 (Above 14 910 list ⊎ ((length state ≡ 192) × (length list / 14 < listedIn state)))
+
 abbrev pub stateCause : List ℕ → Cause
 stateCause state = cause 5 (OfState state → ⊥)
 
--- The table, each row where the entry has that input. At start what stands in the state bytes isn't looked at, but there must be 188.
+-- The table, each row where the entry has that input. At start what stands in the state bytes isn't looked at, but there must be 192.
 abbrev pub startCauses : ℕ → ℕ → ℕ → List ℕ → List ℕ → List Cause
 startCauses kind ports subdetector flash state =
     cause 1 (BenchSize flash → ⊥)
     ∷ cause 4 ((((1 ≤ ports) × (ports ≤ 4) → ⊥) ⊎ ((kind ≡ 1) ⊎ (kind ≡ 2) → ⊥)) ⊎ (7 < subdetector))
-    ∷ cause 5 (length state ≡ 188 → ⊥)
+    ∷ cause 5 (length state ≡ 192 → ⊥)
     ∷ []
 
--- Row 4 takes the port count from byte 1, where the state bytes are 188.
+-- Row 4 takes the port count from byte 1, where the state bytes are 192.
 abbrev pub requestCauses : ℕ → List ℕ → List ℕ → Lent → List Cause
 requestCauses link packet state runs =
     flashCause state (runs .flash)
     ∷ replyCause (runs .reply)
     ∷ cause 3 ((Above 4 8192 (runs .memories .pm) ⊎ Above 2 8192 (runs .memories .dm)) ⊎ Above 2 4096 (runs .memories .io))
     ∷ cause 8 (length (runs .further .area) < 2 * 32768)
-    ∷ cause 4 ((length state ≡ 188) × (link < portsIn state → ⊥))
+    ∷ listCause state (runs .further .list)
+    ∷ cause 4 ((length state ≡ 192) × (link < portsIn state → ⊥))
     ∷ stateCause state
     ∷ cause 6 (Pends state × (2 ≤ length packet))
     ∷ []
@@ -89,6 +95,9 @@ pollCauses state reply = replyCause reply ∷ stateCause state ∷ cause 7 (Pend
 
 abbrev pub eraseCauses : List ℕ → List ℕ → List Cause
 eraseCauses state flash = flashCause state flash ∷ stateCause state ∷ []
+
+abbrev pub slowCauses : List ℕ → List ℕ → List Cause
+slowCauses state list = listCause state list ∷ stateCause state ∷ []
 
 -- A number is that of the first cause that holds.
 abbrev pub Exactly : List Cause → ℕ → Type 0
@@ -120,6 +129,9 @@ pub record RefusedExactly (E : Entries) : Type 0 where
   pub erase : (budget : ℕ) (state flash : List ℕ)
       → let a : Answered = E .erase budget state flash in
       Exactly (eraseCauses state flash) (a .number % 256) × Unchanged a state (lentFlash flash)
+  pub slow : (clock : ℕ) (state list : List ℕ)
+      → let a : Answered = E .slow clock state list in
+      Exactly (slowCauses state list) (a .number % 256) × Unchanged a state (lentList list)
 
 -- Bytes pass the border's test exactly if they are those of a state, and then that state is the one that they are taken for.
 pub record StateBytesExactly : Type 0 where

@@ -54,6 +54,7 @@ SetByErasing (Entry.Request clock link bc errors packet m x reply) state i = ⊥
 SetByErasing (Entry.Reply clock slave bc errors status address packet reply) state i = ⊥
 SetByErasing (Entry.Poll clock reply) state i = ⊥
 SetByErasing (Entry.Erase budget) state i = InStep state budget i
+SetByErasing (Entry.Slow clock list) state i = ⊥
 
 -- A bit that was 0 is 0, but in the bytes that a step of an erasure sets. Any entry, lent any state bytes and any flash bytes.
 abbrev pub NoBitRises : Entries → Type 0

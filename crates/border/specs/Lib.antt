@@ -13,6 +13,7 @@ pub mod Events
 pub mod Groups
 pub mod Ends
 pub mod Captures
+pub mod Listing
 pub mod ClosedRun
 pub mod Demands
 pub mod ShutOut

@@ -5,15 +5,16 @@ use Rattle.demands.specs.Settled.{Settles}
 use Rattle.logodwen.proofs as Logodwen
 use Rattle.lines.proofs as Lines
 
--- The five entries, the check sequence, and the reader of captured replies.
+-- The six entries, the check sequence, and the reader of captured replies.
 pub record EntriesSettled : Type 0 where
-  pub start : Settles Logodwen.logodwen3_start.Kinds.ps Logodwen.logodwen3_start.Kinds.r Logodwen.logodwen3_start.Reads.Learnt
-  pub request : Settles Logodwen.logodwen3_request.Kinds.ps Logodwen.logodwen3_request.Kinds.r Logodwen.logodwen3_request.Reads.Learnt
-  pub reply : Settles Logodwen.logodwen3_reply.Kinds.ps Logodwen.logodwen3_reply.Kinds.r Logodwen.logodwen3_reply.Reads.Learnt
-  pub poll : Settles Logodwen.logodwen3_poll.Kinds.ps Logodwen.logodwen3_poll.Kinds.r Logodwen.logodwen3_poll.Reads.Learnt
-  pub erase : Settles Logodwen.logodwen3_erase.Kinds.ps Logodwen.logodwen3_erase.Kinds.r Logodwen.logodwen3_erase.Reads.Learnt
-  pub fcs : Settles Logodwen.sequence.logodwen3_fcs.Kinds.ps Logodwen.sequence.logodwen3_fcs.Kinds.r Logodwen.sequence.logodwen3_fcs.Reads.Learnt
-  pub capture : Settles Logodwen.captured.logodwen3_capture.Kinds.ps Logodwen.captured.logodwen3_capture.Kinds.r Logodwen.captured.logodwen3_capture.Reads.Learnt
+  pub start : Settles Logodwen.logodwen4_start.Kinds.ps Logodwen.logodwen4_start.Kinds.r Logodwen.logodwen4_start.Reads.Learnt
+  pub request : Settles Logodwen.logodwen4_request.Kinds.ps Logodwen.logodwen4_request.Kinds.r Logodwen.logodwen4_request.Reads.Learnt
+  pub reply : Settles Logodwen.logodwen4_reply.Kinds.ps Logodwen.logodwen4_reply.Kinds.r Logodwen.logodwen4_reply.Reads.Learnt
+  pub poll : Settles Logodwen.logodwen4_poll.Kinds.ps Logodwen.logodwen4_poll.Kinds.r Logodwen.logodwen4_poll.Reads.Learnt
+  pub erase : Settles Logodwen.logodwen4_erase.Kinds.ps Logodwen.logodwen4_erase.Kinds.r Logodwen.logodwen4_erase.Reads.Learnt
+  pub slow : Settles Logodwen.logodwen4_slow.Kinds.ps Logodwen.logodwen4_slow.Kinds.r Logodwen.logodwen4_slow.Reads.Learnt
+  pub fcs : Settles Logodwen.sequence.logodwen4_fcs.Kinds.ps Logodwen.sequence.logodwen4_fcs.Kinds.r Logodwen.sequence.logodwen4_fcs.Reads.Learnt
+  pub capture : Settles Logodwen.captured.logodwen4_capture.Kinds.ps Logodwen.captured.logodwen4_capture.Kinds.r Logodwen.captured.logodwen4_capture.Reads.Learnt
 
 -- The readers of lines, the bench's and captures: what a line says, and each word of the buffer.
 pub record LinesSettled : Type 0 where

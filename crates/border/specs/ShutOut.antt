@@ -7,8 +7,8 @@ use Rattle.base.specs.Words.{laid}
 use Rattle.demands.specs.Requests.{isCommand}
 use Rattle.codec.specs.Bytes.{wordsOf}
 use lib.ListN.{length}
-use Rattle.node.specs.Calls.{lentReply, lentFlash}
-use Rattle.logodwen.specs.Entry.{Answered, answered, startEntry, requestEntry, replyEntry, pollEntry, eraseEntry}
+use Rattle.node.specs.Calls.{lentReply, lentFlash, lentList}
+use Rattle.logodwen.specs.Entry.{Answered, answered, startEntry, requestEntry, replyEntry, pollEntry, eraseEntry, slowEntry}
 use Rattle.border.specs.Exactly.{Entries}
 use Rattle.border.specs.Kept.{NoStaleRecord}
 use Rattle.border.specs.Flash.{NoBitRises}
@@ -27,6 +27,7 @@ refusing number =
       reply = λ clock slave bc errors status address packet state reply. answered number state (lentReply reply);
       poll = λ clock state reply. answered number state (lentReply reply);
       erase = λ budget state flash. answered number state (lentFlash flash);
+      slow = λ clock state list. answered number state (lentList list);
     }
 
 -- Scans at start only: a request does all that it answers, but leaves the state bytes as they were.
@@ -41,6 +42,7 @@ scanning =
       reply = replyEntry;
       poll = pollEntry;
       erase = eraseEntry;
+      slow = slowEntry;
     }
 
 -- Answers the low 32 bits of a request's number: no reply has words.
@@ -55,6 +57,7 @@ cutting =
       reply = replyEntry;
       poll = pollEntry;
       erase = eraseEntry;
+      slow = slowEntry;
     }
 
 -- Erases all at the first progress call, whatever it answers.
@@ -69,6 +72,7 @@ hasty says =
       reply = replyEntry;
       poll = pollEntry;
       erase = λ budget state flash. answering (says budget) (eraseEntry (length flash) state flash);
+      slow = slowEntry;
     }
 
 -- Says END to every File Write, and stores nothing of one that it should answer ABORT.
@@ -84,6 +88,7 @@ lying =
       reply = replyEntry;
       poll = pollEntry;
       erase = eraseEntry;
+      slow = slowEntry;
     }
 
 -- Has sector 3 being erased after every request.
@@ -96,6 +101,7 @@ rogue =
       reply = replyEntry;
       poll = pollEntry;
       erase = eraseEntry;
+      slow = slowEntry;
     }
 
 -- Answers as it should, but stores nothing of what slaves reply.
@@ -109,6 +115,7 @@ forgetful =
           answered (a .number) (a .state) (lentReply reply);
       poll = pollEntry;
       erase = eraseEntry;
+      slow = slowEntry;
     }
 
 -- Each fails a promise, by its name in `Demands`.
