@@ -169,7 +169,7 @@ class Bench:
     """A node on a flash, as host/audit has it."""
 
     def __init__(self, flash=None):
-        self.lent = Lent(flash or [0xFFFF] * 32768, {"PM": [], "DM": [], "IO": []}, [0] * JOINED, [0] * AREA)
+        self.lent = Lent(flash or [0xFFFF] * 32768, {"PM": [], "DM": [], "IO": []}, [0] * JOINED, [], [0] * AREA)
         self.node, answer = start(CDP, 1, 0, 0, 0, 0, 0, self.lent.flash)
         assert answer == ("started",)
 

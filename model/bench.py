@@ -33,7 +33,7 @@ def hexadecimal(digits):
     return lambda text: int(text, 16) if re.fullmatch(rb"[0-9A-Fa-f]{%s}" % digits, text) else None
 
 
-LINK = below(2**32), "no link, and none of reply, poll, erase, clock, error, help; fields are parted by tabs"
+LINK = below(2**32), "no link, and none of reply, poll, erase, slow, clock, error, help; fields are parted by tabs"
 SLAVE = below(2**32), "no decimal number below 4294967296"
 BUDGET = below(2**64), "no decimal number below 18446744073709551616"
 BC = (lambda text: int(text) if text in (b"0", b"1", b"2", b"3") else None), "no BC, 0 to 3"
@@ -46,6 +46,7 @@ SHAPES = {
     b"reply": ((SLAVE, BC, FLAG, WORD, WORD), True),
     b"poll": ((), False),
     b"erase": ((BUDGET,), False),
+    b"slow": ((), False),
     b"clock": ((TICKS,), False),
     b"error": ((), False),
     b"help": ((), False),
@@ -114,7 +115,8 @@ def help_lines():
 
 class Bench:
     def __init__(self):
-        self.lent = calls.Lent([0xFFFF] * 32768, {PM: [0] * 32768, DM: [0] * 32768, IO: [0] * 4096}, [0] * 32768, [0] * 12288)
+        memories = {PM: [0] * 32768, DM: [0] * 32768, IO: [0] * 4096}
+        self.lent = calls.Lent([0xFFFF] * 32768, memories, [0] * 32768, [0] * 7 * 910, [0] * 12288)
         self.node, _ = calls.start(calls.CDDC, 4, 0, 0, 0, 0, 0, self.lent.flash)
         self.clock, self.error, self.held = 0, 0, []
 
@@ -135,6 +137,10 @@ class Bench:
 
     def erase(self, budget):
         self.node, answer = calls.erase(self.node, self.lent.flash, budget)
+        return self.shown(answer)
+
+    def slow(self):
+        self.node, answer = calls.slow(self.node, self.lent.qlist, self.clock)
         return self.shown(answer)
 
     def shown(self, answer):

@@ -97,6 +97,29 @@ def long_replies():
         yield from in_packets(slave, sealed(data[slave:slave + 500]), *range(50 + slave, 490, 50 + slave))
 
 
+def list_write(count):
+    """A Q-List Write of so many entries, which are due one tick after the other."""
+    entries = [word for place in range(count) for word in (0x0008, place % 4, place + 1, place, count)]
+    return fields(0, 3, b"5C2E", *words(segment(DM, 0x2000, [count, *entries])))
+
+
+def long_lists():
+    """As many entries as a Q-List has room for, in one write or in several, and one more; steps once round and on, and what is left then."""
+    for counts in ((911, 910, 1), (455, 455, 1), (900, 11, 10)):
+        for count in counts:
+            yield list_write(count)
+            yield fields(0, 3, b"1C2E")
+        yield fields(b"clock", b"%x" % 800)
+        for _ in range(920):
+            yield b"slow"
+        yield fields(0, 3, b"5B2E")
+        yield fields(0, 3, b"1C2E")
+        yield b"slow"
+        yield fields(0, 3, b"5B2E", b"FFFF")
+        yield fields(b"clock", b"0")
+    yield fields(0, 3, b"1C2E")
+
+
 def odd_lines(pick):
     """Lines of the right shape, most of them what the node waits for, and lines with a byte changed, put in or left out."""
     bench = Bench()
@@ -111,9 +134,10 @@ def odd_lines(pick):
         lambda: fields(b"clock", b"%x" % pick.choice((0, 59, 60, 2**32 - 1, pick.randrange(2**32)))),
         lambda: b"error",
         lambda: fields(b"#", 1),
+        lambda: b"slow",
     )
     for _ in range(4000):
-        weights = (2, 1, 1, 12, 12, 2, 1, 1, 1, 1) if bench.node.pending else (15, 6, 4, 1, 1, 1, 4, 1, 1, 1)
+        weights = (2, 1, 1, 12, 12, 2, 1, 1, 1, 1, 1) if bench.node.pending else (15, 6, 4, 1, 1, 1, 4, 1, 1, 1, 6)
         line = pick.choices(kinds, weights)[0]()
         line = spoiled(pick, line) if pick.randrange(5) == 0 else line
         said_of(0, line, bench.answer)
@@ -171,6 +195,9 @@ def packet(pick):
         [0x072E],
         [0x0C2E],
         [0x112E, 0x4005, 0x2000],
+        [0x5C2E, *segment(DM, 0x2000, [1, pick.choice((0x0008, 0x0108, 0x0000)), pick.randrange(4), pick.choice((0, 1, 1, 60)), 7, name])],
+        [0x5B2E, *pick.choice(((), (0,), (name,), (0xFFFF,)))],
+        [0x1C2E],
         [pick.choice((0x040, 0x023, 0x02A)) | pick.randrange(8) << 8, pick.choice((0, 0x80)), 0x0C2E, *run],
         [pick.randrange(24) | 0x0400, *run],
         run,
@@ -193,6 +220,7 @@ def main(arguments):
         "long": b"\n".join(long_lines()),
         "writes": b"\n".join(long_writes()),
         "replies": b"\n".join(long_replies()),
+        "lists": b"\n".join(long_lists()),
         "odd": b"\n".join(odd_lines(random.Random(1))) + b"\n",
     }
     for name, script in scripts.items():

@@ -85,11 +85,29 @@ def packets(room, *held):
     return told + [3]
 
 
+def list_write(room, *numbers):
+    """A Q-List Write of entries of five numbers each, header, repetitions, frequency of 24 bits and parameters; none where some can't be
+    written: delayed, frequency 0, or a number too large (02, request 7)."""
+    told = []
+    for at in range(0, len(numbers), 5):
+        header, repetitions, frequency, first, second = numbers[at:at + 5]
+        if header > 0xFF or not header & 0x08 or not 0 < frequency < 1 << 24 or max(repetitions, first, second) > 0xFFFF:
+            return []
+        told += [frequency >> 16 << 8 | header, repetitions, frequency & 0xFFFF, first, second]
+    count = len(numbers) // 5
+    return fitting(room, own(0x5C, *segment_of(DM, 0, 0x2000, [count, *told]))) if count <= 910 else []
+
+
 REQUESTS = {
     "status": lambda: own(0x0C),
     "summary": lambda: own(0x07),
     "mode_read": lambda: own(0x12),
     "mask_read": lambda: own(0x17),
+    "list_read": lambda: own(0x1C),
+    "list_delete_expired": lambda: own(0x5B),
+    "list_delete_all": lambda: own(0x5B, 0xFFFF),
+    "list_delete": lambda place: own(0x5B, place) if place < 910 else [],
+    "list_write": list_write,
     "file_read": named(0x05),
     "file_test": named(0x06),
     "file_load": named(0x46),
@@ -113,12 +131,28 @@ REQUESTS = {
 }
 
 
+def some_entry():
+    """Header, repetitions, frequency and parameters of an entry that can be written."""
+    return [chance.getrandbits(8) | 0x08, word(), chance.choice((1, 0xFFFF, 0x10000, 0xFFFFFF, chance.randrange(1, 1 << 24))), word(), word()]
+
+
 def request_lines():
     def line(name, *given):
         return (name, *given), REQUESTS[name](*given)
 
-    for name in ("status", "summary", "mode_read", "mask_read", "to_all"):
+    for name in ("status", "summary", "mode_read", "mask_read", "list_read", "list_delete_expired", "list_delete_all", "to_all"):
         yield line(name)
+    for value in (0, 1, 909, 910, 0xFFFF, 0x10000, 0xFFFFFFFF):
+        yield line("list_delete", value)
+    for count in (0, 1, 2, 9, 909, 910, 911):
+        for room in (0, 1, 4, 5, 9, 10, 11, 5 * count + 4, 5 * count + 5, 9000):
+            yield line("list_write", room, *(number for _ in range(count) for number in some_entry()))
+    for place, value in ((0, 0), (0, 0xF7), (0, 0x108), (0, 0xFFFFFFF8), (1, 0), (1, 0xFFFF), (1, 0x10000), (2, 0), (2, 1), (2, 0xFFFF),
+                         (2, 0x10000), (2, 0xFFFFFF), (2, 0x1000000), (2, 0xFFFFFFFF), (3, 0x10000), (4, 0xFFFF), (4, 0x80000000)):
+        entry = some_entry()
+        entry[place] = value
+        for entries in (entry, some_entry() + entry, entry + some_entry()):
+            yield line("list_write", 100, *entries)
     for name in ("file_read", "file_test", "file_load", "erase_start"):
         for value in (0, 1, 0x21, 0xFF, 0x100, 0xFFFFFFFF):
             yield line(name, value)
@@ -253,7 +287,7 @@ def status_lines():
         versions, tests, subdetector = words(2), word(), chance.randrange(8)
         image = [0xFFFF] * 32768
         state, _ = node.start(kind, ports, subdetector, *versions, tests, clock, image)
-        lent = node.Lent(image, {PM: [], DM: [], IO: []}, [0] * 32768, [0] * 12288)
+        lent = node.Lent(image, {PM: [], DM: [], IO: []}, [0] * 32768, [], [0] * 12288)
         for _ in range(chance.randrange(3)):
             state, _ = node.request(state, lent, clock, 0, 3, 1, [])
         ticks, link = chance.getrandbits(32), chance.randrange(ports)
@@ -293,6 +327,27 @@ def named_lines():
             found = [sector for sector, first in firsts.items() if files.may_start(first) and files.name_of(first) == name]
             yield ("read_named", name, *reply), [sum(1 << sector for sector in found)]
             yield ("read_named", name, *damaged(reply)), [0]
+
+
+def list_lines():
+    """Entries that a node lists, as they stand in its list and in its reply to Q-List Read."""
+    for count, more in ((0, 0), (1, 0), (1, 6), (2, 1), (7, 5), (910, 0)):
+        image, clock, entries = [0xFFFF] * 32768, chance.getrandbits(32), [some_entry() for _ in range(count)]
+        state, _ = node.start(1, 1, 0, 0, 0, 0, clock, image)
+        lent = node.Lent(image, {PM: [], DM: [], IO: []}, [0] * 32768, words(7 * count + more), [0] * 12288)
+        state, _ = node.request(state, lent, clock, 0, 3, 0, list_write(9000, *(number for entry in entries for number in entry)))
+        _, answer = node.request(state, lent, clock, 0, 3, 0, own(0x1C))
+        reply = lent.reply[:answer[2]]
+        for place in {0, count // 2, count - 1} & set(range(count)):
+            yield ("read_record", place, *lent.qlist), [*entries[place], (clock + entries[place][2]) % 2**32]
+            yield ("read_listed", place, *reply), [*entries[place], 0]
+        for place in (count, count + 1, 0xFFFFFFFF):
+            yield ("read_record", place, *lent.qlist), []
+            yield ("read_listed", place, *reply), []
+            yield ("read_listed", place, *reply[:2]), []
+        yield ("read_list", *reply), [1, count]
+        for broken in (damaged(reply), reply[:-1], with_status([*reply[:-2], 0], 0x01A0), with_status([count + 1, *reply[1:-2]], 0x01A0), []):
+            yield ("read_list", *broken), []
 
 
 def some_packet(bc=None, before=()):
@@ -377,8 +432,8 @@ def fcs_lines():
 
 def main(folder):
     with open(folder + "/helpers.txt", "w") as given, open(folder + "/helpers.stdout", "w") as wanted:
-        for lines in (request_lines(), file_lines(), reading_lines(), status_lines(), entry_lines(), named_lines(), group_lines(),
-                      code_lines(), fcs_lines()):
+        for lines in (request_lines(), file_lines(), reading_lines(), status_lines(), entry_lines(), named_lines(), list_lines(),
+                      group_lines(), code_lines(), fcs_lines()):
             for (name, *numbers), comes_to in lines:
                 given.write(" ".join([name, *("%X" % number for number in numbers)]) + "\n")
                 wanted.write(" ".join("%X" % number for number in comes_to or [0]) + "\n")

@@ -1,8 +1,8 @@
-"""The whole node, from document 01 and requests 1, 2, 5, 6, 8 and 10 of 02: its state, the refusals, requests, own commands, and the
-five calls start, request, reply, poll and erase. A call takes a node and what it is lent, and hands back the next node with the answer;
+"""The whole node, from document 01 and requests 1, 2, 5, 6, 7, 8 and 10 of 02: its state, the refusals, requests, own commands, and the
+six calls start, request, reply, poll, erase and slow. A call takes a node and what it is lent, and hands back the next node with the answer;
 lent lists change in place, and only if the call is accepted. An answer is a tuple: ("refused", number), ("started",), ("reply", BC, words
-in the reply buffer), ("ask", slave, word from which the request is sent on), ("next", slave that is sent NEXT), ("waiting",), or ("erased",
-words set)."""
+in the reply buffer), ("ask", slave, word from which the request is sent on), ("next", slave that is sent NEXT), ("waiting",), ("erased",
+words set), ("handed", place of a Q-List entry) or ("nothing",)."""
 
 from dataclasses import dataclass, replace
 from typing import Optional
@@ -12,6 +12,7 @@ from flash import BAD, EMPTY, GOOD, SECTORS, SEVERAL, SIZES, STATUS, attributed,
 from flash import place_for, searched, sector_to_erase, status_in, store, words_in
 from group import ABORT, AREA, END, ERROR, MORE, NEXT, Answer, ending, fragment, is_late, single, slaves_of, tally_with, zero_length
 from memory import fits, load, perform, read
+from qlist import MOST, add, clear, close_up, entries_of, may_be_written, records_in, step, written
 
 CDP, CDDC = 1, 2
 SLAVES = 24
@@ -74,6 +75,8 @@ class Node:
     erasing: Optional[Erasing] = None
     pending: Optional[Pending] = None
     write: Optional[Write] = None
+    listed: int = 0  # entries of the Q-List (02, request 7)
+    turn: int = 0  # the place of the one that the next slow-control step looks at
 
 
 ZEROS = Node()  # what a refused start hands back
@@ -86,6 +89,7 @@ class Lent:
     flash: list
     memories: dict  # by the names PM, DM and IO
     area: list  # in which the packets of a File Write are joined
+    qlist: list  # seven words a record
     reply: list
 
 
@@ -94,7 +98,7 @@ def more(count):
     return min(count + 1, 0xFFFF)
 
 
-# Call refusals: the first cause that holds, of those that the call has, in the order of the table; 8 comes behind 3.
+# Call refusals: the first cause that holds, of those that the call has, in the order of the table; 8 and 9 come behind 3.
 
 
 def flash_refused(flash, node):
@@ -111,6 +115,10 @@ def memories_refused(memories):
 
 def area_refused(area):
     return len(area) < JOINED
+
+
+def qlist_refused(qlist, node):
+    return not node.listed <= records_in(qlist) <= MOST
 
 
 def start_refused(kind, ports, subdetector):
@@ -142,6 +150,11 @@ def write_refused(node):
     return node.write.link >= node.ports or node.write.joined > JOINED
 
 
+def listing_refused(node):
+    """The turn is that of a listed entry, or 0 where none is."""
+    return node.listed > MOST or node.turn > max(node.listed - 1, 0)
+
+
 def state_refused(node):
     if start_refused(node.kind, node.ports, node.subdetector) or node.mode not in range(4):
         return True
@@ -149,7 +162,7 @@ def state_refused(node):
         return True
     if node.erasing is not None and erasing_refused(node):
         return True
-    if node.write is not None and write_refused(node):
+    if node.write is not None and write_refused(node) or listing_refused(node):
         return True
     return node.pending is not None and pending_refused(node)
 
@@ -352,6 +365,40 @@ def attribute_set(node, lent, now, link, parameters):
     return with_entry(node, sector, entry(sector, header, GOOD, len(words))), END
 
 
+# The Q-List (02, request 7).
+
+ALL_ENTRIES = 0xFFFF  # the parameter that deletes the whole list
+
+
+def qlist_write(node, lent, now, link, parameters):
+    """A DM segment at address 2000 of page 0, which says entries: they are added whole or not at all."""
+    segment = exact(DM, parameters)
+    entries = written(segment[3]) if segment and segment[1:3] == (0, 0x2000) else None
+    if entries is None or not all(may_be_written(entry) for entry in entries):
+        return node, ABORT
+    listed = node.listed + len(entries)
+    if listed > records_in(lent.qlist):
+        return node, ABORT
+    add(lent.qlist, node.listed, entries, now)
+    return replace(node, listed=listed), END
+
+
+def qlist_delete(node, lent, now, link, parameters):
+    """Without a parameter the expired entries go, with FFFF all; another one is the place of an entry that has no repetitions from now on."""
+    if not parameters:
+        return replace(node, listed=close_up(lent.qlist, node.listed), turn=0), END
+    if parameters == [ALL_ENTRIES]:
+        return replace(node, listed=0, turn=0), END
+    if parameters[0] >= node.listed:
+        return node, ABORT
+    clear(lent.qlist, parameters[0])
+    return node, END
+
+
+def qlist_read(node, lent, now, link, parameters):
+    return node, [node.listed] + [word for entry in entries_of(lent.qlist, node.listed) for word in entry.told()]
+
+
 ANY = range(JOINED + 1)  # as many as come
 COMMANDS = {  # by request ID: the command and its parameter counts
     0x0C: (read_status, (0,)),
@@ -372,6 +419,9 @@ COMMANDS = {  # by request ID: the command and its parameter counts
     0x52: (mode_write, (1,)),
     0x17: (mask_read, (0,)),
     0x57: (mask_write, (2,)),
+    0x5B: (qlist_delete, (0, 1)),
+    0x5C: (qlist_write, ANY),
+    0x1C: (qlist_read, (0,)),
 }
 OF_MASKS = (0x17, 0x57)
 NOT_WHILE_ERASING = (0x05, 0x45, 0x06, 0x46, 0x47, 0x48)
@@ -537,7 +587,7 @@ def ended(reply, built, tally, own):
     return "reply", 0b11, built + 2
 
 
-# The five calls.
+# The six calls.
 
 
 def start(kind, ports, subdetector, program_version, subdetector_version, start_tests, clock, flash):
@@ -565,6 +615,7 @@ def request(node, lent, now, link, bc, receive_error, packet):
         (2, buffer_refused(lent.reply)),
         (3, memories_refused(lent.memories)),
         (8, area_refused(lent.area)),
+        (9, qlist_refused(lent.qlist, node)),
         (4, link >= node.ports),
         (5, state_refused(node)),
         (6, len(packet) > 0 and node.pending is not None),
@@ -611,3 +662,14 @@ def erase(node, flash, budget):
         return replace(node, erasing=Erasing(sector, done + count)), ("erased", count)
     node = with_entry(node, sector, entry(sector, words_in(flash, sector)[0], EMPTY))
     return replace(node, erasing=None), ("erased", count)
+
+
+def slow(node, qlist, now):
+    """One slow-control step looks at the entry in turn alone; the turn moves on either way, after the last to the first."""
+    refusal = first_of((9, qlist_refused(qlist, node)), (5, state_refused(node)))
+    if refusal:
+        return node, ("refused", refusal)
+    if node.listed == 0:
+        return node, ("nothing",)
+    handed = step(qlist, node.turn, now)
+    return replace(node, turn=(node.turn + 1) % node.listed), ("handed", node.turn) if handed else ("nothing",)

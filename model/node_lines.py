@@ -4,10 +4,11 @@ A line is words of four hex digits; word 0 says what the line does. Below, a nam
 name(4) for four, the highest first. A word past the end of a line is 0; no line has more than 200 words. Every line prints one
 line; a line that prints nothing else prints an empty one. Hex digits are lower case in what is printed.
 
-There are six memories, by number: 0 flash (262,160 words), 1 PM (32,784 words of 32 bits), 2 DM (32,784), 3 IO (4,112), 4 the reply
-buffer (12,304) and 5 the area in which the packets of a File Write are joined (32,784). At first all words are 0, the node is all
-zeros, and nothing is lent. The first words of each memory are lent to a call, as many as the last line 9 said. The node that a call
-hands back is kept for the next line, that of a refused start too.
+There are seven memories, by number: 0 flash (262,160 words), 1 PM (32,784 words of 32 bits), 2 DM (32,784), 3 IO (4,112), 4 the reply
+buffer (12,304), 5 the area in which the packets of a File Write are joined (32,784) and 6 the Q-List (6,386), seven words a record: header,
+repetitions, frequency, the two parameters, due time low word first. At first all words are 0, the node is all zeros, and nothing is lent.
+The first words of each memory are lent to a call, as many as the last line 9 said. The node that a call hands back is kept for the next
+line, that of a refused start too.
 
     1 show kind(2) ports(2) subdetector(2) program_version subdetector_version start_tests clock(2)      start
     2 show clock(2) link(2) bc receive_error RUN                                                         request
@@ -19,9 +20,10 @@ hands back is kept for the next line, that of a refused start too.
                                                         of them, the high half first.
     7 memory at(2) RUN                                  the words of a run, from `at` on; never PM
     8 field index value(2) ..                           one field of the node, by its number below
-    9 flash(2) PM(2) DM(2) IO(2) reply(2) area(2)       how many words of each memory are lent from now on
+    9 flash(2) PM(2) DM(2) IO(2) reply(2) area(2) list(2)    how many words of each memory are lent from now on
     A memory at(2) count(2)                             prints the digest of `count` words from `at` on
     B                                                   prints the node's words
+    C show clock(2)                                     slow-control step
 
 The node takes kind, ports and sub-detector as one word each: a number above 65,535 is given to it as 65,535.
 
@@ -32,17 +34,17 @@ The fields of line 8: 0 kind, 1 ports, 2 sub-detector, 3 mode, 4 program version
 clock, 8 flash words, 9 AMSWire errors, 10 FLASH errors, 11 mask `index`, 12 directory word `index`, 13 erasing nothing, 14 erasing
 sector `index` with `value` words done, 15 nothing pending, 16 a slave pending, 17 a group pending. For 16 and 17 `index` is the
 link and `value` the clock when the slave was asked, and behind them stand slave asked(2) first words(2) tally received(2) rx_status, of
-which 16 has the slave alone. 18 no write stands, 19 a write of link `index` stands, with `value` words joined. Kind, ports, sub-detector,
-mode, sector, link, slave and first are at most 255, and the tally at most 6.
+which 16 has the slave alone. 18 no write stands, 19 a write of link `index` stands, with `value` words joined. 20 entries listed, 21 the turn.
+Kind, ports, sub-detector, mode, sector, link, slave and first are at most 255, the tally at most 6, listed and turn at most 65,535.
 
 A call prints the digest of the node's words, then its answer:
 
-    refused N         started         erased N         waiting         ask SLAVE FIRST         next SLAVE
+    refused N       started       erased N       waiting       ask SLAVE FIRST       next SLAVE       handed PLACE       nothing
     reply BC N DIGEST WORD..      N words in the reply buffer, the digest of them, and the words themselves where N is at most 16
 
 with numbers in decimal, and a digest or a word in four hex digits. Then, for each bit of `show` that is set, a letter and the
 digest of the lent words after the call: bit 0 `f` flash, bit 1 `p` PM, bit 2 `d` DM, bit 3 `i` IO, bit 4 `r` reply buffer, bit 5
-`a` area. One space stands between any two of these.
+`a` area, bit 6 `l` Q-List. One space stands between any two of these.
 
 The digest of a run is 1 for no words; with one word more it is the digest before times 17 plus the word, modulo 65,521. Of PM both
 halves of each word count, the high half first. (An FCS would not do: it is 0 of every run that ends with its own.)
@@ -50,7 +52,7 @@ halves of each word count, the high half first. (An FCS would not do: it is 0 of
 The node's words: kind, ports, sub-detector, mode, program version, sub-detector version, start tests, start clock(2), flash
 words(2), AMSWire errors, FLASH errors, 16 masks(2), 32 directory words; 1 or 0 as something is erasing or not, sector, done(2); 0
 nothing, 1 a slave, 2 a group pending, link, slave, at(2), asked(2), first, words(2), tally, received(2), rx_status; 1 or 0 as a write
-stands or not, link, joined(2). What a case doesn't have is 0: 99 words in all."""
+stands or not, link, joined(2); entries listed, the turn. What a case doesn't have is 0: 101 words in all."""
 
 from dataclasses import replace
 
@@ -58,14 +60,15 @@ import node as model
 from files import DM, IO, PM
 from words import digest, run_of
 
-START, REQUEST, REPLY, POLL, ERASE, FILL, POKE, SET, LEND, DIGEST, STATE = range(1, 12)
-MEMORY_ROOM = (262160, 32784, 32784, 4112, 12304, 32784)
-FLASH, PROGRAM, DATA, REGISTERS, BUFFER, AREA = range(6)
-LETTERS = "fpdira"
-SCALARS = (
+START, REQUEST, REPLY, POLL, ERASE, FILL, POKE, SET, LEND, DIGEST, STATE, SLOW = range(1, 13)
+MEMORY_ROOM = (262160, 32784, 32784, 4112, 12304, 32784, 6386)
+FLASH, PROGRAM, DATA, REGISTERS, BUFFER, AREA, QLIST = range(7)
+LETTERS = "fpdiral"
+SCALARS = dict(enumerate((
     "kind", "ports", "subdetector", "mode", "program_version", "subdetector_version", "start_tests", "start_clock", "flash_words",
     "amswire", "flash_errors",
-)
+))) | {20: "listed", 21: "turn"}
+NUMBERS = {name: number for number, name in SCALARS.items()}
 MASK, DIRECTORY, ERASING_NOTHING, ERASING, PENDING_NOTHING, PENDING_SLAVE, PENDING_GROUP, NO_WRITE, WRITE = range(11, 20)
 
 
@@ -79,7 +82,8 @@ def words_of_node(node):
     words += [half for mask in node.masks for half in halves(mask)] + list(node.directory)
     words += [1, node.erasing.sector] + halves(node.erasing.done) if node.erasing else [0] * 4
     words += words_of_pending(node.pending) if node.pending else [0] * 14
-    return words + ([1, node.write.link] + halves(node.write.joined) if node.write else [0] * 4)
+    words += [1, node.write.link] + halves(node.write.joined) if node.write else [0] * 4
+    return words + [node.listed, node.turn]
 
 
 def words_of_pending(pending):
@@ -143,7 +147,7 @@ class Program:
     def line(self, words):
         items = Items(words)
         does = items.number()
-        if does in (START, REQUEST, REPLY, POLL, ERASE):
+        if does in (START, REQUEST, REPLY, POLL, ERASE, SLOW):
             return self.call(does, items)
         if does == DIGEST:
             memory, at, count = items.number(), items.number(2), items.number(2)
@@ -169,7 +173,7 @@ class Program:
 
     def set(self, items):
         field, index, value = items.number(), items.number(), items.number(2)
-        if field < len(SCALARS):
+        if field in SCALARS:
             self.node = replace(self.node, **{SCALARS[field]: value})
         elif field in (MASK, DIRECTORY):
             name = "masks" if field == MASK else "directory"
@@ -195,7 +199,7 @@ class Program:
     def call(self, does, items):
         show = items.number()
         self.node, self.answer = {
-            START: self.start, REQUEST: self.request, REPLY: self.reply, POLL: self.poll, ERASE: self.erase
+            START: self.start, REQUEST: self.request, REPLY: self.reply, POLL: self.poll, ERASE: self.erase, SLOW: self.slow
         }[does](items)
         shown = ["%04x" % digest(words_of_node(self.node)), self.said()]
         for memory, letter in enumerate(LETTERS):
@@ -211,7 +215,7 @@ class Program:
 
     def request(self, items):
         memories = {PM: self.lent[PROGRAM], DM: self.lent[DATA], IO: self.lent[REGISTERS]}
-        lent = model.Lent(self.lent[FLASH], memories, self.lent[AREA], self.lent[BUFFER])
+        lent = model.Lent(self.lent[FLASH], memories, self.lent[AREA], self.lent[QLIST], self.lent[BUFFER])
         return model.request(
             self.node, lent, items.number(2), items.number(2), items.number(), items.number(), items.run()
         )
@@ -227,6 +231,9 @@ class Program:
 
     def erase(self, items):
         return model.erase(self.node, self.lent[FLASH], items.number(4))
+
+    def slow(self, items):
+        return model.slow(self.node, self.lent[QLIST], items.number(2))
 
     # What is printed.
 

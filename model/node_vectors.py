@@ -4,6 +4,8 @@ from node_lines import Program
 from script import Script
 from scripts_flash import bad_sectors, directories, every_sector, files, long_files
 from scripts_lengths import erasing_lengths, shown_lengths, wrong_lengths
+from scripts_list import kept_lists, list_deletes, list_frequencies, list_is_full, list_meanwhile, list_refusals, list_room, list_segments
+from scripts_list import list_turns, list_writes
 from scripts_memory import headers, loads, long_segments, runs_of_memory, segments
 from scripts_names import doubled_names, kept_twice, one_being_erased, one_that_counts
 from scripts_remains import nothing_behind, remains, remains_come_and_go
@@ -31,6 +33,7 @@ SCRIPTS = (
     doubled_names, one_being_erased, one_that_counts, kept_twice,
     every_end, single_words, whole_or_divided, packet_room, long_counts, packet_times, packet_errors, leftovers, everyone_in_packets,
     dropped_between, between_packets, kept_replies, received_ranges, not_of_a_group,
+    list_writes, list_segments, list_frequencies, list_is_full, list_room, list_deletes, list_turns, list_meanwhile, kept_lists, list_refusals,
 )
 
 

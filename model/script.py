@@ -7,15 +7,15 @@ from build import file_of, segment
 from files import DM, IO, PM
 from flash import SIZES
 from node import CDDC
-from node_lines import BUFFER, DATA, DIGEST, ERASE, FILL, FLASH, LEND, NO_WRITE, PENDING_GROUP, PENDING_SLAVE, POKE, POLL, PROGRAM
-from node_lines import REGISTERS, REPLY, REQUEST, SCALARS, SET, START, STATE, WRITE, Program, halves
+from node_lines import BUFFER, DATA, DIGEST, ERASE, FILL, FLASH, LEND, MEMORY_ROOM, NO_WRITE, NUMBERS, PENDING_GROUP, PENDING_SLAVE, POKE
+from node_lines import POLL, PROGRAM, REGISTERS, REPLY, REQUEST, SET, SLOW, START, STATE, WRITE, Program, halves
 from runs import check_sequence
 from words import line_of, run_of
 
 BENCH, FULL = SIZES
 OWN = 0x2E
-SHOW_AREA = 32
-CHANGES = {0x45: 1, 0x48: 1, 0x50: 2, 0x51: 4, 0x0F: 8, 0x46: 14}  # the memories that a command can change
+SHOW_AREA, SHOW_LIST = 32, 64
+CHANGES = {0x45: 1, 0x48: 1, 0x50: 2, 0x51: 4, 0x0F: 8, 0x46: 14, 0x5B: SHOW_LIST, 0x5C: SHOW_LIST}  # the memories that a command can change
 
 
 class Run:
@@ -69,8 +69,7 @@ class Script:
         self.put(POKE, memory, *halves(at), *run(words).line())
 
     def set(self, field, value=0, index=0, *rest):
-        number = SCALARS.index(field) if field in SCALARS else field
-        self.put(SET, number, index, *halves(value), *rest)
+        self.put(SET, NUMBERS.get(field, field), index, *halves(value), *rest)
 
     def set_slave(self, link, slave, at):
         self.set(PENDING_SLAVE, at, link, slave)
@@ -82,8 +81,8 @@ class Script:
         """A write of a link stands, or none does."""
         self.set(NO_WRITE) if link is None else self.set(WRITE, joined, link)
 
-    def lend(self, flash=BENCH, pm=64, dm=64, io=64, reply=12288, area=32768):
-        self.put(LEND, *[half for count in (flash, pm, dm, io, reply, area) for half in halves(count)])
+    def lend(self, flash=BENCH, pm=64, dm=64, io=64, reply=12288, area=32768, qlist=70):
+        self.put(LEND, *[half for count in (flash, pm, dm, io, reply, area, qlist) for half in halves(count)])
 
     def digest(self, memory, at, count):
         self.put(DIGEST, memory, *halves(at), *halves(count))
@@ -122,6 +121,10 @@ class Script:
     def erase(self, budget, show=None):
         show = int(self.pick.randrange(3 if len(self.program.lent[FLASH]) <= BENCH else 9) == 0) if show is None else show
         return self.call(ERASE, show, *[budget >> 48 - 16 * place & 0xFFFF for place in range(4)])
+
+    def slow(self, clock=None, show=None):
+        show = self.pick.choice((0, 0, SHOW_LIST)) if show is None else show
+        return self.call(SLOW, show, *halves(self.now() if clock is None else clock % 2**32))
 
     # The clock goes on by a few ticks now and then; nobody is late by that.
 
@@ -228,8 +231,8 @@ class Script:
 
     def ends(self):
         """All words of all memories, and the node's."""
-        for memory, count in enumerate((len(self.program.lent[FLASH]), 32784, 32784, 4112, 12304, 32784)):
-            self.digest(memory, 0, count)
+        for memory, room in enumerate(MEMORY_ROOM):
+            self.digest(memory, 0, len(self.program.lent[FLASH]) if memory == FLASH else room)
         self.state()
 
 

@@ -4,11 +4,11 @@ from files import DM, IO, PM
 from flash import SECTORS, extent
 from node import CDDC, CDP
 from node_lines import DIRECTORY, ERASING, FLASH, MASK
-from script import BENCH, FULL, command
+from script import BENCH, FULL, SHOW_LIST, command
 from scripts_flash import flash_step
 from scripts_slaves import slave_answers
 
-EVERYTHING = 0b111111  # every memory's digest
+EVERYTHING = 0b1111111  # every memory's digest
 
 
 def out_of_range(s):
@@ -43,6 +43,8 @@ def out_of_range(s):
         lambda: s.set_group(0, slave, s.clock, asked, rx_status=pick.choice((1, 0x8000, 0xFFFF))),
         lambda: s.set_write(pick.choice((node.ports, node.ports + 1, 255)), pick.choice((0, 7, 32768))),
         lambda: s.set_write(pick.randrange(max(node.ports, 1)), pick.choice((32769, 65535, 65536, 2**31, 2**32 - 1))),
+        lambda: s.set("turn", pick.choice((max(node.listed, 1), 910, 65535))),
+        lambda: s.set("listed", pick.choice((911, 65535))),
     ]
     pick.choice(ways)()
 
@@ -74,6 +76,7 @@ def within_range(s):
         lambda: s.set_group(link, slave, s.clock, asked, words=300, received=words - 300 + pick.choice((4, 5)), rx_status=pick.randrange(9)),
         lambda: s.set_group(link, slave, s.clock, asked, words=words, received=pick.choice((4, 5)), rx_status=pick.randrange(9)),
         lambda: s.set_write(link, pick.choice((0, 1, 100, 32767, 32768))),
+        lambda: (s.set("listed", pick.choice((1, 3, 10))), s.set("turn", pick.choice((0, s.node.listed - 1)))),
     ]
     pick.choice(ways)()
 
@@ -89,7 +92,7 @@ def refusals(s):
     pick = s.pick
     sizes = (BENCH, FULL)
     for turn in range(3):
-        for causes in (*range(128), 1, 2, 4, 4, 4, 8, 16, 16, 32, 64):
+        for causes in (*range(128 * (turn % 2), 128 * (turn % 2) + 128), 1, 2, 4, 4, 4, 8, 16, 16, 32, 64, 128, 128):
             size = sizes[turn == 2 and causes % 4 == 0]
             ports = pick.randrange(1, 5)
             s.fresh(pick.choice((CDP, CDDC)), ports, size, pm=pick.choice((0, 8, 32768)), dm=64, io=64)
@@ -105,6 +108,13 @@ def refusals(s):
                 lent[name] = {"pm": 32769, "dm": 32769, "io": 4097}[name]
             if causes & 64:
                 lent["area"] = pick.choice((0, 1, 32767))
+            listed = pick.choice((0, 0, 1, 4))
+            if listed:
+                s.set("listed", listed)
+                s.set("turn", listed - 1)
+            lent["qlist"] = pick.choice((7 * listed, 7 * listed + 6, 6370))
+            if causes & 128:
+                lent["qlist"] = 7 * listed - 1 if listed else pick.choice((6377, 6384))
             if causes & 32:
                 set_pending(s)
             if causes & 16:
@@ -117,6 +127,7 @@ def refusals(s):
             s.poll(16)
             s.reply(slave, s.anything(pick.randrange(3)), show=16)
             s.erase(pick.choice((0, 1, 5000)))
+            s.slow(show=SHOW_LIST)
             s.state()
 
 
@@ -137,6 +148,7 @@ def start_refusals(s):
         s.poll()
         s.reply(0)
         s.erase(1, 0)
+        s.slow()
     s.lend()
     s.start()
     s.set("mode", 3)
@@ -177,6 +189,7 @@ def any_calls(s, count):
             lambda: slave_answers(s, slave),
             lambda: slave_answers(s, slave),
             lambda: s.erase(pick.choice((0, 1, 2, 100, 40000))),
+            lambda: s.slow(),
         ])()
 
 

@@ -1,7 +1,7 @@
 #!/usr/bin/env python3
 """The model against documents 01 and 02: each example of 01, the lines of the bench, what 01 says of every call, and what 02 says of
 files that come in several packets, of the masks at start, of the lengths in the summary, of remains behind a file, of names that
-several sectors have, of captured group replies and of slaves that answer in packets."""
+several sectors have, of captured group replies, of slaves that answer in packets and of the Q-List."""
 
 import random
 import unittest
@@ -16,7 +16,7 @@ from files import DM, IO, PM, sealed
 from flash import SECTORS, address_of, attributed, directory_of, extent, kept
 from group import ABORT, AREA, END, ERROR, MORE, NEXT, Answer, ending, fragment, is_late, tally_with, zero_length
 from memory import index, read
-from node import CDDC, CDP, ZEROS, Lent, Pending, Write, erase, poll, reply, request, start
+from node import CDDC, CDP, ZEROS, Lent, Pending, Write, erase, poll, reply, request, slow, start
 from node_lines import FLASH, POKE
 from script import Script
 from scripts_flash import flash_step
@@ -27,7 +27,7 @@ BENCH = 32768
 
 
 def lent(flash=BENCH):
-    return Lent([0xFFFF] * flash, {PM: [0] * 8192, DM: [0] * 32768, IO: [0] * 64}, [0] * 32768, [0] * AREA)
+    return Lent([0xFFFF] * flash, {PM: [0] * 8192, DM: [0] * 32768, IO: [0] * 64}, [0] * 32768, [0] * 7 * 910, [0] * AREA)
 
 
 def started(kind=CDDC, flash=BENCH, clock=0):
@@ -849,6 +849,248 @@ class Replies(unittest.TestCase):
                 self.assertEqual(erase(node, self.lent.flash, 1), (node, ("erased", 0) if fine else ("refused", 5)))
                 self.assertEqual(request(node, self.lent, 100, 0, 3, 0, [7])[1], ("refused", 6 if fine else 5))
                 self.assertEqual(reply(node, self.lent.reply, 100, 9, 3, 0, 0, 0, [])[1], ("refused", 7 if fine else 5))
+
+
+class QList(unittest.TestCase):
+    """02, request 7, and sections 7.42 to 7.44 and 13."""
+
+    SECOND = 0x2000  # the segment's second header word: page 0, address 2000
+
+    def setUp(self):
+        self.node, self.lent = started()
+        self.lent.qlist = [0xEEEE] * 7 * 910
+
+    def ask(self, packet, now=0, link=0):
+        self.node, answer = request(self.node, self.lent, now, link, 3, 0, list(packet))
+        return answer
+
+    def write(self, *entries, now=0, count=None, second=SECOND, memory=DM):
+        """What a write of entries is answered: a 0-length reply's BC."""
+        body = [len(entries) if count is None else count] + [word for entry in entries for word in entry]
+        answer = self.ask(own(0x5C, *segment(memory, second, body)), now)
+        self.assertEqual(answer[2], 0)
+        return answer[1]
+
+    def delete(self, *parameters):
+        return self.ask(own(0x5B, *parameters))[1]
+
+    def step(self, now):
+        self.node, answer = slow(self.node, self.lent.qlist, now)
+        return answer
+
+    def record(self, place):
+        return self.lent.qlist[7 * place:7 * place + 7]
+
+    def stays(self, work):
+        """What some work is answered, and whether it left node and list."""
+        node, held = self.node, list(self.lent.qlist)
+        return work(), (self.node, self.lent.qlist) == (node, held)
+
+    ENTRY = [0x0008, 3, 100, 0xA0, 0xA1]
+
+    def test_a_write(self):
+        self.assertEqual(self.write(self.ENTRY, [0x01FF, 1, 0, 2, 3], now=7), END)
+        self.assertEqual((self.node.listed, self.node.turn), (2, 0))
+        self.assertEqual(self.record(0), [*self.ENTRY, 107, 0])
+        self.assertEqual(self.record(1), [0x01FF, 1, 0, 2, 3, 7, 1])
+        self.assertEqual(self.record(2), [0xEEEE] * 7)
+        self.assertEqual(self.lent.memories[DM][:4], [0] * 4)
+        self.assertEqual(self.write(self.ENTRY), END)
+        self.assertEqual((self.node.listed, self.record(2)), (3, [*self.ENTRY, 100, 0]))
+
+    def test_24_bits_of_frequency_and_the_wrap(self):
+        self.assertEqual(self.write([0xFF08, 1, 0xFFFF, 0, 0], now=0xFFFFFFFF), END)
+        self.assertEqual(self.record(0)[5:], [0xFFFE, 0x00FF])
+        self.assertEqual(self.step(0x00FFFFFD), ("nothing",))
+        self.assertEqual(self.step(0x00FFFFFE), ("handed", 0))
+        self.assertEqual(self.record(0), [0xFF08, 0, 0xFFFF, 0, 0, 0xFFFD, 0x01FF])
+
+    def test_due_is_below_half_the_clock(self):
+        for since, handed in ((0, True), (1, True), (2**31 - 1, True), (2**31, False), (2**32 - 1, False)):
+            self.setUp()
+            self.write(self.ENTRY, now=0xFFFFFFF0)
+            self.assertEqual(self.step((0xFFFFFFF0 + 100 + since) % 2**32), ("handed", 0) if handed else ("nothing",))
+            self.assertEqual(self.record(0)[1], 2 if handed else 3)
+
+    def test_frequency_0(self):
+        for header, word, answer in ((0x0008, 0, ABORT), (0x0108, 0, END), (0x0008, 1, END), (0xFF08, 0, END)):
+            self.assertEqual(self.write(self.ENTRY, [header, 5, word, 0, 0]), answer)
+            self.assertEqual(self.node.listed, 2 if answer == END else 0)
+            self.assertEqual(self.record(0) == [0xEEEE] * 7, answer == ABORT)
+            self.setUp()
+
+    def test_delayed(self):
+        for header in (0x0000, 0x0004, 0xFFF7):
+            self.assertEqual(self.stays(lambda: self.write(self.ENTRY, [header, 5, 9, 0, 0])), (ABORT, True))
+
+    def test_none_is_added_by_0(self):
+        self.assertEqual(self.stays(self.write), (END, True))
+
+    def test_a_segment_that_is_not_as_it_should_be(self):
+        wrong = (
+            {"count": 0}, {"count": 2}, {"count": 0xFFFF}, {"second": 0x2001}, {"second": 0x1FFF}, {"second": 0xA000}, {"second": 0xE000},
+            {"second": 0x6000}, {"memory": IO},
+        )
+        for given in wrong:
+            self.assertEqual(self.stays(lambda: self.write(self.ENTRY, **given)), (ABORT, True))
+        right = segment(DM, self.SECOND, [1, *self.ENTRY])
+        for words in ([], right[:-1], [*right, 0], [*right[:-1], right[-1] ^ 1], [0x4001, 0x2000, 0xFFFF]):
+            self.assertEqual(self.stays(lambda: self.ask(own(0x5C, *words))), (("reply", ABORT, 0), True))
+        self.lent.memories[DM] = []
+        self.assertEqual(self.ask(own(0x5C, *right)), ("reply", END, 0))
+
+    def test_910_entries(self):
+        some = [[0x0008, place, 1, 0, 0] for place in range(455)]
+        self.assertEqual((self.write(*some), self.write(*some[:-1])), (END, END))
+        self.assertEqual(self.stays(lambda: self.write(self.ENTRY, self.ENTRY)), (ABORT, True))
+        self.assertEqual((self.write(self.ENTRY), self.node.listed), (END, 910))
+        self.assertEqual(self.stays(lambda: self.write(self.ENTRY)), (ABORT, True))
+        self.assertEqual(self.ask(own(0x1C)), ("reply", 3, 1 + 5 * 910 + 2))
+        self.assertEqual(self.stays(self.write), (END, True))
+
+    def test_as_many_as_are_lent(self):
+        for words, answer in ((0, ABORT), (13, ABORT), (14, END), (20, END)):
+            self.lent.qlist = [0xEEEE] * words
+            self.assertEqual(self.write(self.ENTRY, self.ENTRY), answer)
+            self.node = replace(self.node, listed=0)
+        self.assertEqual(self.lent.qlist[14:], [0xEEEE] * 6)
+
+    def test_a_read(self):
+        self.assertEqual((self.ask(own(0x1C)), self.lent.reply[:3]), (("reply", 3, 3), [0, 0x0020, fcs([0, 0x0020])]))
+        self.write(self.ENTRY, [0x12F8, 0x8001, 0, 1, 2])
+        self.assertEqual(self.ask(own(0x1C)), ("reply", 3, 13))
+        self.assertEqual(self.lent.reply[:12], [2, *self.ENTRY, 0x12F8, 0x8001, 0, 1, 2, 0x0020])
+        self.assertEqual(self.ask(own(0x1C, 0)), ("reply", ABORT, 0))
+
+    def test_bit_15_of_repetitions_is_a_number_s(self):
+        self.write([0x0008, 0x8000, 1, 0, 0])
+        self.assertEqual((self.step(1), self.record(0)[1]), (("handed", 0), 0x7FFF))
+
+    def test_turns(self):
+        """Only the entry in turn is looked at, and the turn moves on either way."""
+        self.write([0x0008, 1, 10, 0, 0], [0x0008, 0, 1, 0, 0], [0x0008, 2, 5, 0, 0])
+        said = [(self.step(now)[-1], self.node.turn) for now in (5, 5, 5, 9, 9, 9, 10, 10, 10, 11, 11, 11)]
+        nothing = "nothing"
+        self.assertEqual(said, [(nothing, 1), (nothing, 2), (2, 0), (nothing, 1), (nothing, 2), (nothing, 0), (0, 1), (nothing, 2), (2, 0),
+                                (nothing, 1), (nothing, 2), (nothing, 0)])
+        self.assertEqual([self.record(place)[1:3] + self.record(place)[5:] for place in range(3)],
+                         [[0, 10, 20, 0], [0, 1, 1, 0], [0, 5, 15, 0]])
+
+    def test_nothing_is_listed(self):
+        self.assertEqual(self.stays(lambda: self.step(0)), (("nothing",), True))
+        self.lent.qlist = []
+        self.assertEqual(self.step(0), ("nothing",))
+
+    def test_one_step_a_frequency(self):
+        """A step that comes late hands out once, and the next ones catch up."""
+        self.write([0x0008, 9, 10, 0, 0])
+        self.assertEqual([self.step(35)[0] for _ in range(4)], ["handed"] * 3 + ["nothing"])
+        self.assertEqual(self.record(0)[5:], [40, 0])
+
+    def test_delete_by_entry(self):
+        self.write(self.ENTRY, self.ENTRY)
+        self.step(100)
+        self.assertEqual((self.delete(1), self.node.listed, self.node.turn), (END, 2, 1))
+        self.assertEqual((self.record(0)[1], self.record(1)), (2, [0x0008, 0, 100, 0xA0, 0xA1, 100, 0]))
+        self.assertEqual((self.step(100), self.node.turn), (("nothing",), 0))
+        for place in (2, 910, 0xFFFE):
+            self.assertEqual(self.stays(lambda: self.delete(place)), (ABORT, True))
+        self.assertEqual((self.delete(1), self.node.listed), (END, 2))
+
+    def test_delete_of_expired_entries(self):
+        entries = [[0x0008, repetitions, 50 + place, place, 0] for place, repetitions in enumerate((0, 2, 0, 3, 1, 0))]
+        self.write(*entries)
+        self.step(0)
+        before = [self.record(place) for place in range(7)]
+        self.assertEqual((self.delete(), self.node.listed, self.node.turn), (END, 3, 0))
+        after = [self.record(place) for place in range(7)]
+        self.assertEqual(after, [before[1], before[3], before[4], *before[3:]])
+        self.step(0)
+        self.assertEqual(self.delete(), END)
+        self.assertEqual((self.node.listed, self.node.turn), (3, 0))
+        self.assertEqual((self.write(self.ENTRY), self.record(3)), (END, [*self.ENTRY, 100, 0]))
+
+    def test_delete_of_all(self):
+        self.write(self.ENTRY, self.ENTRY, self.ENTRY)
+        self.step(0)
+        held = list(self.lent.qlist)
+        for _ in range(2):
+            self.assertEqual((self.delete(0xFFFF), self.node.listed, self.node.turn, self.lent.qlist), (END, 0, 0, held))
+        self.assertEqual(self.delete(0), ABORT)
+
+    def test_two_parameters(self):
+        self.write(self.ENTRY)
+        for parameters in ((0, 0), (0xFFFF, 0xFFFF), (0, 0, 0)):
+            self.assertEqual(self.stays(lambda: self.delete(*parameters)), (ABORT, True))
+
+    def test_a_record_that_the_node_did_not_write(self):
+        """It is stepped and listed as it stands: frequency 0, delayed."""
+        self.lent.qlist[:7] = [0x0080, 2, 0, 8, 9, 5, 0]
+        self.node = replace(self.node, listed=1)
+        self.assertEqual([self.step(5) for _ in range(3)], [("handed", 0), ("handed", 0), ("nothing",)])
+        self.assertEqual(self.record(0), [0x0080, 0, 0, 8, 9, 5, 0])
+        self.assertEqual((self.ask(own(0x1C))[2], self.lent.reply[:6]), (8, [1, 0x0080, 0, 0, 8, 9]))
+
+    def test_both_kinds_while_an_erasure_runs(self):
+        for kind in (CDP, CDDC):
+            self.node, self.lent = started(kind)
+            self.assertEqual(self.ask(own(0x47, 0x1C00)), ("reply", END, 0))
+            self.assertEqual((self.write(self.ENTRY), self.ask(own(0x1C))[2], self.step(100)), (END, 8, ("handed", 0)))
+            self.assertEqual((self.delete(0), self.delete(), self.delete(0xFFFF)), (END, END, END))
+
+    def test_start_lists_none(self):
+        self.write(self.ENTRY)
+        node, _ = start(CDDC, 4, 0, 0, 0, 0, 0, self.lent.flash)
+        self.assertEqual((node.listed, node.turn), (0, 0))
+
+    def test_refusals(self):
+        self.write(*[self.ENTRY] * 5)
+        self.node = replace(self.node, turn=4)
+        for words, fine in ((34, False), (35, True), (6370, True), (6376, True), (6377, False), (0, False)):
+            self.lent.qlist = [0] * words
+            node = self.node
+            for call in (lambda: slow(node, self.lent.qlist, 0), lambda: request(node, self.lent, 0, 0, 3, 0, [0x00FF])):
+                self.assertEqual(call()[1] == ("refused", 9), not fine)
+        short = replace(self.lent, qlist=[0] * 34)
+        for node, lent, link, number in (
+            (self.node, replace(short, area=[]), 0, 8), (self.node, short, 4, 9), (replace(self.node, mode=4), short, 0, 9),
+            (replace(self.node, pending=Pending(0, 5, 0)), short, 0, 9), (replace(self.node, listed=0, mode=4), short, 0, 5),
+        ):
+            self.assertEqual(request(node, lent, 0, link, 3, 0, [0x00FF]), (node, ("refused", number)))
+        self.assertEqual(slow(replace(self.node, mode=4), [], 0)[1], ("refused", 9))
+
+    def test_ranges(self):
+        memories = self.lent
+        for listed, turn, fine in ((0, 0, True), (0, 1, False), (1, 0, True), (1, 1, False), (910, 909, True), (910, 910, False),
+                                   (911, 0, False), (5, 65535, False)):
+            node = replace(self.node, listed=listed, turn=turn, pending=Pending(0, 5, 0))
+            self.assertEqual(poll(node, memories.reply, 0), (node, ("waiting",) if fine else ("refused", 5)))
+            self.assertEqual(erase(node, memories.flash, 1)[1], ("erased", 0) if fine else ("refused", 5))
+            self.assertEqual(reply(node, memories.reply, 0, 9, 3, 0, 0, 0, [])[1], ("refused", 7 if fine else 5))
+            self.assertEqual(request(node, memories, 0, 0, 3, 0, [7])[1], ("refused", 6 if fine else 9 if listed > 910 else 5))
+            if not fine:
+                self.assertEqual(slow(node, memories.qlist, 0), (node, ("refused", 9 if listed > 910 else 5)))
+
+    def test_repetitions_are_conserved(self):
+        pick = random.Random(9)
+        written = handed = deleted = now = 0
+
+        def left():
+            return sum(self.record(place)[1] for place in range(self.node.listed))
+
+        for _ in range(3000):
+            now = (now + pick.choice((0, 1, 40, 2**30))) % 2**32
+            before, way = left(), pick.randrange(8)
+            if way == 0:
+                entries = [[pick.choice((8, 8, 8, 0, 0x108)), pick.randrange(4), pick.choice((0, 1, 30)), 0, 0] for _ in range(3)]
+                written += sum(entry[1] for entry in entries) if self.write(*entries, now=now) == END else 0
+            elif way == 1:
+                self.delete(*pick.choice(((), (), (0xFFFF,), (0,), (pick.randrange(9),), (1, 2))))
+                deleted += before - left()
+            else:
+                handed += self.step(now)[0] == "handed"
+            self.assertEqual(written, left() + handed + deleted)
+        self.assertTrue(handed > 100 and deleted > 100)
 
 
 class Captures(unittest.TestCase):

@@ -1,19 +1,12 @@
-/* The model at the C border: runs of bytes for words, 188 bytes for the node. */
+/* The model at the C border: runs of bytes for words, 192 bytes for the node. */
 #include "model.h"
 
 #include <string.h>
 
-enum { STATE = 188 };
+enum { STATE = 192 };
 static const struct limits border = {8192, 8192, 4096, 32768, false};
 
 static struct run words_of(uint8_t *bytes, size_t length) { return (struct run){bytes, length / 2}; }
-
-static uint32_t long_at(const uint8_t *bytes, size_t at) { return word_at(bytes + at, 0) | (uint32_t)word_at(bytes + at, 1) << 16; }
-
-static void put_long(uint8_t *bytes, size_t at, uint32_t value) {
-    put_word(bytes + at, 0, value & 0xFFFF);
-    put_word(bytes + at, 1, value >> 16);
-}
 
 /* The node that some bytes say, and whether they are those of a state as far as its form goes: what a case does not use is 0. */
 static bool decoded(const uint8_t *state, struct node *node) {
@@ -49,6 +42,8 @@ static bool decoded(const uint8_t *state, struct node *node) {
     node->joined = long_at(state, 176);
     node->received = long_at(state, 180);
     node->rx_status = word_at(state + 184, 0);
+    node->listed = word_at(state + 188, 0);
+    node->turn = word_at(state + 190, 0);
     if (word_at(state + 186, 0) != 0)
         return false;
     if (state[172] > 1 || word_at(state + 174, 0) != 0 || (!node->writing && (node->writer != 0 || node->joined != 0)))
@@ -95,10 +90,12 @@ static void encode(const struct node *node, uint8_t *state) {
     put_long(state, 180, node->received);
     put_word(state + 184, 0, node->rx_status);
     put_word(state + 186, 0, 0);
+    put_word(state + 188, 0, node->listed);
+    put_word(state + 190, 0, node->turn);
 }
 
-/* The node to make a call on. Where the bytes are no state's, its kind is none, so 5 refuses it; 1 and 4, which come first, still
-   see the kept size and the ports. Where their number is wrong, 1 and 4 have nothing kept to see, and pass. */
+/* The node to make a call on. Where the bytes are no state's, its kind is none, so 5 refuses it; 1, 9 and 4, which come first,
+   still see the kept size, the entries listed and the ports. Where their number is wrong, those have nothing kept to see. */
 static struct node node_for_call(const uint8_t *state, size_t length, size_t flash_words) {
     struct node node = {0};
     if (length != STATE) {
@@ -131,10 +128,10 @@ static uint64_t kept(const struct node *node, uint64_t answer, uint8_t *state) {
 
 uint64_t model_request(uint32_t now, uint32_t link, uint32_t bc, uint32_t receive_error, const uint8_t *packet, size_t packet_len,
                        uint8_t *state, size_t state_len, uint8_t *flash, size_t flash_len, uint8_t *pm, size_t pm_len, uint8_t *dm,
-                       size_t dm_len, uint8_t *io, size_t io_len, uint8_t *area, size_t area_len, uint8_t *reply,
-                       size_t reply_len) {
-    struct lent lent = {words_of(flash, flash_len), {pm, pm_len / 4},         words_of(dm, dm_len),
-                        words_of(io, io_len),       words_of(area, area_len), words_of(reply, reply_len)};
+                       size_t dm_len, uint8_t *io, size_t io_len, uint8_t *area, size_t area_len, uint8_t *list, size_t list_len,
+                       uint8_t *reply, size_t reply_len) {
+    struct lent lent = {words_of(flash, flash_len), {pm, pm_len / 4},         words_of(dm, dm_len),      words_of(io, io_len),
+                        words_of(area, area_len),   words_of(list, list_len), words_of(reply, reply_len)};
     struct node node = node_for_call(state, state_len, lent.flash.words);
     if (state_len != STATE)
         link = 0;
@@ -158,4 +155,9 @@ uint64_t model_poll(uint32_t now, uint8_t *state, size_t state_len, uint8_t *rep
 uint64_t model_erase(uint64_t budget, uint8_t *state, size_t state_len, uint8_t *flash, size_t flash_len) {
     struct node node = node_for_call(state, state_len, flash_len / 2);
     return kept(&node, model_node_erase(&border, &node, budget, words_of(flash, flash_len)), state);
+}
+
+uint64_t model_slow(uint32_t now, uint8_t *state, size_t state_len, uint8_t *list, size_t list_len) {
+    struct node node = node_for_call(state, state_len, 0);
+    return kept(&node, model_node_slow(&node, now, words_of(list, list_len)), state);
 }

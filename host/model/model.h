@@ -13,15 +13,16 @@ enum { PENDING_NOTHING = 0, PENDING_SLAVE = 1, PENDING_GROUP = 2 };
 enum { AREA = 12288, JOIN_AREA = 32768, SLAVES = 24 };
 enum { NO_SECTOR = 0, SEVERAL = 1, SECTOR_FIRST = 3, SECTOR_LAST = 10 }; /* what a search finds: none, several, or one of 3 to 10 */
 enum { BENCH = 32768, FULL = 262144 };
+enum { RECORD_BYTES = 14, MOST_RECORDS = 910 }; /* of the Q-List */
 
-/* A lent run: its bytes, and how many words they are; a PM word is four bytes, any other two. */
+/* A lent run: its bytes, and how many words they are; a PM word is four bytes, any other two. Of the Q-List whole records count. */
 struct run {
     uint8_t *bytes;
     size_t words;
 };
 
 struct lent {
-    struct run flash, pm, dm, io, area, reply;
+    struct run flash, pm, dm, io, area, list, reply;
 };
 
 /* How much of each memory may be lent, and whether the flash may be full size: 01's table, and less at the C border. */
@@ -45,6 +46,7 @@ struct node {
     uint16_t rx_status;                 /* of its last packet */
     bool writing;                       /* a File Write in several packets stands (02, request 1) */
     uint32_t writer, joined;            /* its link, and the words joined so far */
+    uint16_t listed, turn;              /* entries of the Q-List (02, request 7), and the place whose turn is next */
 };
 
 /* Words in bytes. */
@@ -54,6 +56,15 @@ static inline uint16_t word_at(const uint8_t *bytes, size_t at) { return (uint16
 static inline void put_word(uint8_t *bytes, size_t at, unsigned word) {
     bytes[2 * at] = (uint8_t)word;
     bytes[2 * at + 1] = (uint8_t)(word >> 8);
+}
+
+/* Two words from a byte on, the low one first. */
+
+static inline uint32_t long_at(const uint8_t *bytes, size_t at) { return word_at(bytes + at, 0) | (uint32_t)word_at(bytes + at, 1) << 16; }
+
+static inline void put_long(uint8_t *bytes, size_t at, uint32_t value) {
+    put_word(bytes + at, 0, value & 0xFFFF);
+    put_word(bytes + at, 1, value >> 16);
 }
 
 uint16_t model_fcs(const uint8_t *bytes, size_t words);
@@ -97,7 +108,16 @@ bool model_run_is_lent(const struct segment *header, const struct lent *lent);
 size_t model_read_size(const struct segment *header);
 void model_read(const struct segment *header, const struct lent *lent);
 
-/* The five calls (node.c), with the number that they answer. */
+/* The Q-List (qlist.c): entries stand in the lent bytes, the first so many of its records are listed. */
+
+size_t model_records(struct run list);
+bool model_list_write(struct run list, uint16_t *listed, const uint8_t *body, size_t n, uint32_t now);
+void model_list_clear(struct run list, size_t place);
+uint16_t model_list_close_up(struct run list, uint16_t listed); /* answers how many stay listed */
+size_t model_list_read(struct run list, uint16_t listed, uint8_t *reply); /* answers how many words it put there */
+bool model_list_step(struct run list, size_t place, uint32_t now); /* whether the entry is handed out */
+
+/* The six calls (node.c), with the number that they answer. */
 
 uint32_t model_node_start(const struct limits *limits, struct node *node, uint32_t kind, uint32_t ports, uint32_t subdetector,
                           uint16_t program_version, uint16_t subdetector_version, uint16_t start_tests, uint32_t clock,
@@ -109,6 +129,7 @@ uint64_t model_node_reply(const struct limits *limits, struct node *node, uint32
                           struct run reply);
 uint64_t model_node_poll(struct node *node, uint32_t now, struct run reply);
 uint64_t model_node_erase(const struct limits *limits, struct node *node, uint64_t budget, struct run flash);
+uint64_t model_node_slow(struct node *node, uint32_t now, struct run list);
 
 /* The same at the C border (border.c): numbers and bytes, as include/logodwen.h has them. */
 
@@ -117,11 +138,13 @@ uint32_t model_start(uint32_t kind, uint32_t ports, uint32_t subdetector, uint16
                      size_t state_len);
 uint64_t model_request(uint32_t now, uint32_t link, uint32_t bc, uint32_t receive_error, const uint8_t *packet, size_t packet_len,
                        uint8_t *state, size_t state_len, uint8_t *flash, size_t flash_len, uint8_t *pm, size_t pm_len, uint8_t *dm,
-                       size_t dm_len, uint8_t *io, size_t io_len, uint8_t *area, size_t area_len, uint8_t *reply, size_t reply_len);
+                       size_t dm_len, uint8_t *io, size_t io_len, uint8_t *area, size_t area_len, uint8_t *list, size_t list_len,
+                       uint8_t *reply, size_t reply_len);
 uint64_t model_reply(uint32_t now, uint32_t slave, uint32_t bc, uint32_t receive_error, uint16_t rx_status, uint16_t rx_address,
                      const uint8_t *packet, size_t packet_len, uint8_t *state, size_t state_len, uint8_t *reply, size_t reply_len);
 uint64_t model_poll(uint32_t now, uint8_t *state, size_t state_len, uint8_t *reply, size_t reply_len);
 uint64_t model_erase(uint64_t budget, uint8_t *state, size_t state_len, uint8_t *flash, size_t flash_len);
+uint64_t model_slow(uint32_t now, uint8_t *state, size_t state_len, uint8_t *list, size_t list_len);
 
 /* A captured group reply (capture.c), by the number that logodwen_capture answers. */
 

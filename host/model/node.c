@@ -1,15 +1,17 @@
-/* 01 'Call refusals', 'Requests', 'Group assembly', 'State and status reply', and 02, requests 1, 2 and 8: the node and its five calls. */
+/* 01 'Call refusals', 'Requests', 'Group assembly', 'State and status reply', and 02, requests 1, 2, 7 and 8: the node and its six calls. */
 #include "model.h"
 
 #include <string.h>
 
-enum { ALL_SLAVES = 0xFFFFFF, TIMEOUT = 60 };
+enum { ALL_SLAVES = 0xFFFFFF, ALL_ENTRIES = 0xFFFF, TIMEOUT = 60 };
 enum { TALLY_WHOLE = 5, TALLY_MIXED = 6 };
 
 static uint64_t reply_of(unsigned bc, size_t words) { return 1u << 8 | bc << 16 | (uint64_t)words << 32; }
 static uint64_t ask_of(unsigned slave, unsigned from) { return 2u << 8 | slave << 16 | from << 24; }
 static uint64_t waiting(void) { return 3u << 8; }
 static uint64_t next_of(unsigned slave) { return 8u << 8 | slave << 16; }
+static uint64_t handed(unsigned place) { return 6u << 8 | (uint64_t)place << 32; }
+static uint64_t nothing(void) { return 7u << 8; }
 
 static void count_error(uint16_t *count) {
     if (*count != 0xFFFF)
@@ -49,6 +51,10 @@ static bool is_unknown(uint32_t kind, uint32_t ports, uint32_t subdetector) {
     return (kind != CDP && kind != CDDC) || ports < 1 || ports > 4 || subdetector > 7;
 }
 
+static bool is_list_wrong(const struct node *node, struct run list) {
+    return model_records(list) > MOST_RECORDS || model_records(list) < node->listed;
+}
+
 static bool is_group_wrong(const struct node *node) {
     if (node->asked > ALL_SLAVES || (node->asked >> node->slave & 1) == 0)
         return true;
@@ -75,6 +81,8 @@ static bool is_state_wrong(const struct node *node) {
             return true;
     }
     if (node->writing && (node->writer >= node->ports || node->joined > JOIN_AREA))
+        return true;
+    if (node->listed > MOST_RECORDS || (node->turn >= node->listed && node->turn != 0))
         return true;
     if (node->pending == PENDING_NOTHING)
         return false;
@@ -276,13 +284,37 @@ static struct outcome attribute_set(struct node *node, unsigned header, unsigned
     return zero(END);
 }
 
+/* The Q-List. */
+
+static struct outcome list_write(struct node *node, struct parameters with, uint32_t now, struct run list) {
+    struct segment segment;
+    if (!is_exact(with, DM, &segment) || segment.page != 0 || segment.address != 0x2000)
+        return zero(ABORT);
+    return zero(model_list_write(list, &node->listed, with.words + 2 * segment.body, segment.size - 1, now) ? END : ABORT);
+}
+
+/* Of an entry by its place, of all, or of the expired ones; the turn goes back where places may be freed. */
+static struct outcome list_delete(struct node *node, struct parameters with, struct run list) {
+    unsigned place = with.n > 0 ? word_at(with.words, 0) : 0;
+    if (with.n > 1 || (with.n == 1 && place != ALL_ENTRIES && place >= node->listed))
+        return zero(ABORT);
+    if (with.n == 1 && place != ALL_ENTRIES) {
+        model_list_clear(list, place);
+        return zero(END);
+    }
+    node->listed = with.n == 1 ? 0 : model_list_close_up(list, node->listed);
+    node->turn = 0;
+    return zero(END);
+}
+
 /* How many parameters a command takes; -1 where its own content tells, -2 where the ID is not in the list. */
 static int parameter_count(unsigned id) {
     switch (id) {
     case 0x0C:
     case 0x07:
     case 0x12:
-    case 0x17: return 0;
+    case 0x17:
+    case 0x1C: return 0;
     case 0x05:
     case 0x06:
     case 0x46:
@@ -296,7 +328,9 @@ static int parameter_count(unsigned id) {
     case 0x45:
     case 0x0F:
     case 0x50:
-    case 0x51: return -1;
+    case 0x51:
+    case 0x5B:
+    case 0x5C: return -1;
     default: return -2;
     }
 }
@@ -331,7 +365,10 @@ static struct outcome command(struct node *node, unsigned id, struct parameters 
     case 0x12: put_word(lent->reply.bytes, 0, node->mode); return data(1);
     case 0x52: return mode_write(node, first);
     case 0x17: return mask_read(node, lent->reply.bytes);
-    default: return mask_write(node, first, second);
+    case 0x57: return mask_write(node, first, second);
+    case 0x5B: return list_delete(node, with, lent->list);
+    case 0x5C: return list_write(node, with, now, lent->list);
+    default: return data(model_list_read(lent->list, node->listed, lent->reply.bytes));
     }
 }
 
@@ -455,6 +492,8 @@ uint64_t model_node_request(const struct limits *limits, struct node *node, uint
         return 3;
     if (lent->area.words < JOIN_AREA)
         return 8;
+    if (is_list_wrong(node, lent->list))
+        return 9;
     if (link >= node->ports)
         return 4;
     if (is_state_wrong(node))
@@ -660,7 +699,7 @@ uint64_t model_node_poll(struct node *node, uint32_t now, struct run reply) {
     return take(node, now, &answer, reply.bytes);
 }
 
-/* Start and erase progress. */
+/* Start, erase progress and the slow-control step. */
 
 uint32_t model_node_start(const struct limits *limits, struct node *node, uint32_t kind, uint32_t ports, uint32_t subdetector,
                           uint16_t program_version, uint16_t subdetector_version, uint16_t start_tests, uint32_t clock,
@@ -703,4 +742,17 @@ uint64_t model_node_erase(const struct limits *limits, struct node *node, uint64
         node->sector = node->done = 0;
     }
     return (uint64_t)count << 32;
+}
+
+/* The entry in turn alone is looked at, and the turn moves on either way, after the last to the first. */
+uint64_t model_node_slow(struct node *node, uint32_t now, struct run list) {
+    if (is_list_wrong(node, list))
+        return 9;
+    if (is_state_wrong(node))
+        return 5;
+    if (node->listed == 0)
+        return nothing();
+    uint16_t place = node->turn;
+    node->turn = (uint16_t)((place + 1) % node->listed);
+    return model_list_step(list, place, now) ? handed(place) : nothing();
 }

@@ -1,5 +1,5 @@
-// The six memories by number, 0 flash, 1 PM, 2 DM, 3 IO, 4 the reply buffer, 5 the area: what lines put there, and the digests of their
-// words.
+// The seven memories by number, 0 flash, 1 PM, 2 DM, 3 IO, 4 the reply buffer, 5 the area, 6 the Q-List: what lines put there, and the
+// digests of their words.
 ghost use mathlib.Core.Path.{_≡_};
 ghost use Prim.Native.Nat.{_≤_, _<_};
 ghost use lib.ListN.{length};
@@ -97,6 +97,7 @@ pub fn fill(
     dm: &mut [u16],
     io: &mut [u16],
     area: &mut [u16],
+    list: &mut [u16],
     reply: &mut [u16],
 ) {
     match feed::item(line, 1) {
@@ -105,7 +106,8 @@ pub fn fill(
         2 => fill_area(line, dm),
         3 => fill_area(line, io),
         4 => fill_area(line, reply),
-        _ => fill_area(line, area),
+        5 => fill_area(line, area),
+        _ => fill_area(line, list),
     }
 }
 
@@ -121,6 +123,7 @@ pub fn poke(
     dm: &mut [u16],
     io: &mut [u16],
     area: &mut [u16],
+    list: &mut [u16],
     reply: &mut [u16],
 ) {
     match feed::item(line, 1) {
@@ -128,7 +131,8 @@ pub fn poke(
         2 => poke_area(line, run, dm),
         3 => poke_area(line, run, io),
         4 => poke_area(line, run, reply),
-        _ => poke_area(line, run, area),
+        5 => poke_area(line, run, area),
+        _ => poke_area(line, run, list),
     }
 }
 
@@ -154,6 +158,7 @@ pub fn digest(
     dm: &[u16],
     io: &[u16],
     area: &[u16],
+    list: &[u16],
     reply: &[u16],
 ) -> u16 {
     match feed::item(line, 1) {
@@ -162,7 +167,8 @@ pub fn digest(
         2 => digest_area(line, dm),
         3 => digest_area(line, io),
         4 => digest_area(line, reply),
-        _ => digest_area(line, area),
+        5 => digest_area(line, area),
+        _ => digest_area(line, list),
     }
 }
 
@@ -189,6 +195,7 @@ pub fn show(
     dm: &[u16],
     io: &[u16],
     area: &[u16],
+    list: &[u16],
     reply: &[u16],
 ) {
     show_area(wanted, b" f ", flash);
@@ -197,4 +204,5 @@ pub fn show(
     show_area(wanted / 8, b" i ", io);
     show_area(wanted / 16, b" r ", reply);
     show_area(wanted / 32, b" a ", area);
+    show_area(wanted / 64, b" l ", list);
 }

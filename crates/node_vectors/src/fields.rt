@@ -1,4 +1,4 @@
-// The node's 99 words, and a node with one field changed.
+// The node's 101 words, and a node with one field changed.
 ghost use mathlib.Core.Path.{_≡_};
 ghost use Prim.Native.Nat.{_≤_, _<_};
 ghost use lib.ListN.{length};
@@ -21,11 +21,12 @@ use node::Joining;
 use node::Node;
 use node::Pending;
 use node::Writing;
+use qlist::Listing;
 
-fn room() -> [u16; 99]
-    ensures { λ r. ⌜ length r ≡ 99 ⌝ }
+fn room() -> [u16; 101]
+    ensures { λ r. ⌜ length r ≡ 101 ⌝ }
 {
-    [0; 99]
+    [0; 101]
 }
 
 fn put_word(words: &mut [u16], at: usize, word: u16) {
@@ -129,9 +130,14 @@ fn put_writing(words: &mut [u16], writing: Writing) {
     }
 }
 
+fn put_listing(words: &mut [u16], listing: Listing) {
+    put_word(words, 99, low(small(listing.entries)));
+    put_word(words, 100, low(small(listing.turn)));
+}
+
 // The node's words.
-pub fn words_of(node: Node) -> [u16; 99]
-    ensures { λ r. ⌜ length r ≡ 99 ⌝ }
+pub fn words_of(node: Node) -> [u16; 101]
+    ensures { λ r. ⌜ length r ≡ 101 ⌝ }
 {
     let masks = node.masks;
     let directory = node.directory;
@@ -139,6 +145,7 @@ pub fn words_of(node: Node) -> [u16; 99]
     let erasing = node.erasing;
     let pending = node.pending;
     let writing = node.writing;
+    let listing = node.listing;
     let mut words = room();
     put_given(&mut words, given);
     put_word(&mut words, 3, node.mode);
@@ -149,6 +156,7 @@ pub fn words_of(node: Node) -> [u16; 99]
     put_erasing(&mut words, erasing);
     put_pending(&mut words, pending);
     put_writing(&mut words, writing);
+    put_listing(&mut words, listing);
     words
 }
 
@@ -269,6 +277,21 @@ fn writing_with(writing: Writing, field: u16, index: u16, value: u32) -> Writing
     writing
 }
 
+fn listing_with(listing: Listing, field: u16, value: u32) -> Listing {
+    Listing {
+        entries: if field == 20 {
+            value as usize
+        } else {
+            listing.entries
+        },
+        turn: if field == 21 {
+            value as usize
+        } else {
+            listing.turn
+        },
+    }
+}
+
 // The node with the field changed that a line names.
 pub fn with_field(node: Node, line: &[u16]) -> Node {
     let field = feed::item(line, 1);
@@ -280,6 +303,7 @@ pub fn with_field(node: Node, line: &[u16]) -> Node {
     let erasing = node.erasing;
     let pending = node.pending;
     let writing = node.writing;
+    let listing = node.listing;
     let masks_after = masks_with(masks, place(field == 11, index), value);
     let directory_after = directory_with(directory, place(field == 12, index), low(value));
     let erasing_after = erasing_with(erasing, field, index, value);
@@ -297,5 +321,6 @@ pub fn with_field(node: Node, line: &[u16]) -> Node {
         erasing: erasing_after,
         pending: pending_after,
         writing: writing_after,
+        listing: listing_with(listing, field, value),
     }
 }

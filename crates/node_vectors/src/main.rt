@@ -57,6 +57,12 @@ fn area_room() -> [u16; 32784]
     [0; 32784]
 }
 
+fn list_room() -> [u16; 6386]
+    ensures { λ r. ⌜ length r ≡ 6386 ⌝ }
+{
+    [0; 6386]
+}
+
 fn reply_room() -> [u16; 12304]
     ensures { λ r. ⌜ length r ≡ 12304 ⌝ }
 {
@@ -83,6 +89,7 @@ struct Lent {
     dm: usize,
     io: usize,
     area: usize,
+    list: usize,
     reply: usize,
 }
 
@@ -108,13 +115,27 @@ fn request(
     dm: &mut [u16],
     io: &mut [u16],
     area: &mut [u16],
+    list: &mut [u16],
     reply: &mut [u16],
 ) -> Turn {
     let clock = double(line, 2);
     let link = double(line, 4);
     let bc = feed::item(line, 6) as u32;
     let errors = feed::item(line, 7) != 0;
-    node.request(clock, link, bc, errors, run, flash, pm, dm, io, area, reply)
+    node.request(
+        clock,
+        link,
+        bc,
+        errors,
+        run,
+        flash,
+        pm,
+        dm,
+        io,
+        area,
+        list,
+        reply,
+    )
 }
 
 fn hear(line: &[u16], run: &[u16], node: Node, reply: &mut [u16]) -> Turn {
@@ -137,13 +158,15 @@ fn call(
     dm: &mut [u16],
     io: &mut [u16],
     area: &mut [u16],
+    list: &mut [u16],
     reply: &mut [u16],
 ) -> Turn {
     match feed::item(line, 0) {
         1 => start(line, flash),
-        2 => request(line, run, node, flash, pm, dm, io, area, reply),
+        2 => request(line, run, node, flash, pm, dm, io, area, list, reply),
         3 => hear(line, run, node, reply),
         4 => node.poll(double(line, 2), reply),
+        12 => node.slow(double(line, 2), list),
         _ => node.erase(budget(line, 2), flash),
     }
 }
@@ -158,15 +181,16 @@ fn answer(
     dm: &mut [u16],
     io: &mut [u16],
     area: &mut [u16],
+    list: &mut [u16],
     reply: &mut [u16],
 ) -> Node {
-    let turn = call(line, run, node, flash, pm, dm, io, area, reply);
+    let turn = call(line, run, node, flash, pm, dm, io, area, list, reply);
     let next = turn.node;
     let answer = turn.answer;
     let words = words_of(next);
     say_word(feed::digest(&words));
     say_answer(answer, reply);
-    show(feed::item(line, 1), flash, pm, dm, io, area, reply);
+    show(feed::item(line, 1), flash, pm, dm, io, area, list, reply);
     next
 }
 
@@ -181,6 +205,7 @@ fn lend(
     dm: &mut [u16],
     io: &mut [u16],
     area: &mut [u16],
+    list: &mut [u16],
     reply: &mut [u16],
 ) -> Node {
     let f = base::least(lent.flash, flash.len());
@@ -188,6 +213,7 @@ fn lend(
     let d = base::least(lent.dm, dm.len());
     let i = base::least(lent.io, io.len());
     let a = base::least(lent.area, area.len());
+    let l = base::least(lent.list, list.len());
     let r = base::least(lent.reply, reply.len());
     answer(
         line,
@@ -198,6 +224,7 @@ fn lend(
         &mut dm[0..d],
         &mut io[0..i],
         &mut area[0..a],
+        &mut list[0..l],
         &mut reply[0..r],
     )
 }
@@ -218,28 +245,29 @@ fn act(
     dm: &mut [u16],
     io: &mut [u16],
     area: &mut [u16],
+    list: &mut [u16],
     reply: &mut [u16],
 ) -> Node {
     match feed::item(line, 0) {
         6 => {
-            fill(line, flash, pm, dm, io, area, reply);
+            fill(line, flash, pm, dm, io, area, list, reply);
             node
         }
         7 => {
-            poke(line, run, flash, dm, io, area, reply);
+            poke(line, run, flash, dm, io, area, list, reply);
             node
         }
         8 => with_field(node, line),
         9 => node,
         10 => {
-            say_word(digest(line, flash, pm, dm, io, area, reply));
+            say_word(digest(line, flash, pm, dm, io, area, list, reply));
             node
         }
         11 => {
             say_node(node);
             node
         }
-        _ => lend(line, run, node, lent, flash, pm, dm, io, area, reply),
+        _ => lend(line, run, node, lent, flash, pm, dm, io, area, list, reply),
     }
 }
 
@@ -254,10 +282,23 @@ fn turn(
     dm: &mut [u16],
     io: &mut [u16],
     area: &mut [u16],
+    list: &mut [u16],
     reply: &mut [u16],
 ) -> Node {
     let n = run_of(line, run);
-    let next = act(line, &run[0..n], node, lent, flash, pm, dm, io, area, reply);
+    let next = act(
+        line,
+        &run[0..n],
+        node,
+        lent,
+        flash,
+        pm,
+        dm,
+        io,
+        area,
+        list,
+        reply,
+    );
     io::write_all(1, b"\n");
     next
 }
@@ -271,6 +312,7 @@ fn lent_after(lent: Lent, line: &[u16]) -> Lent {
             dm: count(line, 5),
             io: count(line, 7),
             area: count(line, 11),
+            list: count(line, 13),
             reply: count(line, 9),
         };
     }
@@ -291,6 +333,7 @@ fn main() {
     let mut dm = dm_room();
     let mut io = io_room();
     let mut area = area_room();
+    let mut list = list_room();
     let mut reply = reply_room();
     let mut run = run_room();
     let mut node = zeros();
@@ -300,6 +343,7 @@ fn main() {
         dm: 0,
         io: 0,
         area: 0,
+        list: 0,
         reply: 0,
     };
     let mut line = feed::before();
@@ -324,6 +368,7 @@ fn main() {
             &mut dm,
             &mut io,
             &mut area,
+            &mut list,
             &mut reply,
         );
     }

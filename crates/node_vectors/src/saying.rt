@@ -3,6 +3,7 @@ use group::Reply;
 use node::Answer;
 use node::Asking;
 use node::refusals::refusal_number;
+use qlist::Slow;
 
 pub fn say_word(word: u16) {
     io::print_hex(1, word as u64, 4);
@@ -49,6 +50,19 @@ fn say_asking(asking: Asking) {
     say_number(asking.from as u64);
 }
 
+// What a slow-control step says.
+fn say_slow(slow: Slow) {
+    match slow {
+        Slow::Nothing => {
+            io::write_all(1, b" nothing");
+        }
+        Slow::Handed(place) => {
+            io::write_all(1, b" handed");
+            say_number(place as u64);
+        }
+    }
+}
+
 // The answer, one space before it.
 pub fn say_answer(answer: Answer, buffer: &[u16]) {
     match answer {
@@ -72,5 +86,6 @@ pub fn say_answer(answer: Answer, buffer: &[u16]) {
             io::write_all(1, b" erased");
             say_number(words as u64);
         }
+        Answer::Slow(slow) => say_slow(slow),
     }
 }
