@@ -46,6 +46,7 @@ pub fn ask(
     dm: &mut [u16],
     io: &mut [u16],
     area: &mut [u16],
+    list: &mut [u16],
     reply: &mut [u16],
 ) -> After {
     let n = base::least(asked.words, words.len());
@@ -61,6 +62,7 @@ pub fn ask(
         dm,
         io,
         area,
+        list,
         reply,
     );
     let answer = turn.answer;
@@ -106,5 +108,11 @@ pub fn poll(node: Node, kept: Kept, held: &[u16], reply: &mut [u16]) -> After {
 // Erase progress.
 pub fn erase(budget: u64, node: Node, kept: Kept, flash: &mut [u16]) -> After {
     let turn = node.erase(budget as usize, flash);
+    answered(turn, kept, &[], &[])
+}
+
+// A slow-control step.
+pub fn slow(node: Node, kept: Kept, list: &mut [u16]) -> After {
+    let turn = node.slow(kept.clock, list);
     answered(turn, kept, &[], &[])
 }

@@ -11,6 +11,7 @@ use crate::calls::ask;
 use crate::calls::erase;
 use crate::calls::hear;
 use crate::calls::poll;
+use crate::calls::slow;
 use crate::saying::say_help;
 use answers::line_room;
 use answers::next_number;
@@ -77,6 +78,14 @@ fn area_room() -> [u16; 32768]
     ensures { λ r. ⌜ length r ≡ 32768 ⌝ }
 {
     [0; 32768]
+}
+
+// The Q-List: 910 records of seven words, all zero.
+fn list_room() -> [u16; 6370]
+    ensures { λ r. ⌜ r ≡ replicate 6370 0 ⌝ }
+    ensures { λ r. ⌜ length r ≡ 6370 ⌝ }
+{
+    [0; 6370]
 }
 
 // The assembly area, zeroed at power-up, which is lent as the reply buffer.
@@ -155,6 +164,7 @@ fn act(
     dm: &mut [u16],
     io: &mut [u16],
     area: &mut [u16],
+    list: &mut [u16],
     reply: &mut [u16],
 ) -> After {
     match said {
@@ -170,11 +180,13 @@ fn act(
             dm,
             io,
             area,
+            list,
             reply,
         ),
         Said::Reply(heard) => hear(heard, node, kept, words, held, reply),
         Said::Poll => poll(node, kept, held, reply),
         Said::Erase(budget) => erase(budget, node, kept, flash),
+        Said::Slow => slow(node, kept, list),
         Said::Clock(ticks) => quiet(node, with_clock(kept, ticks)),
         Said::Fault => quiet(node, with_fault(kept)),
         Said::Help => After {
@@ -203,6 +215,7 @@ fn turn(
     dm: &mut [u16],
     io: &mut [u16],
     area: &mut [u16],
+    list: &mut [u16],
     reply: &mut [u16],
 ) -> After {
     let kept = counted(before, cut);
@@ -228,6 +241,7 @@ fn turn(
         dm,
         io,
         area,
+        list,
         reply,
     )
 }
@@ -250,6 +264,7 @@ fn main() {
     let mut dm = dm_room();
     let mut io = io_room();
     let mut area = area_room();
+    let mut list = list_room();
     let mut reply = reply_room();
     let mut after = After {
         node: start(&flash),
@@ -287,6 +302,7 @@ fn main() {
             &mut dm,
             &mut io,
             &mut area,
+            &mut list,
             &mut reply,
         );
         if !after.told {

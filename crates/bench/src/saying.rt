@@ -9,6 +9,7 @@ use group::Reply;
 use node::Answer;
 use node::Asking;
 use node::refusals::refusal_number;
+use qlist::Slow;
 
 // A hex digit, as a capital.
 fn glyph(digit: u16) -> u8
@@ -83,6 +84,14 @@ fn say_asking(asking: Asking, held: &[u16]) -> bool {
     say(b"\tASK") && say_number(asking.slave as u64) && say_words(&held[from..])
 }
 
+// What a slow-control step says.
+fn say_slow(slow: Slow) -> bool {
+    match slow {
+        Slow::Nothing => say(b"\tNOTHING"),
+        Slow::Handed(place) => say(b"\tHANDED") && say_number(place as u64),
+    }
+}
+
 // What a call comes to. A start is none of the lines' calls.
 fn say_come(answer: Answer, held: &[u16], buffer: &[u16]) -> bool {
     match answer {
@@ -92,6 +101,7 @@ fn say_come(answer: Answer, held: &[u16], buffer: &[u16]) -> bool {
         Answer::Next(slave) => say(b"\tSEND NEXT") && say_number(slave as u64),
         Answer::Waiting => say(b"\tWAITING"),
         Answer::Erased(words) => say(b"\tERASED") && say_number(words as u64),
+        Answer::Slow(slow) => say_slow(slow),
         Answer::Refused(refusal) => {
             say(b"\tREFUSED") && say_number(refusal_number(refusal) as u64)
         }
@@ -112,6 +122,9 @@ pub fn say_help() -> bool {
         )
         && say(
             b"erase BUDGET                                  erase progress, with a budget in words\n",
+        )
+        && say(
+            b"slow                                          a slow-control step: the entry of the Q-List in turn\n",
         )
         && say(
             b"clock TICKS                                   the clock of the calls from here on\n",

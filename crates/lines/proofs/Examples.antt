@@ -25,6 +25,7 @@ examples =
       reply = refl;
       reply-words = refl;
       poll = refl;
+      slow = refl;
       erase = refl;
       clock = refl;
       error = refl;

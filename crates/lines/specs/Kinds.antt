@@ -23,8 +23,9 @@ namedBy first =
     (pick (same first (bytes "clock")) (Named.A Kind.Clock)
     (pick (same first (bytes "error")) (Named.A Kind.Fault)
     (pick (same first (bytes "help")) (Named.A Kind.Help)
+    (pick (same first (bytes "slow")) (Named.A Kind.Slow)
     (pick (fits Shape.Number32 first) (Named.A Kind.Request)
-    Named.Unknown))))))
+    Named.Unknown)))))))
 
 -- The fields that a line of each kind must have behind its first one ..
 abbrev pub shapesOf : Kind → List Shape
@@ -35,6 +36,7 @@ shapesOf Kind.Erase = Shape.Number64 ∷ []
 shapesOf Kind.Clock = Shape.Hex32 ∷ []
 shapesOf Kind.Fault = []
 shapesOf Kind.Help = []
+shapesOf Kind.Slow = []
 
 -- .. and whether words may follow.
 abbrev pub takesWords : Kind → Bool
@@ -45,6 +47,7 @@ takesWords Kind.Erase = false
 takesWords Kind.Clock = false
 takesWords Kind.Fault = false
 takesWords Kind.Help = false
+takesWords Kind.Slow = false
 
 -- What is wrong with a field that has another shape.
 abbrev pub whatOf : Shape → What

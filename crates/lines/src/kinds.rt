@@ -41,6 +41,9 @@ pub(crate) fn named_by(first: &[u8]) -> Named
     if is_same(first, b"help") {
         return Named::A(Kind::Help);
     }
+    if is_same(first, b"slow") {
+        return Named::A(Kind::Slow);
+    }
     if has_shape(Shape::Number32, first) {
         return Named::A(Kind::Request);
     }
@@ -59,6 +62,7 @@ fn must_have(kind: Kind) -> usize
         Kind::Clock => 1,
         Kind::Fault => 0,
         Kind::Help => 0,
+        Kind::Slow => 0,
     }
 }
 
@@ -74,6 +78,7 @@ fn shape_at(kind: Kind, i: usize) -> Shape
         Kind::Clock => first_or_word(Shape::Hex32, i),
         Kind::Fault => Shape::Word,
         Kind::Help => Shape::Word,
+        Kind::Slow => Shape::Word,
     }
 }
 
@@ -108,6 +113,7 @@ fn takes_words(kind: Kind) -> bool
         Kind::Clock => false,
         Kind::Fault => false,
         Kind::Help => false,
+        Kind::Slow => false,
     }
 }
 

@@ -66,6 +66,7 @@ pub enum Said {
     Clock(u32),
     Fault,
     Help,
+    Slow,
     Wrong(Wrong),
 }
 
@@ -101,6 +102,7 @@ enum Kind {
     Clock,
     Fault,
     Help,
+    Slow,
 }
 
 // The kind that a first field names.

@@ -145,6 +145,7 @@ fn take(line: &[u8], first: usize, kind: Kind, words: &mut [u16]) -> Said
         Kind::Clock => Said::Clock(item32(line, first, 0, Shape::Hex32)),
         Kind::Fault => Said::Fault,
         Kind::Help => Said::Help,
+        Kind::Slow => Said::Slow,
     }
 }
 

@@ -11,6 +11,7 @@ use node::Joining;
 use node::Node;
 use node::Pending;
 use node::Writing;
+use qlist::Listing;
 
 // Before a first packet, BC 10, no write stands; before another, one of link 0 with so many words.
 fn write_before(bc: u32, words: usize) -> Writing
@@ -80,6 +81,10 @@ fn node_before(bc: u32, words: usize, flash: usize) -> Node
         erasing: Erasing::Nothing,
         pending: Pending::Nothing,
         writing: write_before(bc, words),
+        listing: Listing {
+            entries: 0,
+            turn: 0,
+        },
     }
 }
 
@@ -95,6 +100,7 @@ fn bc_in(answer: Answer) -> u32
         Answer::Next(_) => 4,
         Answer::Waiting => 4,
         Answer::Erased(_) => 4,
+        Answer::Slow(_) => 4,
     }
 }
 
@@ -109,13 +115,27 @@ pub extern "C" fn perf_packet(
     dm: &mut [u16],
     io: &mut [u16],
     area: &mut [u16],
+    list: &mut [u16],
     reply: &mut [u16],
 ) -> u32
-    ensures { λ r. ⌜ lent (now (flash .exit)) (memories (now (pm .exit)) (now (dm .exit)) (now (io .exit))) (further (now (area .exit))) (now (reply .exit)) ≡ sentTo bc joined (now (packet .entry)) (lent (now (flash .entry)) (memories (now (pm .entry)) (now (dm .entry)) (now (io .entry))) (further (now (area .entry))) (now (reply .entry))) .after ⌝ }
-    ensures { λ r. ⌜ r ≡ bcIn (sentTo bc joined (now (packet .entry)) (lent (now (flash .entry)) (memories (now (pm .entry)) (now (dm .entry)) (now (io .entry))) (further (now (area .entry))) (now (reply .entry))) .turn .answer) ⌝ }
+    ensures { λ r. ⌜ lent (now (flash .exit)) (memories (now (pm .exit)) (now (dm .exit)) (now (io .exit))) (further (now (area .exit)) (now (list .exit))) (now (reply .exit)) ≡ sentTo bc joined (now (packet .entry)) (lent (now (flash .entry)) (memories (now (pm .entry)) (now (dm .entry)) (now (io .entry))) (further (now (area .entry)) (now (list .entry))) (now (reply .entry))) .after ⌝ }
+    ensures { λ r. ⌜ r ≡ bcIn (sentTo bc joined (now (packet .entry)) (lent (now (flash .entry)) (memories (now (pm .entry)) (now (dm .entry)) (now (io .entry))) (further (now (area .entry)) (now (list .entry))) (now (reply .entry))) .turn .answer) ⌝ }
 {
     let node = node_before(bc, joined, flash.len());
-    let turn = node.request(0, 0, bc, false, packet, flash, pm, dm, io, area, reply);
+    let turn = node.request(
+        0,
+        0,
+        bc,
+        false,
+        packet,
+        flash,
+        pm,
+        dm,
+        io,
+        area,
+        list,
+        reply,
+    );
     let answer = turn.answer;
     bc_in(answer)
 }

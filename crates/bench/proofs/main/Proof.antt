@@ -8,12 +8,12 @@ use Rattle.bench.proofs.main.Statement.{statement}
 use Rattle.bench.proofs.main.Tie as tie
 
 abbrev Inv-loop : tie.InvT-loop
-Inv-loop bytes₀ words₀ held₀ flash₀ pm₀ dm₀ io₀ area₀ reply₀ after₀ line₀ turns₀ bytes words held flash pm dm io area reply after line turns =
+Inv-loop bytes₀ words₀ held₀ flash₀ pm₀ dm₀ io₀ area₀ list₀ reply₀ after₀ line₀ turns₀ bytes words held flash pm dm io area list reply after line turns =
     (((length bytes ≡ 200000) × (length words ≡ 40000)) × ((length held ≡ 8192) × (length flash ≡ 32768)))
-    × (((length pm ≡ 32768) × (length dm ≡ 32768)) × (((length io ≡ 4096) × (length area ≡ 32768)) × (length reply ≡ 12288)))
+    × (((length pm ≡ 32768) × (length dm ≡ 32768)) × (((length io ≡ 4096) × (length area ≡ 32768)) × ((length list ≡ 6370) × (length reply ≡ 12288))))
 
 abbrev μ-loop : tie.MeasureT-loop
-μ-loop bytes₀ words₀ held₀ flash₀ pm₀ dm₀ io₀ area₀ reply₀ after₀ line₀ turns₀ bytes words held flash pm dm io area reply after line turns = turns
+μ-loop bytes₀ words₀ held₀ flash₀ pm₀ dm₀ io₀ area₀ list₀ reply₀ after₀ line₀ turns₀ bytes words held flash pm dm io area list reply after line turns = turns
 
 line-room-requires : tie.Need-line-room-requires Inv-loop μ-loop
 line-room-requires c κs = search needs
@@ -39,6 +39,9 @@ io-room-requires c κs = search needs
 area-room-requires : tie.Need-area-room-requires Inv-loop μ-loop
 area-room-requires c κs = search needs
 
+list-room-requires : tie.Need-list-room-requires Inv-loop μ-loop
+list-room-requires c κs = search needs
+
 reply-room-requires : tie.Need-reply-room-requires Inv-loop μ-loop
 reply-room-requires c κs = search needs
 
@@ -52,7 +55,8 @@ before-requires : tie.Need-before-requires Inv-loop μ-loop
 before-requires c κs = search needs
 
 loop-holds : tie.Need-loop-holds Inv-loop μ-loop
-loop-holds c = search needs
+loop-holds c =
+    (((c .before .before .before .before .before .before .before .before .before .before .before .before .line-room .ensures .1, c .before .before .before .before .before .before .before .before .before .before .before .words-room .ensures .1), (search needs, search needs)), ((search needs, search needs), ((search needs, search needs), (search needs, search needs))))
 
 sub-turns : tie.Need-sub-turns Inv-loop μ-loop
 sub-turns c = search needs
@@ -102,6 +106,9 @@ slice-aggregate-turn-7 c = search needs
 slice-aggregate-turn-8 : tie.Need-slice-aggregate-turn-8 Inv-loop μ-loop
 slice-aggregate-turn-8 c = search needs
 
+slice-aggregate-turn-9 : tie.Need-slice-aggregate-turn-9 Inv-loop μ-loop
+slice-aggregate-turn-9 c = search needs
+
 turn-requires : tie.Need-turn-requires Inv-loop μ-loop
 turn-requires c κs = search needs
 
@@ -112,12 +119,12 @@ returns-2 : tie.Need-returns-2 Inv-loop μ-loop
 returns-2 c = search needs
 
 loop-less : tie.Need-loop-less Inv-loop μ-loop
-loop-less c = omega (arith, c .before .before .before .before .before .before .before .before .before .before .before .before .before .before .before .before .before .before .before .before .before .before .before .before .before .before .before .before .loop-test .taken)
+loop-less c = omega (arith, c .before .before .before .before .before .before .before .before .before .before .before .before .before .before .before .before .before .before .before .before .before .before .before .before .before .before .before .before .before .before .loop-test .taken)
 
 loop-again : tie.Need-loop-again Inv-loop μ-loop
 loop-again c = (
-  ((c .before .before .before .before .before .before .before .before .before .before .before .before .before .before .before .before .before .before .before .before .before .before .before .before .before .before .next-line .kept .0 ∙ c .before .before .before .before .before .before .before .before .before .before .before .before .before .before .before .before .before .before .before .before .before .before .before .before .before .before .before .before .before .loop .inv .0 .0 .0, search needs), (search needs, search needs)),
-  ((search needs, search needs), ((search needs, search needs), search needs)),
+  ((c .before .before .before .before .before .before .before .before .before .before .before .before .before .before .before .before .before .before .before .before .before .before .before .before .before .before .before .before .next-line .kept .0 ∙ c .before .before .before .before .before .before .before .before .before .before .before .before .before .before .before .before .before .before .before .before .before .before .before .before .before .before .before .before .before .before .before .loop .inv .0 .0 .0, search needs), (search needs, search needs)),
+  ((search needs, search needs), ((search needs, search needs), (search needs, search needs))),
 )
 
 returns-3 : tie.Need-returns-3 Inv-loop μ-loop
@@ -137,6 +144,7 @@ main-spec =
     dm-room-requires
     io-room-requires
     area-room-requires
+    list-room-requires
     reply-room-requires
     slice-aggregate-start
     start-requires
@@ -158,6 +166,7 @@ main-spec =
     slice-aggregate-turn-6
     slice-aggregate-turn-7
     slice-aggregate-turn-8
+    slice-aggregate-turn-9
     turn-requires
     stop-requires
     returns-2

@@ -48,6 +48,12 @@ first6 c = first5 (c .before .before .before)
 not-help : (c : tie.Else6) → same (first6 c) (bytes "help") ≡ false
 not-help c = sym (c .before .is-same6 .ensures) ∙ c .if6 .left
 
+abbrev first7 : tie.Else7 → List ℕ
+first7 c = first6 (c .before .before .before)
+
+not-slow : (c : tie.Else7) → same (first7 c) (bytes "slow") ≡ false
+not-slow c = sym (c .before .is-same7 .ensures) ∙ c .if7 .left
+
 slice-aggregate-is-same : tie.Need-slice-aggregate-is-same
 slice-aggregate-is-same c = search needs
 
@@ -130,32 +136,52 @@ returns-6 c =
     no _ (not-reply e1) (no _ (not-poll e2) (no _ (not-erase e3) (no _ (not-clock e4) (no _ (not-error e5)
     (yes _ (sym (c .before .is-same6 .ensures) ∙ c .if6 .taken) refl)))))
 
-has-shape-requires : tie.Need-has-shape-requires
-has-shape-requires c κs = search needs
+slice-aggregate-is-same-7 : tie.Need-slice-aggregate-is-same-7
+slice-aggregate-is-same-7 c = search needs
+
+is-same-requires-7 : tie.Need-is-same-requires-7
+is-same-requires-7 c κs = search needs
 
 returns-7 : tie.Need-returns-7
 unfolding namedBy
 returns-7 c =
-    let e6 = c .before .before in
+    let e6 = c .before .before .before in
     let e5 = e6 .before .before .before in
     let e4 = e5 .before .before .before in
     let e3 = e4 .before .before .before in
     let e2 = e3 .before .before .before in
     let e1 = e2 .before .before .before in
     no _ (not-reply e1) (no _ (not-poll e2) (no _ (not-erase e3) (no _ (not-clock e4) (no _ (not-error e5) (no _ (not-help e6)
-    (yes _ (sym (c .before .has-shape .ensures) ∙ c .if7 .taken) refl))))))
+    (yes _ (sym (c .before .is-same7 .ensures) ∙ c .if7 .taken) refl))))))
+
+has-shape-requires : tie.Need-has-shape-requires
+has-shape-requires c κs = search needs
 
 returns-8 : tie.Need-returns-8
 unfolding namedBy
 returns-8 c =
-    let e6 = c .before .before in
+    let e7 = c .before .before in
+    let e6 = e7 .before .before .before in
     let e5 = e6 .before .before .before in
     let e4 = e5 .before .before .before in
     let e3 = e4 .before .before .before in
     let e2 = e3 .before .before .before in
     let e1 = e2 .before .before .before in
     no _ (not-reply e1) (no _ (not-poll e2) (no _ (not-erase e3) (no _ (not-clock e4) (no _ (not-error e5) (no _ (not-help e6)
-    (no _ (sym (c .before .has-shape .ensures) ∙ c .if7 .left) refl))))))
+    (no _ (not-slow e7) (yes _ (sym (c .before .has-shape .ensures) ∙ c .if8 .taken) refl)))))))
+
+returns-9 : tie.Need-returns-9
+unfolding namedBy
+returns-9 c =
+    let e7 = c .before .before in
+    let e6 = e7 .before .before .before in
+    let e5 = e6 .before .before .before in
+    let e4 = e5 .before .before .before in
+    let e3 = e4 .before .before .before in
+    let e2 = e3 .before .before .before in
+    let e1 = e2 .before .before .before in
+    no _ (not-reply e1) (no _ (not-poll e2) (no _ (not-erase e3) (no _ (not-clock e4) (no _ (not-error e5) (no _ (not-help e6)
+    (no _ (not-slow e7) (no _ (sym (c .before .has-shape .ensures) ∙ c .if8 .left) refl)))))))
 
 pub named-by-spec : {M : Type 1} → statement M
 named-by-spec =
@@ -179,6 +205,9 @@ named-by-spec =
     slice-aggregate-is-same-6
     is-same-requires-6
     returns-6
-    has-shape-requires
+    slice-aggregate-is-same-7
+    is-same-requires-7
     returns-7
-    returns-8)
+    has-shape-requires
+    returns-8
+    returns-9)

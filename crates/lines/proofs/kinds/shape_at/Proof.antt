@@ -41,6 +41,9 @@ enum-told-6 c = search needs
 enum-told-7 : tie.Need-enum-told-7
 enum-told-7 c = search needs
 
+enum-told-8 : tie.Need-enum-told-8
+enum-told-8 c = search needs
+
 returns : tie.Need-returns
 returns c =
     via (λ (k : Kind). getD (shapesOf k) (c .before .before .before .args .i) Shape.Word) (c .before .enum-told .given .1)
@@ -68,6 +71,9 @@ returns-6 c = search needs
 returns-7 : tie.Need-returns-7
 returns-7 c = search needs
 
+returns-8 : tie.Need-returns-8
+returns-8 c = search needs
+
 pub shape-at-spec : {M : Type 1} → statement M
 shape-at-spec =
     tie.close
@@ -83,10 +89,12 @@ shape-at-spec =
     first-or-word-requires-3
     enum-told-6
     enum-told-7
+    enum-told-8
     returns
     returns-2
     returns-3
     returns-4
     returns-5
     returns-6
-    returns-7)
+    returns-7
+    returns-8)

@@ -58,6 +58,9 @@ enum-told-6 c = search needs
 enum-told-7 : tie.Need-enum-told-7
 enum-told-7 c = search needs
 
+enum-told-8 : tie.Need-enum-told-8
+enum-told-8 c = search needs
+
 same-length : tie.Need-same-length
 same-length c = search needs
 
@@ -112,6 +115,12 @@ returns-7 c =
     says-by (fieldsFrom (a .line .now) (a .first)) (a .words .now)
     (ap (λ (k : Kind). taken k (fieldsFrom (a .line .now) (a .first))) (c .enum-told7 .given .1)) (refl, laid-none (a .words .now) 0)
 
+returns-8 : tie.Need-returns-8
+returns-8 c =
+    let a = c .before .before .before .before .args in
+    says-by (fieldsFrom (a .line .now) (a .first)) (a .words .now)
+    (ap (λ (k : Kind). taken k (fieldsFrom (a .line .now) (a .first))) (c .enum-told8 .given .1)) (refl, laid-none (a .words .now) 0)
+
 pub take-spec : {M : Type 1} → statement M
 take-spec =
     tie.close
@@ -127,6 +136,7 @@ take-spec =
     item32-requires
     enum-told-6
     enum-told-7
+    enum-told-8
     same-length
     returns
     same-length-2
@@ -135,4 +145,5 @@ take-spec =
     returns-4
     returns-5
     returns-6
-    returns-7)
+    returns-7
+    returns-8)
