@@ -1,13 +1,14 @@
 /* logodwen.h: the reference node for a host in C (liblogodwen.a).
 
-   A node is a state machine without memory of its own: the host keeps the node's state as 188 bytes, its flash and its memories as
-   runs of bytes, and lends them to each call. There are five calls, and two entries that need no node:
+   A node is a state machine without memory of its own: the host keeps the node's state as 192 bytes, its flash, its memories and its
+   Q-List as runs of bytes, and lends them to each call. There are six calls, and two entries that need no node:
 
        logodwen_start      a node starts on a flash
        logodwen_request    a packet from a master came in on a link
        logodwen_reply      a packet from a slave came in
        logodwen_poll       time went by while a slave is being asked
        logodwen_erase      a bit of an erasure that is going on is done
+       logodwen_slow       the slow-control step: the entry of the Q-List whose turn it is, handed out if it is due
        logodwen_fcs        the check sequence of words
        logodwen_capture    whether words are a group's reply, as this or another node may have sent it, and if not, from which word on
 
@@ -15,7 +16,8 @@
    bytes that it is lent, and touches no byte outside the lent runs: that is proved, so no input has to be kept away from it.
 
    Around the calls stand helpers in plain C, in the order in which a host needs them: what was answered, taken apart; words in bytes; a
-   node in one struct, with the calls on it; files and segments, built and read; requests; replies, read. They are tested, not proved.
+   node in one struct, with the calls on it; the Q-List, read; files and segments, built and read; requests; replies, read. They are
+   tested, not proved.
    None of them reads or writes past the length that it is given, whatever the bytes say.
 
    What the host must see to
@@ -28,6 +30,9 @@
      The reply buffer is zeroed at power-up.
    - While a file comes in several packets (an answer was NEXT), the words from 0 on of the area hold what was joined so far, and the host
      leaves the area as it is until the last packet is answered or the file is dropped. Every request is lent the area.
+   - The records of the entries listed are the node's: the host reads them and leaves them as they are, and lends the same run to every
+     request and every slow-control step. If it changes one, the node goes on with what stands there, and its count of repetitions is the
+     host's to answer for. Records behind those listed may hold anything: none is read, and only a Q-List Write stores there.
    - The host keeps the request that made the node ask a slave: it sends it on to each slave that the node asks, from the word that
      the answer tells. The node does not keep it. A slave that is to be sent NEXT gets no word of it (logodwen_to_send).
 
@@ -35,11 +40,12 @@
    at the same time in different threads; calls that share a run (the state above all) may not.
 
    Words: a word is two bytes, a word of program memory (PM) four, the low byte first. Of a PM word the low 24 bits count, and a store
-   clears the others. The five calls and logodwen_capture take lengths in bytes (`_len`); bytes that are not a whole word at the end of a
-   run are ignored, and stay as they are. The helpers count in words (`words`, `count`, `room`).
+   clears the others. The six calls and logodwen_capture take lengths in bytes (`_len`); bytes that are not a whole word at the end of a
+   run, or not a whole record of the Q-List, are ignored, and stay as they are. The helpers count in words (`words`, `count`, `room`), or
+   in records.
 
    Times are in ticks of 10 ms and count modulo 2^32. A slave that has not answered 60 ticks after it was asked, or sent
-   NEXT, is late. */
+   NEXT, is late. An entry of the Q-List is due once its time has come, for 2^31 ticks, which is 248 days. */
 #ifndef LOGODWEN_H
 #define LOGODWEN_H
 
@@ -53,16 +59,19 @@ extern "C" {
 #endif
 
 /* The version of this interface. It is part of every symbol, so a host that was compiled against another version does not link. */
-#define LOGODWEN_VERSION 3
+#define LOGODWEN_VERSION 4
 
 /* Sizes. */
-#define LOGODWEN_STATE_BYTES 188u         /* of a node's state, exactly; the layout is at the end of this file */
+#define LOGODWEN_STATE_BYTES 192u         /* of a node's state, exactly; the layout is at the end of this file */
 #define LOGODWEN_FLASH_WORDS 32768u       /* of the flash, exactly */
 #define LOGODWEN_FLASH_BYTES 65536u
 #define LOGODWEN_REPLY_WORDS 12288u       /* of the reply buffer, at least */
 #define LOGODWEN_REPLY_BYTES 24576u
 #define LOGODWEN_AREA_WORDS 32768u        /* of the area where the packets of a file join, at least; and of such a file, at most */
 #define LOGODWEN_AREA_BYTES 65536u
+#define LOGODWEN_LIST_RECORDS 910u        /* of the Q-List, at most; as many as are listed at least */
+#define LOGODWEN_RECORD_BYTES 14u
+#define LOGODWEN_LIST_BYTES 12740u
 #define LOGODWEN_PM_WORDS 8192u           /* of program memory, at most; words of four bytes */
 #define LOGODWEN_PM_BYTES 32768u
 #define LOGODWEN_DM_WORDS 8192u           /* of data memory, at most */
@@ -85,6 +94,7 @@ extern "C" {
 #define LOGODWEN_STACK_REPLY 98304u
 #define LOGODWEN_STACK_POLL 4096u
 #define LOGODWEN_STACK_ERASE 4096u
+#define LOGODWEN_STACK_SLOW 4096u
 #define LOGODWEN_STACK_FCS 4096u
 #define LOGODWEN_STACK_CAPTURE 4096u
 
@@ -111,21 +121,24 @@ extern "C" {
 #define LOGODWEN_REFUSED_REPLY_SIZE 2u  /* the reply buffer is below 12,288 words */
 #define LOGODWEN_REFUSED_MEMORY_SIZE 3u /* PM or DM above 8,192 words, IO above 4,096, or a slave's reply above 32,768 */
 #define LOGODWEN_REFUSED_AREA_SIZE 8u   /* the area is below 32,768 words: tested here, between 3 and 4 */
+#define LOGODWEN_REFUSED_LIST_SIZE 9u   /* the Q-List is above 910 records, or below the entries listed: tested here, after 8 */
 #define LOGODWEN_REFUSED_NUMBER 4u      /* a link that is no port; a slave above 23; at start a kind, ports or sub-detector that is none */
-#define LOGODWEN_REFUSED_STATE 5u       /* the state bytes are not 188, or not those of a node's state */
+#define LOGODWEN_REFUSED_STATE 5u       /* the state bytes are not 192, or not those of a node's state */
 #define LOGODWEN_REFUSED_BUSY 6u        /* a request with words, while a request is pending */
 #define LOGODWEN_REFUSED_UNASKED 7u     /* a reply or a poll with nothing pending, or a reply from a slave that is not being asked */
 
-/* What a call that is not refused answers: see logodwen_answer and those below it. 6 and 7 are no answers. */
+/* What a call that is not refused answers: see logodwen_answer and those below it. */
 #define LOGODWEN_REPLY 1u     /* a reply to the master stands in the reply buffer, or has no words */
 #define LOGODWEN_ASK 2u       /* a slave is to be sent the request, from some word on */
 #define LOGODWEN_WAITING 3u   /* poll only: the slave is not late yet */
 #define LOGODWEN_ACCEPTED 4u  /* capture only: the words are a group's reply */
 #define LOGODWEN_BROKEN 5u    /* capture only: they are none, from some word on */
+#define LOGODWEN_HANDED 6u    /* slow only: an entry of the Q-List is handed out, for the host to carry out */
+#define LOGODWEN_NOTHING 7u   /* slow only: nothing is to be carried out now */
 #define LOGODWEN_SEND_NEXT 8u /* reply only: the slave that is being asked is to be sent NEXT, a packet of no words with BC 0, since its
                                  reply comes in packets; what it answers to that is given to the next logodwen_reply */
 
-/* The entries. Names that begin with logodwen3_ are the symbols of the archive; a host writes the short names below. */
+/* The entries. Names that begin with logodwen4_ are the symbols of the archive; a host writes the short names below. */
 
 /* Starts a node on a flash: reads all of it once, and writes the state. Mask 0 of a CDDC then names all 24 slaves, and a host that wants
    it empty writes zero (logodwen_make_mask_write); its masks 1 to 15, and all masks of a CDP, are 0. Answers 0, or why it is refused: 1,
@@ -137,28 +150,28 @@ extern "C" {
                            two words that the node's status tells
      start_tests           results of the tests at start, bits 11 to 8; other bits are ignored
      clock                 the time now */
-uint32_t logodwen3_start(uint32_t kind, uint32_t ports, uint32_t subdetector,
+uint32_t logodwen4_start(uint32_t kind, uint32_t ports, uint32_t subdetector,
                          uint16_t program_version, uint16_t subdetector_version, uint16_t start_tests,
                          uint32_t clock,
                          const uint8_t *flash, size_t flash_len,
                          uint8_t *state, size_t state_len);
 
-/* A packet from a master. Refused: 1, 2, 3, 8, 4, 5 or 6. Answers a reply or asks a slave.
+/* A packet from a master. Refused: 1, 2, 3, 8, 9, 4, 5 or 6. Answers a reply or asks a slave.
      now                   the time now
      link                  the link it came in on, below the ports given at start
      bc                    its BC; bits above bit 1 are ignored
      receive_error         0, or any other number if the receiver noticed an error
      packet                its words; of no words with BC 2, it drops what is that link's: the pending request, the file that comes in
                            several packets
-     state, flash, pm, dm, io, area, reply
+     state, flash, pm, dm, io, area, list, reply
                            the node's own, each changed as the request has it. Of the area only the words of a packet that joins are
-                           written, of the reply buffer those of a reply that has words.
+                           written, of the list only records by a command on it, of the reply buffer the words of a reply that has some.
    A File Write whose file has no room in one packet comes in several, from one link: the first with BC 2, whose word 0 is 0x452E; others
    with BC 0, the last with BC 1, which have words of the file alone. Each but the last is answered NEXT, and nothing is tested of the
    words that it brings; the last is answered as a File Write of them all. At most one file comes so at a time, and requests of other
    links go on meanwhile. It is dropped, and nothing of it stored, where it gets longer than 32,768 words (ABORT), by a packet with words
    and BC 2 or 3 from its link (ERROR), or by one of no words and BC 2 (END). */
-uint64_t logodwen3_request(uint32_t now, uint32_t link, uint32_t bc, uint32_t receive_error,
+uint64_t logodwen4_request(uint32_t now, uint32_t link, uint32_t bc, uint32_t receive_error,
                            const uint8_t *packet, size_t packet_len,
                            uint8_t *state, size_t state_len,
                            uint8_t *flash, size_t flash_len,
@@ -166,6 +179,7 @@ uint64_t logodwen3_request(uint32_t now, uint32_t link, uint32_t bc, uint32_t re
                            uint8_t *dm, size_t dm_len,
                            uint8_t *io, size_t io_len,
                            uint8_t *area, size_t area_len,
+                           uint8_t *list, size_t list_len,
                            uint8_t *reply, size_t reply_len);
 
 /* A packet from the slave that is being asked. Refused: 2, 3, 4, 5 or 7. Answers a reply, asks the next slave, or has this one sent NEXT.
@@ -177,7 +191,7 @@ uint64_t logodwen3_request(uint32_t now, uint32_t link, uint32_t bc, uint32_t re
    The last is answered as if all the words had come in one, with the FCS at their very end. Where something is wrong with a packet, the
    reply is over: the fragment says what it was (LOGODWEN_CODE_..), and the next slave is asked. What had come of it stays in the buffer and
    counts as nothing. A single slave's packet goes to the master as it is, whatever its BC, and the request is over. */
-uint64_t logodwen3_reply(uint32_t now, uint32_t slave, uint32_t bc, uint32_t receive_error,
+uint64_t logodwen4_reply(uint32_t now, uint32_t slave, uint32_t bc, uint32_t receive_error,
                          uint16_t rx_status, uint16_t rx_address,
                          const uint8_t *packet, size_t packet_len,
                          uint8_t *state, size_t state_len,
@@ -185,19 +199,30 @@ uint64_t logodwen3_reply(uint32_t now, uint32_t slave, uint32_t bc, uint32_t rec
 
 /* Time went by while a slave is being asked. Refused: 2, 5 or 7. Answers that the node waits; or the slave is late, after NEXT too, and it
    answers a reply or asks the next slave. */
-uint64_t logodwen3_poll(uint32_t now,
+uint64_t logodwen4_poll(uint32_t now,
                         uint8_t *state, size_t state_len,
                         uint8_t *reply, size_t reply_len);
 
 /* Goes on with an erasure that a request began: sets up to `budget` words of the sector to FFFF, from its low end. Refused: 1 or 5.
    Answers how many words it set (logodwen_words); 0 where the budget is 0 or nothing is being erased. */
-uint64_t logodwen3_erase(uint64_t budget,
+uint64_t logodwen4_erase(uint64_t budget,
                          uint8_t *state, size_t state_len,
                          uint8_t *flash, size_t flash_len);
 
+/* The slow-control step: looks at the entry of the Q-List whose turn it is, and at no other. Refused: 9 or 5. If that entry is due and has
+   repetitions left, answers LOGODWEN_HANDED with its place (logodwen_place), for the host to carry out; it then has one repetition less, and
+   is due one frequency later than it was. Else, and where none is listed, answers LOGODWEN_NOTHING. Either way the turn moves on to the next
+   entry, after the last to the first. So a host calls it once in each pass of its loop, or as often as there are entries to see them all:
+   no call takes longer for a longer list.
+     now                   the time now. An entry is due where now less its due time, modulo 2^32, is below 2^31
+     list                  the records, of which at most the 14 bytes of that entry are written */
+uint64_t logodwen4_slow(uint32_t now,
+                        uint8_t *state, size_t state_len,
+                        uint8_t *list, size_t list_len);
+
 /* The check sequence (FCS) of the words of bytes: polynomial 0x1021, start 0xFFFF, high byte of each word first. A last byte alone is
    ignored. */
-uint16_t logodwen3_fcs(const uint8_t *bytes, size_t len);
+uint16_t logodwen4_fcs(const uint8_t *bytes, size_t len);
 
 /* Whether words that some node sent are a group's reply, by the rules by which this node assembles one. It is never refused, changes
    nothing, and needs no node. Answers LOGODWEN_ACCEPTED: answers of the slaves exist from which this node assembles just these words, and
@@ -207,17 +232,18 @@ uint16_t logodwen3_fcs(const uint8_t *bytes, size_t len);
      mask                  the slaves that were asked, bit s for slave s. An empty one, or one with a bit above 23, has no reply: broken at 0
      words                 the reply, status word and FCS included. No words are broken at 0: where every slave answers the same without
                            words, that answer is the group's reply, and it has no fragments */
-uint64_t logodwen3_capture(uint32_t mask, const uint8_t *words, size_t words_len);
+uint64_t logodwen4_capture(uint32_t mask, const uint8_t *words, size_t words_len);
 
-#define logodwen_start logodwen3_start
-#define logodwen_request logodwen3_request
-#define logodwen_reply logodwen3_reply
-#define logodwen_poll logodwen3_poll
-#define logodwen_erase logodwen3_erase
-#define logodwen_capture logodwen3_capture
+#define logodwen_start logodwen4_start
+#define logodwen_request logodwen4_request
+#define logodwen_reply logodwen4_reply
+#define logodwen_poll logodwen4_poll
+#define logodwen_erase logodwen4_erase
+#define logodwen_slow logodwen4_slow
+#define logodwen_capture logodwen4_capture
 
 /* The same of so many words. It ends a segment's body and every reply that has words. */
-static inline uint16_t logodwen_fcs(const uint8_t *bytes, size_t words) { return logodwen3_fcs(bytes, 2 * words); }
+static inline uint16_t logodwen_fcs(const uint8_t *bytes, size_t words) { return logodwen4_fcs(bytes, 2 * words); }
 
 /* ---- What was answered, taken apart. A call that is refused has no other part. ---- */
 
@@ -227,8 +253,8 @@ static inline uint16_t logodwen_fcs(const uint8_t *bytes, size_t words) { return
 /* Why the call was refused, or LOGODWEN_DONE. */
 static inline unsigned logodwen_refusal(uint64_t answered) { return (unsigned)(answered & 0xFFu); }
 
-/* LOGODWEN_REPLY, LOGODWEN_ASK, LOGODWEN_SEND_NEXT or LOGODWEN_WAITING, of logodwen_capture LOGODWEN_ACCEPTED or LOGODWEN_BROKEN; 0 of a
-   call that was refused, and of logodwen_erase. */
+/* LOGODWEN_REPLY, LOGODWEN_ASK, LOGODWEN_SEND_NEXT or LOGODWEN_WAITING, of logodwen_slow LOGODWEN_HANDED or LOGODWEN_NOTHING, of
+   logodwen_capture LOGODWEN_ACCEPTED or LOGODWEN_BROKEN; 0 of a call that was refused, and of logodwen_erase. */
 static inline unsigned logodwen_answer(uint64_t answered) { return (unsigned)(answered >> 8 & 0xFFu); }
 
 /* Of LOGODWEN_REPLY: its BC. Else LOGODWEN_NONE. */
@@ -236,15 +262,17 @@ static inline unsigned logodwen_bc(uint64_t answered) {
     return logodwen_answer(answered) == LOGODWEN_REPLY ? (unsigned)(answered >> 16 & 0xFFu) : LOGODWEN_NONE;
 }
 
-/* Of LOGODWEN_REPLY: how many words of the reply buffer it has, from word 0 on. Of logodwen_erase: how many words were set. Else 0. */
-static inline uint32_t logodwen_words(uint64_t answered) {
-    return logodwen_answer(answered) == LOGODWEN_BROKEN ? 0 : (uint32_t)(answered >> 32);
+/* Whether the answer has a place, where others have a count of words. For the two below. */
+static inline bool logodwen_has_place(uint64_t answered) {
+    return logodwen_answer(answered) == LOGODWEN_BROKEN || logodwen_answer(answered) == LOGODWEN_HANDED;
 }
 
-/* Of LOGODWEN_BROKEN: the place of the first word that breaks the rules, counted from 0. Else LOGODWEN_NONE. */
-static inline uint32_t logodwen_place(uint64_t answered) {
-    return logodwen_answer(answered) == LOGODWEN_BROKEN ? (uint32_t)(answered >> 32) : LOGODWEN_NONE;
-}
+/* Of LOGODWEN_REPLY: how many words of the reply buffer it has, from word 0 on. Of logodwen_erase: how many words were set. Else 0. */
+static inline uint32_t logodwen_words(uint64_t answered) { return logodwen_has_place(answered) ? 0 : (uint32_t)(answered >> 32); }
+
+/* Of LOGODWEN_BROKEN: the place of the first word that breaks the rules. Of LOGODWEN_HANDED: the place of the entry in the Q-List, which
+   logodwen_read_record reads. Counted from 0. Else LOGODWEN_NONE. */
+static inline uint32_t logodwen_place(uint64_t answered) { return logodwen_has_place(answered) ? (uint32_t)(answered >> 32) : LOGODWEN_NONE; }
 
 /* Of LOGODWEN_ASK and LOGODWEN_SEND_NEXT: the slave. Else LOGODWEN_NONE. */
 static inline unsigned logodwen_slave(uint64_t answered) {
@@ -298,6 +326,7 @@ static inline const char *logodwen_refusal_text(unsigned refusal) {
     case LOGODWEN_REFUSED_BUSY: return "6: a request while one is pending";
     case LOGODWEN_REFUSED_UNASKED: return "7: nothing is pending, or another slave is being asked";
     case LOGODWEN_REFUSED_AREA_SIZE: return "8: the area is below 32,768 words";
+    case LOGODWEN_REFUSED_LIST_SIZE: return "9: the Q-List is above 910 records, or has fewer than are listed";
     default: return "not a refusal";
     }
 }
@@ -344,12 +373,13 @@ static inline void logodwen_put_pm(uint8_t *bytes, size_t word, uint32_t value) 
 
 /* All zero it is a node before its first start, without PM, DM and IO. A host that has such memories lends its own bytes. */
 struct logodwen_node {
-    uint8_t state[LOGODWEN_STATE_BYTES], flash[LOGODWEN_FLASH_BYTES], area[LOGODWEN_AREA_BYTES], reply[LOGODWEN_REPLY_BYTES];
+    uint8_t state[LOGODWEN_STATE_BYTES], flash[LOGODWEN_FLASH_BYTES], area[LOGODWEN_AREA_BYTES], list[LOGODWEN_LIST_BYTES],
+        reply[LOGODWEN_REPLY_BYTES];
     uint8_t *pm, *dm, *io;
     size_t pm_len, dm_len, io_len; /* in bytes */
 };
 
-/* What is given at start: see logodwen3_start. */
+/* What is given at start: see logodwen4_start. */
 struct logodwen_given {
     uint32_t kind, ports, subdetector;
     uint16_t program_version, subdetector_version, start_tests;
@@ -369,7 +399,7 @@ static inline uint64_t logodwen_node_request(struct logodwen_node *node, uint32_
                                              uint32_t receive_error, const uint8_t *packet, size_t words) {
     return logodwen_request(now, link, bc, receive_error, packet, 2 * words, node->state, sizeof node->state, node->flash,
                             sizeof node->flash, node->pm, node->pm_len, node->dm, node->dm_len, node->io, node->io_len, node->area,
-                            sizeof node->area, node->reply, sizeof node->reply);
+                            sizeof node->area, node->list, sizeof node->list, node->reply, sizeof node->reply);
 }
 
 /* A request that came in whole and without errors. */
@@ -397,6 +427,57 @@ static inline uint64_t logodwen_node_poll(struct logodwen_node *node, uint32_t n
 
 static inline uint64_t logodwen_node_erase(struct logodwen_node *node, uint64_t budget) {
     return logodwen_erase(budget, node->state, sizeof node->state, node->flash, sizeof node->flash);
+}
+
+static inline uint64_t logodwen_node_slow(struct logodwen_node *node, uint32_t now) {
+    return logodwen_slow(now, node->state, sizeof node->state, node->list, sizeof node->list);
+}
+
+/* ---- The Q-List: entries that the slow-control step hands out in turn, each so many times, one frequency apart.
+
+   An entry is written by Q-List Write (logodwen_make_list_write), and its ID is its place, counted from 0. It is first due one frequency after
+   the write. What it asks for, by its header and its two parameters, is the host's to carry out: the node tests of a header that it is not
+   delayed, hands it out as it was written, and sets no bit of it. ---- */
+
+/* The low byte of an entry's header word. Bit 7, 'executed', and bits 6-4, the attribute, are as they were written. */
+#define LOGODWEN_RECORD_FIRST 0x08u /* first of its group: without it an entry is delayed, and a Q-List Write of it is answered ABORT */
+#define LOGODWEN_RECORD_LAST 0x04u  /* last of its group */
+#define LOGODWEN_RECORD_LECROY 0u   /* its type, bits 1-0: a LeCroy command, with the bus as attribute */
+#define LOGODWEN_RECORD_AMSWIRE 1u
+#define LOGODWEN_RECORD_MEMORY 2u
+#define LOGODWEN_RECORD_IO 3u
+
+#define LOGODWEN_FREQUENCY_MOST 0xFFFFFFu /* ticks: 46 hours; the least is 1 */
+
+struct logodwen_record {
+    unsigned header;        /* its low byte: LOGODWEN_RECORD_.. */
+    unsigned repetitions;   /* left; 0 to FFFF */
+    uint32_t frequency;     /* in ticks from one time to the next: the header's high byte above the frequency word */
+    unsigned first, second; /* its parameters */
+    uint32_t due;           /* the time from which on it is due */
+};
+
+/* Reads five words that say an entry, without its due time. For those below. */
+static inline void logodwen_get_record(const uint8_t *bytes, struct logodwen_record *record) {
+    record->header = bytes[0];
+    record->repetitions = logodwen_get(bytes, 1);
+    record->frequency = (uint32_t)bytes[1] << 16 | logodwen_get(bytes, 2);
+    record->first = logodwen_get(bytes, 3);
+    record->second = logodwen_get(bytes, 4);
+    record->due = 0;
+}
+
+/* Reads the record at a place of a list of so many; false where there is no such place, and then leaves `record`. Of what a step answered it
+   reads the entry that was handed out, as it is since then, and is false where none was:
+
+       uint64_t answered = logodwen_node_slow(&node, now);
+       if (logodwen_read_record(node.list, LOGODWEN_LIST_RECORDS, logodwen_place(answered), &record)) .. carry it out */
+static inline bool logodwen_read_record(const uint8_t *list, size_t records, size_t place, struct logodwen_record *record) {
+    if (place >= records) return false;
+    const uint8_t *bytes = list + LOGODWEN_RECORD_BYTES * place;
+    logodwen_get_record(bytes, record);
+    record->due = logodwen_get_pm(bytes + 10, 0);
+    return true;
 }
 
 /* ---- Sectors. The flash has the file sectors 3 to 10; the words before them never change. ---- */
@@ -639,6 +720,9 @@ static inline bool logodwen_file_io(struct logodwen_file *file, const uint16_t *
 #define LOGODWEN_ID_MODE_WRITE 0x52u
 #define LOGODWEN_ID_MASK_READ 0x17u     /* answers 24 words, one a slave, bit i for mask i; not on a CDP */
 #define LOGODWEN_ID_MASK_WRITE 0x57u
+#define LOGODWEN_ID_LIST_READ 0x1Cu     /* answers the entries of the Q-List: logodwen_read_listed */
+#define LOGODWEN_ID_LIST_DELETE 0x5Bu   /* clears an entry's repetitions, or removes the expired entries, or all */
+#define LOGODWEN_ID_LIST_WRITE 0x5Cu    /* adds entries, all or none */
 
 /* The first byte of a request says whom it is for. Any other is answered ERROR. */
 #define LOGODWEN_TO_OWN 0x2Eu    /* this node; the second byte is the ID of the command */
@@ -674,6 +758,7 @@ static inline size_t logodwen_make_status(uint8_t *packet) { return logodwen_mak
 static inline size_t logodwen_make_summary(uint8_t *packet) { return logodwen_make_command(packet, LOGODWEN_ID_SUMMARY); }
 static inline size_t logodwen_make_mode_read(uint8_t *packet) { return logodwen_make_command(packet, LOGODWEN_ID_MODE_READ); }
 static inline size_t logodwen_make_mask_read(uint8_t *packet) { return logodwen_make_command(packet, LOGODWEN_ID_MASK_READ); }
+static inline size_t logodwen_make_list_read(uint8_t *packet) { return logodwen_make_command(packet, LOGODWEN_ID_LIST_READ); }
 
 /* Of a file by its name. A flash that was programmed elsewhere can have a name in several sectors (logodwen_read_named): then these, and
    Attribute Set, are answered ABORT, and File Read and Load count a FLASH error. To erase one of the sectors its number is given. */
@@ -745,6 +830,42 @@ static inline size_t logodwen_make_dm_write(uint8_t *packet, size_t room, unsign
 static inline size_t logodwen_make_perform_io(uint8_t *packet, size_t room, const uint16_t *words, size_t count) {
     if (room == 0) return 0;
     return logodwen_make_before(packet, LOGODWEN_ID_PERFORM_IO, logodwen_make_io(packet + 2, room - 1, words, count));
+}
+
+/* Entries to add to the Q-List, behind those listed: in a DM segment their number, and five words each. Their due times are not looked at.
+   It lays nothing, and answers 0, where some entry can't be written: a header above FF or without LOGODWEN_RECORD_FIRST, a frequency of 0 or
+   above 24 bits, repetitions or a parameter above FFFF. The node answers ABORT where they have no room in the list. */
+static inline bool logodwen_can_list(const struct logodwen_record *record) {
+    return record->header <= 0xFFu && (record->header & LOGODWEN_RECORD_FIRST) != 0 && 1 <= record->frequency
+           && record->frequency <= LOGODWEN_FREQUENCY_MOST && record->repetitions <= 0xFFFFu && record->first <= 0xFFFFu
+           && record->second <= 0xFFFFu;
+}
+
+static inline size_t logodwen_make_list_write(uint8_t *packet, size_t room, const struct logodwen_record *records, size_t count) {
+    if (room == 0 || count > LOGODWEN_LIST_RECORDS) return 0;
+    for (size_t i = 0; i < count; i++)
+        if (!logodwen_can_list(&records[i])) return 0;
+    if (!logodwen_begin_segment(packet + 2, room - 1, LOGODWEN_DM, 0, 0x2000, 1 + 5 * count)) return 0;
+    logodwen_put(packet, 3, (uint16_t)count);
+    for (size_t i = 0; i < count; i++) {
+        logodwen_put(packet, 4 + 5 * i, (uint16_t)(records[i].frequency >> 16 << 8 | records[i].header));
+        logodwen_put(packet, 5 + 5 * i, (uint16_t)records[i].repetitions);
+        logodwen_put(packet, 6 + 5 * i, (uint16_t)(records[i].frequency & 0xFFFFu));
+        logodwen_put(packet, 7 + 5 * i, (uint16_t)records[i].first);
+        logodwen_put(packet, 8 + 5 * i, (uint16_t)records[i].second);
+    }
+    return logodwen_make_before(packet, LOGODWEN_ID_LIST_WRITE, logodwen_end_segment(packet + 2, LOGODWEN_DM, 1 + 5 * count));
+}
+
+/* Entry Delete in its three ways. Of an entry: its repetitions are 0 from then on, it keeps its place, and the turn stays; ABORT where none is
+   listed there. Of those expired: all that have no repetitions left are removed, the others close up in order, and the turn goes to the
+   first. Of all: none is listed. Places that are removed serve again. */
+static inline size_t logodwen_make_list_delete(uint8_t *packet, unsigned place) {
+    return place >= LOGODWEN_LIST_RECORDS ? 0 : logodwen_make_command_1(packet, LOGODWEN_ID_LIST_DELETE, place);
+}
+static inline size_t logodwen_make_list_delete_expired(uint8_t *packet) { return logodwen_make_command(packet, LOGODWEN_ID_LIST_DELETE); }
+static inline size_t logodwen_make_list_delete_all(uint8_t *packet) {
+    return logodwen_make_command_1(packet, LOGODWEN_ID_LIST_DELETE, 0xFFFFu);
 }
 
 /* A command with words in bytes behind it: a file to write, or words that Ping answers, at most 8,000. They may stand at packet + 2
@@ -918,6 +1039,23 @@ static inline uint32_t logodwen_read_named(const uint8_t *reply, size_t words, u
     return sectors;
 }
 
+/* Whether some words are a reply to Q-List Read, with a right FCS, and how many entries it tells; where not, leaves `count`. */
+static inline bool logodwen_read_list(const uint8_t *reply, size_t words, size_t *count) {
+    if (!logodwen_is_sealed(reply, words) || words != 1 + 5 * (size_t)logodwen_get(reply, 0) + LOGODWEN_TAIL_WORDS) return false;
+    *count = logodwen_get(reply, 0);
+    return true;
+}
+
+/* Reads the entry at a place of such a reply; false where it has none there, and then leaves `record`. A reply has no due times: `due` is 0.
+
+       if (logodwen_read_list(reply, words, &count))
+           for (size_t place = 0; place < count; place++) { logodwen_read_listed(reply, words, place, &record); .. } */
+static inline bool logodwen_read_listed(const uint8_t *reply, size_t words, size_t place, struct logodwen_record *record) {
+    if (words < 1 + LOGODWEN_TAIL_WORDS || place >= (words - 1 - LOGODWEN_TAIL_WORDS) / 5) return false;
+    logodwen_get_record(reply + 2 + 10 * place, record);
+    return true;
+}
+
 /* What became of a slave in a group: bits 15-11 of its fragment's status word, DAT worth 10 hex and then the code. */
 #define LOGODWEN_CODE_NEXT 0x01u           /* it answered NEXT */
 #define LOGODWEN_CODE_ABORT 0x02u          /* .. ABORT */
@@ -1026,8 +1164,8 @@ static inline size_t logodwen_read_fragment(const uint8_t *reply, size_t words, 
 }
 
 /* ---- The state bytes, low byte first, for a host that wants to look into them, keep them or send them. What a case does not use is 0, and
-   bytes that are not as told here are refused by 5. Their form belongs to LOGODWEN_VERSION: a state that was kept from version 2, which has
-   180 bytes, is one of version 3 with eight bytes 0 behind it. ---- */
+   bytes that are not as told here are refused by 5. Their form belongs to LOGODWEN_VERSION: a state that was kept from version 3, which has
+   188 bytes, is one of version 4 with four bytes 0 behind it. ---- */
 #define LOGODWEN_AT_KIND 0u                 /* 1 byte: 1 or 2 */
 #define LOGODWEN_AT_PORTS 1u                /* 1: 1 to 4 */
 #define LOGODWEN_AT_SUBDETECTOR 2u          /* 1: 0 to 7 */
@@ -1058,6 +1196,8 @@ static inline size_t logodwen_read_fragment(const uint8_t *reply, size_t words, 
 #define LOGODWEN_AT_RECEIVED 180u           /* 4: group: words of the asked slave's reply that have come in packets so far; with those gathered,
                                                five for each slave to come and two more they are at most 12,288 */
 #define LOGODWEN_AT_RX_STATUS 184u          /* 2: .. RX status of the last of its packets, 0 where none has come; the bytes 186 and 187 are 0 */
+#define LOGODWEN_AT_LISTED 188u             /* 2: entries of the Q-List that are listed, at most 910 */
+#define LOGODWEN_AT_TURN 190u               /* 2: the place whose turn is next: below those listed, 0 where none is */
 
 #ifdef __cplusplus
 }

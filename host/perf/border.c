@@ -9,6 +9,7 @@
 #include <string.h>
 
 enum { TIMES = 200, LARGE = 4000, PING = 8000, DM_RUN = 8000, PM_READ = 7998, PM_WRITE = 5400, REPLIED = 500, PACKETS = 5, ERASED = 4096 };
+enum { ENTRIES = 900, NOW = 1000 }; /* of the Q-List, and the time of a step: all are due */
 
 /* Above what plain C does in under a microsecond, above what takes longer, and above what looks at a whole sector for a short file. */
 static const double SHORT = 4.00, LONG = 1.30, SECTOR = 1.50;
@@ -16,7 +17,7 @@ static const double SHORT = 4.00, LONG = 1.30, SECTOR = 1.50;
 /* Everything that a call is lent. */
 static struct {
     uint8_t state[LOGODWEN_STATE_BYTES], flash[LOGODWEN_FLASH_BYTES], pm[LOGODWEN_PM_BYTES], dm[LOGODWEN_DM_BYTES],
-        io[LOGODWEN_IO_BYTES], area[LOGODWEN_AREA_BYTES], reply[LOGODWEN_REPLY_BYTES];
+        io[LOGODWEN_IO_BYTES], area[LOGODWEN_AREA_BYTES], list[LOGODWEN_LIST_BYTES], reply[LOGODWEN_REPLY_BYTES];
 } lent, first, after; /* as it stands, as a turn begins, and as the proved call left it */
 
 static uint64_t answered;
@@ -26,10 +27,10 @@ static uint8_t *state = lent.state; /* the state that is lent: that one, or one 
 static void packet_with(bool plain, uint32_t bc, const uint8_t *packet, size_t words) {
     answered = plain ? model_request(0, 0, bc, 0, packet, 2 * words, state, sizeof lent.state, lent.flash,
                                      sizeof lent.flash, lent.pm, sizeof lent.pm, lent.dm, sizeof lent.dm, lent.io, sizeof lent.io,
-                                     lent.area, sizeof lent.area, lent.reply, sizeof lent.reply)
+                                     lent.area, sizeof lent.area, lent.list, sizeof lent.list, lent.reply, sizeof lent.reply)
                      : logodwen_request(0, 0, bc, 0, packet, 2 * words, state, sizeof lent.state, lent.flash,
                                         sizeof lent.flash, lent.pm, sizeof lent.pm, lent.dm, sizeof lent.dm, lent.io, sizeof lent.io,
-                                        lent.area, sizeof lent.area, lent.reply, sizeof lent.reply);
+                                        lent.area, sizeof lent.area, lent.list, sizeof lent.list, lent.reply, sizeof lent.reply);
 }
 
 static void request(bool plain, const uint8_t *packet, size_t words) { packet_with(plain, LOGODWEN_BC_WHOLE, packet, words); }
@@ -52,6 +53,11 @@ static void poll(bool plain) {
 static void erase(bool plain, uint64_t budget) {
     answered = plain ? model_erase(budget, state, sizeof lent.state, lent.flash, sizeof lent.flash)
                      : logodwen_erase(budget, state, sizeof lent.state, lent.flash, sizeof lent.flash);
+}
+
+static void slow(bool plain) {
+    answered = plain ? model_slow(NOW, state, sizeof lent.state, lent.list, sizeof lent.list)
+                     : logodwen_slow(NOW, state, sizeof lent.state, lent.list, sizeof lent.list);
 }
 
 static void start(bool plain) {
@@ -96,10 +102,24 @@ static void file(struct packet *packet, unsigned name, unsigned words) {
     segment(packet, 1, words - 4, 0x2000);
 }
 
+/* A Q-List Write of so many entries with frequency 1, of which some have no repetitions. */
+static void list_write(struct packet *packet, unsigned entries, bool some_expired) {
+    command(packet, 0x5C);
+    word(packet, 0x4000 | (5 * entries + 2));
+    word(packet, 0x2000);
+    word(packet, entries);
+    for (unsigned i = 0; i < 5 * entries; i++) {
+        const unsigned entry[5] = {0x0008, some_expired && i % 3 == 0 ? 0 : 0xFFFF, 1, i, i * 40503u};
+        word(packet, entry[i % 5]);
+    }
+    word(packet, logodwen_fcs(packet->bytes + 6, 5 * entries + 1));
+}
+
 enum { FIRST_NAME = 7, SMALL_NAME = 8, LARGE_NAME = 9 }; /* in sectors 3, 4 and 5 */
 
 static struct packet mode_read, mode_write, status, summary, mask_read, mask_write, wrong, unserved, small_read, small_test, dm_two,
-    pm_three, io_pair, ping, dm_read, dm_write, pm_read, pm_write, large_read, large_write, load, one_slave, group, ten, fivehundred;
+    pm_three, io_pair, ping, dm_read, dm_write, pm_read, pm_write, large_read, large_write, load, one_slave, group, ten, fivehundred,
+    entries, all_entries, some_expired, list_read, delete_expired;
 
 static void lay_packets(void) {
     command(&mode_read, 0x12);
@@ -137,6 +157,11 @@ static void lay_packets(void) {
     file(&large_write, LARGE_NAME, LARGE);
     command(&load, 0x46);
     word(&load, LARGE_NAME << 4);
+    list_write(&entries, ENTRIES, false);
+    list_write(&all_entries, LOGODWEN_LIST_RECORDS, false);
+    list_write(&some_expired, LOGODWEN_LIST_RECORDS, true);
+    command(&list_read, 0x1C);
+    command(&delete_expired, 0x5B);
     word(&one_slave, 0x0403);
     word(&one_slave, 0x122E);
     word(&group, 0x002A);
@@ -191,6 +216,16 @@ static void erasing(void) {
     request(true, packet.bytes, packet.words);
 }
 
+/* Entries are listed: so many, as many as can be, or some of them expired. */
+static void listing(const struct packet *packet) {
+    as_first();
+    request(true, packet->bytes, packet->words);
+}
+
+static void some_listed(void) { listing(&entries); }
+static void all_listed(void) { listing(&all_entries); }
+static void some_are_expired(void) { listing(&some_expired); }
+
 /* The large file is not there. */
 static void without_large(void) {
     erasing();
@@ -225,6 +260,15 @@ static void writes_large(bool plain) { request(plain, large_write.bytes, large_w
 static void loads(bool plain) { request(plain, load.bytes, load.words); }
 static void starts(bool plain) { start(plain); }
 static void erases_all(bool plain) { erase(plain, ERASED); }
+
+static void steps(bool plain) { slow(plain); }
+static void reads_list(bool plain) { request(plain, list_read.bytes, list_read.words); }
+static void removes_expired(bool plain) { request(plain, delete_expired.bytes, delete_expired.words); }
+
+static void writes_list(bool plain) {
+    next_state();
+    request(plain, entries.bytes, entries.words);
+}
 
 static void asks(bool plain) {
     next_state();
@@ -284,6 +328,31 @@ static int perf_joining(void) {
     return measure_against(&row, "the second");
 }
 
+/* A step takes as long with 910 entries listed as with one. */
+
+static void one_and_all_listed(void) {
+    all_listed();
+    memcpy(states[0], lent.state, sizeof lent.state);
+    logodwen_put(states[0] + LOGODWEN_AT_LISTED, 0, 1);
+}
+
+static void steps_of(bool is_one) {
+    state = is_one ? states[0] : lent.state;
+    slow(false);
+}
+
+static int perf_stepping(void) {
+    static const struct row row = {"a slow-control step, 910 entries listed", one_and_all_listed, steps_of, TIMES, 1.10};
+    one_and_all_listed();
+    for (uint64_t turn = 0; turn < 4; turn++) { /* of one entry every turn is its own */
+        bool is_one = turn % 2 != 0;
+        steps_of(is_one);
+        if (answered != ((uint64_t)LOGODWEN_HANDED << 8 | (is_one ? 0 : turn / 2) << 32))
+            return measure_differs(row.what);
+    }
+    return measure_against(&row, "one entry");
+}
+
 int perf_border_runs(void) {
     const struct row rows[] = {
         {"Mode Read", as_first, reads_mode, TIMES, SHORT},
@@ -302,6 +371,7 @@ int perf_border_runs(void) {
         {"poll that waits", pending_slave, polls, TIMES, SHORT},
         {"ask", many_states, asks, TIMES, SHORT},
         {"reply of 10 words to a group", pending_group, replies_ten, TIMES, SHORT},
+        {"slow-control step that hands out", all_listed, steps, TIMES, SHORT},
         {"Read of 6 words in a sector of 4,096", as_first, reads_small, 20, SECTOR},
         {"Test of 6 words in a sector of 4,096", as_first, tests_small, 20, SECTOR},
         {"Ping of 8,000 words", as_first, pings, 2, LONG},
@@ -316,6 +386,9 @@ int perf_border_runs(void) {
         {"a group of 24 replies of 500 words", one_group, gathers, 1, LONG},
         {"24 replies of 500 words in five packets each", one_group, gathers_packets, 1, LONG},
         {"erase of 4,096 words", erasing, erases_all, 1, LONG},
+        {"Q-List Write of 900 entries", many_states, writes_list, 2, LONG},
+        {"Q-List Read of 900 entries", some_listed, reads_list, 2, LONG},
+        {"Entry Delete of those expired of 910", some_are_expired, removes_expired, 1, LONG},
     };
     const size_t count = sizeof rows / sizeof *rows;
     lay_packets();
@@ -344,5 +417,5 @@ int perf_border_runs(void) {
         if (answered != said || memcmp(&after, &lent, sizeof after) != 0 || memcmp(left, state, sizeof left) != 0)
             return measure_differs(rows[i].what);
     }
-    return measure(rows, count) + perf_joining();
+    return measure(rows, count) + perf_joining() + perf_stepping();
 }

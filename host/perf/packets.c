@@ -8,7 +8,7 @@
 
 uint32_t perf_packet(uint32_t bc, size_t joined, const uint16_t *packet, size_t packet_words, uint16_t *flash, size_t flash_words,
                      uint32_t *pm, size_t pm_words, uint16_t *dm, size_t dm_words, uint16_t *io, size_t io_words, uint16_t *area,
-                     size_t area_words, uint16_t *reply, size_t reply_words); /* crates/perf */
+                     size_t area_words, uint16_t *list, size_t list_words, uint16_t *reply, size_t reply_words); /* crates/perf */
 
 enum { FLASH_WORDS = 262144, AREA_WORDS = 32768, REPLY_WORDS = 12288 };
 enum { FILE_WORDS = 32000, PACKETS = 4, PART = FILE_WORDS / PACKETS };
@@ -77,7 +77,7 @@ static uint32_t plain_packet(uint32_t bc, size_t joined, const uint16_t *packet,
 }
 
 static uint32_t proved_packet(uint32_t bc, size_t joined, const uint16_t *packet, size_t words) {
-    return perf_packet(bc, joined, packet, words, flash, FLASH_WORDS, NULL, 0, NULL, 0, NULL, 0, area, AREA_WORDS, reply,
+    return perf_packet(bc, joined, packet, words, flash, FLASH_WORDS, NULL, 0, NULL, 0, NULL, 0, area, AREA_WORDS, NULL, 0, reply,
                        REPLY_WORDS);
 }
 

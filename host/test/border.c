@@ -1,7 +1,7 @@
 /* Tests of the border: each refusal and their order, odd lengths, NULL with length 0, guard bytes round every run, alignment, files
    in several packets, lengths in the directory, remains behind a file, names that several sectors have, slaves that answer in
-   packets, captured group replies, the parts of what is answered, and the layout of the state. Every run stands between guard
-   bytes; after each call they are looked at, and after a refused one every byte of every run too. */
+   packets, the Q-List, captured group replies, the parts of what is answered, and the layout of the state. Every run stands between
+   guard bytes; after each call they are looked at, and after a refused one every byte of every run too. */
 #include "../../include/logodwen.h"
 
 #include <stdio.h>
@@ -21,12 +21,12 @@ static void check(int holds, const char *text, int line) {
 
 /* Runs. */
 
-enum { STATE, FLASH, PM, DM, IO, AREA, REPLY, PACKET, RUNS };
+enum { STATE, FLASH, PM, DM, IO, AREA, LIST, REPLY, PACKET, RUNS };
 enum { GUARD = 64 };
-static const char *const names[RUNS] = {"state", "flash", "pm", "dm", "io", "area", "reply", "packet"};
-static const size_t rooms[RUNS] = {LOGODWEN_STATE_BYTES + 8, LOGODWEN_FLASH_BYTES + 8,      LOGODWEN_PM_BYTES + 16,
-                                   LOGODWEN_DM_BYTES + 8,    LOGODWEN_IO_BYTES + 8,         LOGODWEN_AREA_BYTES + 8,
-                                   LOGODWEN_REPLY_BYTES + 8, LOGODWEN_SLAVE_REPLY_BYTES + 8};
+static const char *const names[RUNS] = {"state", "flash", "pm", "dm", "io", "area", "list", "reply", "packet"};
+static const size_t rooms[RUNS] = {LOGODWEN_STATE_BYTES + 8, LOGODWEN_FLASH_BYTES + 8, LOGODWEN_PM_BYTES + 16,
+                                   LOGODWEN_DM_BYTES + 8,    LOGODWEN_IO_BYTES + 8,    LOGODWEN_AREA_BYTES + 8,
+                                   LOGODWEN_LIST_BYTES + 28, LOGODWEN_REPLY_BYTES + 8, LOGODWEN_SLAVE_REPLY_BYTES + 8};
 static uint8_t *blocks[RUNS], *runs[RUNS], *copies[RUNS]; /* a block holds guard bytes, a run, guard bytes */
 static size_t lengths[RUNS];
 
@@ -50,8 +50,8 @@ static void lay_out(size_t shift) {
     }
     memset(runs[STATE], 0, rooms[STATE]);
     memset(runs[FLASH], 0xFF, rooms[FLASH]);
-    static const size_t usual[RUNS] = {LOGODWEN_STATE_BYTES, LOGODWEN_FLASH_BYTES, 256, 128, 128,
-                                       LOGODWEN_AREA_BYTES,  LOGODWEN_REPLY_BYTES, 0};
+    static const size_t usual[RUNS] = {LOGODWEN_STATE_BYTES, LOGODWEN_FLASH_BYTES, 256, 128, 128, LOGODWEN_AREA_BYTES,
+                                       LOGODWEN_LIST_BYTES,  LOGODWEN_REPLY_BYTES, 0};
     memcpy(lengths, usual, sizeof lengths);
 }
 
@@ -60,6 +60,12 @@ static uint8_t *lent(int run) { return lengths[run] == 0 ? NULL : runs[run]; }
 static void remember(void) {
     for (int run = 0; run < RUNS; run++)
         memcpy(copies[run], runs[run], rooms[run]);
+}
+
+/* The bytes of a run that are of a whole word, or of a whole record. */
+static size_t whole_bytes(int run) {
+    size_t unit = run == PM ? 4 : run == LIST ? LOGODWEN_RECORD_BYTES : run == STATE ? 1 : 2;
+    return lengths[run] / unit * unit;
 }
 
 static int is_same(int run, size_t from, size_t to) { return memcmp(copies[run] + from, runs[run] + from, to - from) == 0; }
@@ -73,7 +79,7 @@ static void look_round(unsigned refusal, int line) {
             if ((at < before || at >= before + rooms[run]) && blocks[run][at] != guard_byte(at))
                 whole = 0;
         if (refusal == 0 && run != PACKET)
-            from = run == PM ? lengths[run] / 4 * 4 : run == STATE ? lengths[run] : lengths[run] / 2 * 2;
+            from = whole_bytes(run);
         if (!is_same(run, from, rooms[run]))
             whole = 0;
         if (!whole)
@@ -97,7 +103,8 @@ static uint64_t request_at(uint32_t now, uint32_t link, uint32_t bc, uint32_t er
     remember();
     uint64_t answered = logodwen_request(now, link, bc, error, lent(PACKET), lengths[PACKET], lent(STATE), lengths[STATE],
                                          lent(FLASH), lengths[FLASH], lent(PM), lengths[PM], lent(DM), lengths[DM], lent(IO),
-                                         lengths[IO], lent(AREA), lengths[AREA], lent(REPLY), lengths[REPLY]);
+                                         lengths[IO], lent(AREA), lengths[AREA], lent(LIST), lengths[LIST], lent(REPLY),
+                                         lengths[REPLY]);
     look_round(logodwen_refusal(answered), line);
     return answered;
 }
@@ -126,11 +133,19 @@ static uint64_t erase_by(uint64_t budget, int line) {
     return answered;
 }
 
+static uint64_t slow_at(uint32_t now, int line) {
+    remember();
+    uint64_t answered = logodwen_slow(now, lent(STATE), lengths[STATE], lent(LIST), lengths[LIST]);
+    look_round(logodwen_refusal(answered), line);
+    return answered;
+}
+
 #define START(kind, ports, subdetector) start_as(kind, ports, subdetector, __LINE__)
 #define REQUEST(now, link, bc, error) request_at(now, link, bc, error, __LINE__)
 #define SLAVE_REPLY(now, slave, bc, error) reply_at(now, slave, bc, error, __LINE__)
 #define POLL(now) poll_at(now, __LINE__)
 #define ERASE(budget) erase_by(budget, __LINE__)
+#define SLOW(now) slow_at(now, __LINE__)
 
 static void packet(size_t count, const uint16_t *words) {
     for (size_t i = 0; i < count; i++)
@@ -149,6 +164,8 @@ static uint64_t with_words(uint64_t words) {
 }
 static uint64_t ask(uint64_t slave, uint64_t from) { return (uint64_t)LOGODWEN_ASK << 8 | slave << 16 | from << 24; }
 static uint64_t send_next(uint64_t slave) { return (uint64_t)LOGODWEN_SEND_NEXT << 8 | slave << 16; }
+static uint64_t handed(uint64_t place) { return (uint64_t)LOGODWEN_HANDED << 8 | place << 32; }
+static uint64_t nothing(void) { return (uint64_t)LOGODWEN_NOTHING << 8; }
 
 /* File 21: one DM segment of two words, with its File Write. */
 static void file_write(uint16_t header) {
@@ -172,6 +189,16 @@ static int is_received(uint32_t words, uint16_t status) {
            && state_word(LOGODWEN_AT_RX_STATUS + 2) == 0;
 }
 
+/* Whether so many entries are listed, and that place has its turn next. */
+static int is_listing(unsigned listed, unsigned turn) {
+    return state_word(LOGODWEN_AT_LISTED) == listed && state_word(LOGODWEN_AT_TURN) == turn;
+}
+
+static void put_listing(unsigned listed, unsigned turn) {
+    logodwen_put(runs[STATE] + LOGODWEN_AT_LISTED, 0, (uint16_t)listed);
+    logodwen_put(runs[STATE] + LOGODWEN_AT_TURN, 0, (uint16_t)turn);
+}
+
 /* Tests. */
 
 static void test_start(void) {
@@ -187,7 +214,7 @@ static void test_start(void) {
         CHECK(state[at] == 0);
     for (size_t at = LOGODWEN_AT_ERASED; at < LOGODWEN_AT_MASKS; at++)
         CHECK(state[at] == 0);
-    CHECK(is_none_standing() && is_received(0, 0));
+    CHECK(is_none_standing() && is_received(0, 0) && is_listing(0, 0));
     for (unsigned i = 0; i < 8; i++) {
         static const uint16_t addresses[8] = {0x0200, 0x0400, 0x0800, 0x0C00, 0x1000, 0x1400, 0x1800, 0x1C00};
         const uint8_t *entry = state + LOGODWEN_AT_DIRECTORY + 8 * i;
@@ -259,28 +286,32 @@ static void lend_with(unsigned causes) {
         lengths[PM] = LOGODWEN_PM_BYTES + 4;
     if (causes & 0x80)
         lengths[AREA] = LOGODWEN_AREA_BYTES - 1;
+    if (causes & 0x100)
+        lengths[LIST] = LOGODWEN_LIST_BYTES + LOGODWEN_RECORD_BYTES;
     if (causes & 0x10)
         runs[STATE][LOGODWEN_AT_MODE] = 4;
 }
 
 static unsigned first_of(unsigned causes, unsigned tested) {
-    static const unsigned order[8] = {1, 2, 3, 8, 4, 5, 6, 7};
-    for (size_t i = 0; i < 8; i++)
+    static const unsigned order[9] = {1, 2, 3, 8, 9, 4, 5, 6, 7};
+    for (size_t i = 0; i < 9; i++)
         if (causes & tested & 1u << (order[i] - 1))
             return order[i];
     return 0;
 }
 
 static void test_order(void) {
-    for (unsigned turn = 0; turn < 128; turn++) {
+    for (unsigned turn = 0; turn < 256; turn++) {
         unsigned causes = turn % 64 | turn / 64 * 0x80;
         lend_with(causes);
         uint32_t link = causes & 8 ? 2 : 0;
         uint64_t answered = REQUEST(1000, link, LOGODWEN_BC_WHOLE, 0);
-        CHECK(logodwen_refusal(answered) == first_of(causes, 0xBF));
+        CHECK(logodwen_refusal(answered) == first_of(causes, 0x1BF));
         CHECK(logodwen_refusal(answered) == 0 || answered == logodwen_refusal(answered));
         lend_with(causes);
         CHECK(logodwen_refusal(ERASE(1)) == first_of(causes, 0x11));
+        lend_with(causes);
+        CHECK(logodwen_refusal(SLOW(1000)) == first_of(causes, 0x110));
         lend_with(causes);
         CHECK(logodwen_refusal(POLL(1000)) == (first_of(causes, 0x12) != 0 ? first_of(causes, 0x12) : causes & 0x20 ? 0u : 7u));
         lend_with(causes);
@@ -315,10 +346,10 @@ static void test_each_refusal(void) {
     memset(runs[STATE], 0, LOGODWEN_STATE_BYTES); /* zero is no node's state */
     CHECK(REQUEST(1000, 0, LOGODWEN_BC_WHOLE, 0) == LOGODWEN_REFUSED_FLASH_SIZE);
     CHECK(ERASE(1) == LOGODWEN_REFUSED_FLASH_SIZE && POLL(0) == LOGODWEN_REFUSED_STATE
-          && SLAVE_REPLY(0, 0, 3, 0) == LOGODWEN_REFUSED_STATE);
+          && SLAVE_REPLY(0, 0, 3, 0) == LOGODWEN_REFUSED_STATE && SLOW(0) == LOGODWEN_REFUSED_STATE);
 }
 
-/* Of another length than 188 bytes, the state's part of 1 and 4 is left out. */
+/* Of another length than 192 bytes, the state's part of 1, 9 and 4 is left out. */
 static void test_state_length(void) {
     for (size_t length = LOGODWEN_STATE_BYTES - 2; length <= LOGODWEN_STATE_BYTES + 2; length++) {
         lend_with(0);
@@ -331,6 +362,11 @@ static void test_state_length(void) {
         CHECK(REQUEST(1000, 0xFFFFFFFF, LOGODWEN_BC_WHOLE, 0) == LOGODWEN_REFUSED_STATE);
         CHECK(POLL(1000) == LOGODWEN_REFUSED_STATE && SLAVE_REPLY(1000, 5, 3, 0) == LOGODWEN_REFUSED_STATE);
         CHECK(SLAVE_REPLY(1000, 24, 3, 0) == LOGODWEN_REFUSED_NUMBER);
+        put_listing(2, 0);
+        lengths[LIST] = LOGODWEN_RECORD_BYTES;
+        CHECK(SLOW(1000) == LOGODWEN_REFUSED_STATE && REQUEST(1000, 0, LOGODWEN_BC_WHOLE, 0) == LOGODWEN_REFUSED_STATE);
+        lengths[LIST] = LOGODWEN_LIST_BYTES + LOGODWEN_RECORD_BYTES;
+        CHECK(SLOW(1000) == LOGODWEN_REFUSED_LIST_SIZE && REQUEST(1000, 0, LOGODWEN_BC_WHOLE, 0) == LOGODWEN_REFUSED_LIST_SIZE);
         lengths[FLASH] = 0;
         CHECK(ERASE(1) == LOGODWEN_REFUSED_FLASH_SIZE);
     }
@@ -430,7 +466,7 @@ static void test_received_bytes(void) {
         check_received(0, words, 0, 0x8000, LOGODWEN_REFUSED_STATE);
     }
     lend_with(0x20); /* a single slave has none of it */
-    for (size_t at = LOGODWEN_AT_RECEIVED; at < LOGODWEN_STATE_BYTES; at++) {
+    for (size_t at = LOGODWEN_AT_RECEIVED; at < LOGODWEN_AT_LISTED; at++) {
         runs[STATE][at] = 1;
         CHECK(POLL(1000) == LOGODWEN_REFUSED_STATE && SLAVE_REPLY(1000, 5, LOGODWEN_BC_END, 0) == LOGODWEN_REFUSED_STATE);
         runs[STATE][at] = 0;
@@ -473,12 +509,16 @@ static void test_null(void) {
     CHECK(REQUEST(1000, 0, LOGODWEN_BC_WHOLE, 0) == LOGODWEN_REFUSED_REPLY_SIZE && POLL(0) == LOGODWEN_REFUSED_REPLY_SIZE);
     CHECK(SLAVE_REPLY(0, 0, 0, 0) == LOGODWEN_REFUSED_REPLY_SIZE);
     lengths[REPLY] = LOGODWEN_REPLY_BYTES;
+    lengths[LIST] = 0; /* no record, and none listed */
+    CHECK(REQUEST(1000, 0, LOGODWEN_BC_WHOLE, 0) == zero_length(LOGODWEN_BC_ABORT) && SLOW(1000) == nothing());
+    put_listing(1, 0);
+    CHECK(REQUEST(1000, 0, LOGODWEN_BC_WHOLE, 0) == LOGODWEN_REFUSED_LIST_SIZE && SLOW(1000) == LOGODWEN_REFUSED_LIST_SIZE);
     lengths[AREA] = 0;
     CHECK(REQUEST(1000, 0, LOGODWEN_BC_WHOLE, 0) == LOGODWEN_REFUSED_AREA_SIZE);
     lengths[FLASH] = 0;
     CHECK(REQUEST(1000, 0, LOGODWEN_BC_WHOLE, 0) == LOGODWEN_REFUSED_FLASH_SIZE && ERASE(1) == LOGODWEN_REFUSED_FLASH_SIZE);
     lengths[STATE] = 0;
-    CHECK(REQUEST(1000, 0, LOGODWEN_BC_WHOLE, 0) == LOGODWEN_REFUSED_FLASH_SIZE);
+    CHECK(REQUEST(1000, 0, LOGODWEN_BC_WHOLE, 0) == LOGODWEN_REFUSED_FLASH_SIZE && SLOW(1000) == LOGODWEN_REFUSED_STATE);
 }
 
 /* Write and read back with every run at every shift from an aligned place. */
@@ -1144,6 +1184,349 @@ static void test_slave_length(void) {
           && state_word(LOGODWEN_AT_AMSWIRE_ERRORS) == 1);
 }
 
+/* The Q-List (02, request 7). */
+
+/* A Q-List Write of entries of five words each. */
+static void list_write(size_t entries, const uint16_t *words) {
+    PACKET_OF(0x5C2E, (uint16_t)(0x4000 | (5 * entries + 2)), 0x2000, (uint16_t)entries);
+    for (size_t i = 0; i < 5 * entries; i++)
+        logodwen_put(runs[PACKET], 4 + i, words[i]);
+    logodwen_put(runs[PACKET], 4 + 5 * entries, logodwen_fcs(runs[PACKET] + 6, 1 + 5 * entries));
+    lengths[PACKET] = 2 * (5 + 5 * entries);
+}
+#define LIST_WRITE_OF(...) list_write(sizeof((uint16_t[]){__VA_ARGS__}) / 10, (uint16_t[]){__VA_ARGS__})
+
+static uint8_t *record_at(size_t place) { return runs[LIST] + LOGODWEN_RECORD_BYTES * place; }
+
+static unsigned repetitions_at(size_t place) { return logodwen_get(record_at(place), 1); }
+
+static uint32_t due_at(size_t place) { return logodwen_get_pm(record_at(place) + 10, 0); }
+
+static int is_record(size_t place, const uint16_t *words, uint32_t due) {
+    for (size_t i = 0; i < 5; i++)
+        if (logodwen_get(record_at(place), i) != words[i])
+            return 0;
+    return due_at(place) == due;
+}
+#define IS_RECORD(place, due, ...) is_record(place, (uint16_t[]){__VA_ARGS__}, due)
+
+/* The record at a place as a host might have it, whether a node could have written it or not. */
+static void put_record(size_t place, unsigned header, unsigned repetitions, unsigned frequency, uint32_t due) {
+    const unsigned words[5] = {header, repetitions, frequency, 0x5000 + (unsigned)place, 0x6000 + (unsigned)place};
+    for (size_t i = 0; i < 5; i++)
+        logodwen_put(record_at(place), i, (uint16_t)words[i]);
+    logodwen_put_pm(record_at(place) + 10, 0, due);
+}
+
+/* Whether no byte of the list has changed but those from one on, so many. */
+static int is_list_same_but(size_t from, size_t count) {
+    return is_same(LIST, 0, from) && is_same(LIST, from + count, rooms[LIST]);
+}
+
+static int is_list_same(void) { return is_list_same_but(0, 0); }
+
+/* Whether the state is what it was but for what is listed and whose turn it is. */
+static int is_state_same_but_listing(void) {
+    return is_same(STATE, 0, LOGODWEN_AT_LISTED) && is_same(STATE, LOGODWEN_STATE_BYTES, rooms[STATE]);
+}
+
+static int is_all_same(void) {
+    for (int run = 0; run < RUNS; run++)
+        if (!is_same(run, 0, rooms[run]))
+            return 0;
+    return 1;
+}
+
+/* At most 910 entries are listed, and the place in turn is below them, 0 where there are none. Calls that are lent no list see no 9. */
+static void check_listing(unsigned listed, unsigned turn, unsigned expected) {
+    unsigned of_list = listed > LOGODWEN_LIST_RECORDS ? LOGODWEN_REFUSED_LIST_SIZE : expected;
+    unsigned unasked = expected == 0 ? LOGODWEN_REFUSED_UNASKED : expected;
+    lend_with(0);
+    put_listing(listed, turn);
+    CHECK(logodwen_refusal(ERASE(1)) == expected && POLL(1000) == unasked && SLAVE_REPLY(1000, 5, LOGODWEN_BC_END, 0) == unasked);
+    CHECK(logodwen_refusal(REQUEST(1000, 0, LOGODWEN_BC_WHOLE, 0)) == of_list && is_listing(listed, turn));
+    CHECK(logodwen_refusal(SLOW(1000)) == of_list);
+}
+
+static void test_listing_bytes(void) {
+    check_listing(0, 0, 0);
+    check_listing(1, 0, 0);
+    check_listing(2, 1, 0);
+    check_listing(910, 0, 0);
+    check_listing(910, 909, 0);
+    static const unsigned wrong[][2] = {{0, 1},     {0, 0xFFFF}, {1, 1},   {1, 256},   {2, 2},       {909, 909},
+                                        {910, 910}, {911, 0},    {912, 5}, {0x8000, 0}, {0xFFFF, 0}, {0xFFFF, 0xFFFF}};
+    for (size_t i = 0; i < sizeof wrong / sizeof *wrong; i++)
+        check_listing(wrong[i][0], wrong[i][1], LOGODWEN_REFUSED_STATE);
+}
+
+/* More than 910 records, or fewer than are listed, are refused; bytes that are no whole record are ignored, and stay (look_round). */
+static void test_list_lengths(void) {
+    static const size_t bytes[] = {0, 1, 13, 14, 15, 27, 28, 12739, 12740, 12741, 12753, 12754, 12755};
+    static const unsigned listed[] = {0, 1, 2, 909, 910};
+    for (size_t i = 0; i < sizeof bytes / sizeof *bytes; i++)
+        for (size_t j = 0; j < sizeof listed / sizeof *listed; j++) {
+            size_t records = bytes[i] / LOGODWEN_RECORD_BYTES;
+            unsigned expected = records > LOGODWEN_LIST_RECORDS || records < listed[j] ? LOGODWEN_REFUSED_LIST_SIZE : 0;
+            lend_with(0);
+            lengths[LIST] = bytes[i];
+            put_listing(listed[j], 0);
+            CHECK(logodwen_refusal(REQUEST(1000, 0, LOGODWEN_BC_WHOLE, 0)) == expected && is_list_same());
+            CHECK(logodwen_refusal(SLOW(1000)) == expected);
+            lengths[PACKET] = 0; /* every request is lent the list, whatever it says */
+            CHECK(logodwen_refusal(REQUEST(1000, 0, LOGODWEN_BC_END, 1)) == expected);
+        }
+}
+
+/* Entries go behind those listed, as they are written, due one frequency later; and nowhere else. */
+static void test_list_write(void) {
+    static const uint8_t bytes[LOGODWEN_RECORD_BYTES] = {0x0C, 0, 3, 0, 100, 0, 0x11, 0x10, 0x22, 0x20, 0x54, 0, 0, 0};
+    for (uint32_t kind = LOGODWEN_CDP; kind <= LOGODWEN_CDDC; kind++) {
+        lay_out(kind);
+        CHECK(START(kind, 2, 0) == LOGODWEN_DONE && is_listing(0, 0));
+        LIST_WRITE_OF(0x000C, 3, 100, 0x1011, 0x2022, 0x01FB, 0xFFFF, 0, 0x3333, 0x4444);
+        CHECK(REQUEST(0xFFFFFFF0, 1, LOGODWEN_BC_WHOLE, 0) == zero_length(LOGODWEN_BC_END) && is_listing(2, 0));
+        CHECK(memcmp(record_at(0), bytes, sizeof bytes) == 0 && IS_RECORD(1, 0xFFF0, 0x01FB, 0xFFFF, 0, 0x3333, 0x4444));
+        CHECK(is_list_same_but(0, 2 * LOGODWEN_RECORD_BYTES) && is_state_same_but_listing());
+        for (int run = FLASH; run < RUNS; run++) /* nothing goes to DM, though the segment says so */
+            CHECK(run == LIST || is_same(run, 0, rooms[run]));
+        put_listing(2, 1);
+        LIST_WRITE_OF(0xFF08, 0, 0xFFFF, 5, 6);
+        CHECK(REQUEST(7, 0, LOGODWEN_BC_WHOLE, 0) == zero_length(LOGODWEN_BC_END) && is_listing(3, 1));
+        CHECK(IS_RECORD(2, 0x1000006, 0xFF08, 0, 0xFFFF, 5, 6) && is_list_same_but(2 * LOGODWEN_RECORD_BYTES, LOGODWEN_RECORD_BYTES));
+        list_write(0, NULL);
+        CHECK(REQUEST(7, 0, LOGODWEN_BC_WHOLE, 0) == zero_length(LOGODWEN_BC_END) && is_all_same());
+        CHECK(START(kind, 2, 0) == LOGODWEN_DONE && is_listing(0, 0)); /* a start lists none, and leaves the records */
+    }
+}
+
+/* A write of two entries with one word changed, under a right FCS, is ABORT and changes nothing. */
+static void test_list_not_written(void) {
+    static const uint16_t changes[][2] = {{1, 0x000C}, {1, 0x800C}, {1, 0xC00C}, {1, 0x400B}, {1, 0x400D}, {1, 0x4000},
+                                          {2, 0x0000}, {2, 0x2001}, {2, 0x1FFF}, {2, 0x6000}, {2, 0xA000}, {2, 0xE000},
+                                          {3, 0},      {3, 1},      {3, 3},      {3, 0x0102}, {4, 0x0004}, {4, 0x01F7},
+                                          {6, 0},      {9, 0x0000}, {9, 0xFF00}, {11, 0}};
+    lend_with(0);
+    for (size_t i = 0; i < sizeof changes / sizeof *changes; i++) {
+        LIST_WRITE_OF(0x0008, 1, 1, 0, 0, 0x000C, 2, 2, 0, 0);
+        logodwen_put(runs[PACKET], changes[i][0], changes[i][1]);
+        logodwen_put(runs[PACKET], 14, logodwen_fcs(runs[PACKET] + 6, 11));
+        CHECK(REQUEST(1000, 0, LOGODWEN_BC_WHOLE, 0) == zero_length(LOGODWEN_BC_ABORT) && is_all_same());
+    }
+    LIST_WRITE_OF(0x0008, 1, 1, 0, 0);
+    logodwen_put(runs[PACKET], 1, 0x8007); /* three pairs of IO: a segment, but none of DM */
+    CHECK(REQUEST(1000, 0, LOGODWEN_BC_WHOLE, 0) == zero_length(LOGODWEN_BC_ABORT) && is_all_same());
+    LIST_WRITE_OF(0x0008, 1, 1, 0, 0);
+    runs[PACKET][2 * 9] ^= 1; /* the FCS */
+    CHECK(REQUEST(1000, 0, LOGODWEN_BC_WHOLE, 0) == zero_length(LOGODWEN_BC_ABORT) && is_all_same());
+    for (size_t words = 1; words <= 11; words++) { /* cut short, or with a word left over */
+        LIST_WRITE_OF(0x0008, 1, 1, 0, 0);
+        lengths[PACKET] = 2 * words;
+        CHECK(REQUEST(1000, 0, LOGODWEN_BC_WHOLE, 0) == zero_length(words == 10 ? LOGODWEN_BC_END : LOGODWEN_BC_ABORT));
+        CHECK(words == 10 ? is_listing(1, 0) : is_all_same());
+    }
+}
+
+/* A write adds whole or not at all. */
+static void test_list_room(void) {
+    static const uint16_t entry[5] = {0x0008, 1, 1, 0, 0};
+    static uint16_t many[5 * 911];
+    for (size_t i = 0; i < sizeof many / sizeof *many; i++)
+        many[i] = entry[i % 5];
+    lend_with(0);
+    for (size_t extra = 0; extra < LOGODWEN_RECORD_BYTES; extra++) {
+        put_listing(0, 0);
+        lengths[LIST] = 2 * LOGODWEN_RECORD_BYTES + extra;
+        list_write(3, many);
+        CHECK(REQUEST(1000, 0, LOGODWEN_BC_WHOLE, 0) == zero_length(LOGODWEN_BC_ABORT) && is_all_same());
+        list_write(2, many);
+        CHECK(REQUEST(1000, 0, LOGODWEN_BC_WHOLE, 0) == zero_length(LOGODWEN_BC_END) && is_listing(2, 0));
+        list_write(1, many);
+        CHECK(REQUEST(1000, 0, LOGODWEN_BC_WHOLE, 0) == zero_length(LOGODWEN_BC_ABORT) && is_all_same());
+    }
+    lend_with(0);
+    list_write(911, many);
+    CHECK(REQUEST(1000, 0, LOGODWEN_BC_WHOLE, 0) == zero_length(LOGODWEN_BC_ABORT) && is_all_same());
+    list_write(910, many);
+    CHECK(REQUEST(1000, 0, LOGODWEN_BC_WHOLE, 0) == zero_length(LOGODWEN_BC_END) && is_listing(910, 0));
+    CHECK(is_record(0, entry, 1001) && is_record(909, entry, 1001));
+    list_write(1, many);
+    CHECK(REQUEST(1000, 0, LOGODWEN_BC_WHOLE, 0) == zero_length(LOGODWEN_BC_ABORT) && is_all_same());
+    list_write(0, NULL);
+    CHECK(REQUEST(1000, 0, LOGODWEN_BC_WHOLE, 0) == zero_length(LOGODWEN_BC_END) && is_all_same());
+}
+
+/* The count, five words for each entry, status word and FCS; the records stay as they are. */
+static void check_read(unsigned listed) {
+    lend_with(0);
+    for (size_t place = 0; place < listed; place++)
+        put_record(place, (unsigned)(place * 259), (unsigned)(place * 7), (unsigned)(place * 31), (uint32_t)(place * 65537));
+    put_listing(listed, 0);
+    PACKET_OF(0x1C2E);
+    CHECK(REQUEST(1000, 0, LOGODWEN_BC_WHOLE, 0) == with_words(1 + 5 * listed + 2) && reply_word(0) == listed);
+    CHECK(is_list_same() && is_same(STATE, 0, rooms[STATE]) && is_same(REPLY, 2 * (1 + 5 * (size_t)listed + 2), rooms[REPLY]));
+    for (size_t place = 0; place < listed; place++)
+        CHECK(memcmp(runs[REPLY] + 2 + 10 * place, record_at(place), 10) == 0);
+    CHECK(reply_word(1 + 5 * listed) == 0x0120 && reply_word(2 + 5 * listed) == logodwen_fcs(runs[REPLY], 2 + 5 * (size_t)listed));
+    struct logodwen_record record;
+    size_t told = 9999;
+    CHECK(logodwen_read_list(runs[REPLY], 3 + 5 * (size_t)listed, &told) && told == listed);
+    CHECK(!logodwen_read_listed(runs[REPLY], 3 + 5 * (size_t)listed, listed, &record));
+    PACKET_OF(0x1C2E, 0);
+    CHECK(REQUEST(1000, 0, LOGODWEN_BC_WHOLE, 0) == zero_length(LOGODWEN_BC_ABORT) && is_all_same());
+}
+
+static void test_list_read(void) {
+    check_read(0);
+    check_read(1);
+    check_read(3);
+    check_read(910);
+}
+
+/* By entry: its repetitions alone. Of those expired: the others close up. Of all: none is listed. The turn stays with the first of these, and
+   goes to 0 with the others; places that are freed keep what stood in them. */
+static void test_list_delete(void) {
+    static const uint16_t places[] = {4, 5, 909, 910, 0x0101, 0x8000, 0xFFFE};
+    lend_with(0);
+    for (size_t place = 0; place < 5; place++)
+        put_record(place, 0x0108, place == 3 ? 0 : 2, 9, (uint32_t)(1000 * place));
+    put_listing(4, 2);
+    for (size_t i = 0; i < sizeof places / sizeof *places; i++) {
+        PACKET_OF(0x5B2E, places[i]);
+        CHECK(REQUEST(1000, 0, LOGODWEN_BC_WHOLE, 0) == zero_length(LOGODWEN_BC_ABORT) && is_all_same());
+        PACKET_OF(0x5B2E, 0xFFFF, places[i]);
+        CHECK(REQUEST(1000, 0, LOGODWEN_BC_WHOLE, 0) == zero_length(LOGODWEN_BC_ABORT) && is_all_same());
+    }
+    for (int turn = 0; turn < 2; turn++) { /* again is END too */
+        PACKET_OF(0x5B2E, 1);
+        CHECK(REQUEST(1000, 0, LOGODWEN_BC_WHOLE, 0) == zero_length(LOGODWEN_BC_END) && is_listing(4, 2) && repetitions_at(1) == 0);
+        CHECK(is_list_same_but(LOGODWEN_RECORD_BYTES + 2, 2) && is_state_same_but_listing());
+    }
+    PACKET_OF(0x5B2E);
+    CHECK(REQUEST(1000, 0, LOGODWEN_BC_WHOLE, 0) == zero_length(LOGODWEN_BC_END) && is_listing(2, 0) && is_state_same_but_listing());
+    CHECK(IS_RECORD(1, 2000, 0x0108, 2, 9, 0x5002, 0x6002) && is_list_same_but(LOGODWEN_RECORD_BYTES, LOGODWEN_RECORD_BYTES));
+    put_listing(2, 1); /* none is expired */
+    CHECK(REQUEST(1000, 0, LOGODWEN_BC_WHOLE, 0) == zero_length(LOGODWEN_BC_END) && is_listing(2, 0) && is_list_same());
+    put_listing(2, 1);
+    for (int turn = 0; turn < 2; turn++) {
+        PACKET_OF(0x5B2E, 0xFFFF);
+        CHECK(REQUEST(1000, 0, LOGODWEN_BC_WHOLE, 0) == zero_length(LOGODWEN_BC_END) && is_listing(0, 0) && is_list_same());
+        PACKET_OF(0x5B2E);
+        CHECK(REQUEST(1000, 0, LOGODWEN_BC_WHOLE, 0) == zero_length(LOGODWEN_BC_END) && is_listing(0, 0) && is_list_same());
+        PACKET_OF(0x5B2E, 0);
+        CHECK(REQUEST(1000, 0, LOGODWEN_BC_WHOLE, 0) == zero_length(LOGODWEN_BC_ABORT) && is_all_same());
+    }
+}
+
+/* A step looks at the entry in turn alone, changes at most its 14 bytes, and moves the turn on, after the last to the first. */
+static void test_slow(void) {
+    lend_with(0);
+    CHECK(SLOW(1000) == nothing() && is_all_same());
+    put_record(0, 0x0008, 2, 10, 1000);
+    put_record(1, 0x0108, 5, 1, 1001);
+    put_record(2, 0x0008, 0, 1, 0);
+    put_record(3, 0x0008, 9, 1, 0); /* not listed */
+    put_listing(3, 0);
+    CHECK(SLOW(1000) == handed(0) && is_listing(3, 1) && IS_RECORD(0, 1010, 0x0008, 1, 10, 0x5000, 0x6000));
+    CHECK(is_list_same_but(0, LOGODWEN_RECORD_BYTES) && is_state_same_but_listing());
+    CHECK(SLOW(1000) == nothing() && is_listing(3, 2) && is_list_same());
+    CHECK(SLOW(1000) == nothing() && is_listing(3, 0) && is_list_same());
+    CHECK(SLOW(1009) == nothing() && is_listing(3, 1) && is_list_same());
+    CHECK(SLOW(1009) == handed(1) && is_listing(3, 2) && IS_RECORD(1, 1001 + 65537, 0x0108, 4, 1, 0x5001, 0x6001));
+    CHECK(is_list_same_but(LOGODWEN_RECORD_BYTES, LOGODWEN_RECORD_BYTES));
+    CHECK(SLOW(1009) == nothing() && SLOW(1010) == handed(0) && is_listing(3, 1));
+    CHECK(IS_RECORD(0, 1020, 0x0008, 0, 10, 0x5000, 0x6000)); /* the last time moves the due time too */
+    put_listing(1, 0);
+    CHECK(SLOW(2000) == nothing() && is_all_same()); /* a sole entry has every turn */
+    put_record(909, 0x0008, 1, 1, 0);
+    put_listing(910, 909);
+    CHECK(SLOW(5) == handed(909) && is_listing(910, 0) && is_list_same_but(909 * LOGODWEN_RECORD_BYTES, LOGODWEN_RECORD_BYTES));
+}
+
+/* Due is where now less the due time, modulo 2^32, is below 2^31. */
+static void test_slow_times(void) {
+    static const struct {
+        uint32_t now, due;
+        int is_due;
+    } times[] = {{0, 0, 1},          {0x7FFFFFFF, 0, 1}, {0x80000000, 0, 0}, {0xFFFFFFFF, 0, 0}, {0, 1, 0}, {0, 0xFFFFFFFF, 1},
+                 {0, 0x80000001, 1}, {0, 0x80000000, 0}, {0, 0x7FFFFFFF, 0}, {5, 6, 0},          {6, 5, 1}, {0xFFFFFFFF, 0xFFFFFFFF, 1}};
+    for (size_t i = 0; i < sizeof times / sizeof *times; i++) {
+        lend_with(0);
+        put_record(0, 0xFF08, 1, 0xFFFF, times[i].due);
+        put_listing(1, 0);
+        CHECK(SLOW(times[i].now) == (times[i].is_due ? handed(0) : nothing()));
+        CHECK(due_at(0) == (uint32_t)(times[i].due + (times[i].is_due ? 0xFFFFFFu : 0)));
+    }
+}
+
+/* Repetitions are a number of 16 bits; a record that the node did not write is stepped as it stands, and no bit of its header is set. */
+static void test_slow_record(void) {
+    static const uint16_t repetitions[] = {1, 2, 0x00FF, 0x0100, 0x7FFF, 0x8000, 0x8001, 0xFFFF};
+    lend_with(0);
+    put_listing(1, 0);
+    for (size_t i = 0; i < sizeof repetitions / sizeof *repetitions; i++) {
+        put_record(0, 0x0000, repetitions[i], 0, 77); /* delayed, with frequency 0 */
+        CHECK(SLOW(77) == handed(0) && IS_RECORD(0, 77, 0, (uint16_t)(repetitions[i] - 1), 0, 0x5000, 0x6000));
+    }
+}
+
+/* A step goes on whatever else does, and leaves it alone; so do the commands while a sector is erased or a file comes in packets. */
+static void test_slow_meanwhile(void) {
+    for (unsigned busy = 0; busy < 2; busy++) {
+        lend_with(0);
+        PACKET_OF(0x472E, 0x0200);
+        CHECK(REQUEST(1000, 0, LOGODWEN_BC_WHOLE, 0) == zero_length(LOGODWEN_BC_END));
+        PACKET_OF(0x452E, 0x1111);
+        CHECK(REQUEST(1000, 1, LOGODWEN_BC_FIRST, 0) == zero_length(LOGODWEN_BC_NEXT) && is_standing(1, 1));
+        LIST_WRITE_OF(0x0008, 2, 1, 0, 0);
+        CHECK(REQUEST(1000, 0, LOGODWEN_BC_WHOLE, 0) == zero_length(LOGODWEN_BC_END) && is_standing(1, 1) && is_listing(1, 0));
+        PACKET_OF(0x1C2E);
+        CHECK(REQUEST(1000, 0, LOGODWEN_BC_WHOLE, 0) == with_words(8) && is_standing(1, 1));
+        PACKET_OF(busy == 0 ? 0x0405 : 0x2023, busy == 0 ? 0x122E : 0x0000, 0x122E);
+        CHECK(logodwen_answer(REQUEST(1000, 0, LOGODWEN_BC_WHOLE, 0)) == LOGODWEN_ASK);
+        CHECK(SLOW(1001) == handed(0) && is_state_same_but_listing() && SLOW(1001) == nothing() && is_state_same_but_listing());
+        lengths[PACKET] = 0;
+        CHECK(SLAVE_REPLY(1001, 5, LOGODWEN_BC_END, 0) == zero_length(LOGODWEN_BC_END) && is_listing(1, 0));
+        PACKET_OF(0x5B2E);
+        CHECK(REQUEST(1000, 0, LOGODWEN_BC_WHOLE, 0) == zero_length(LOGODWEN_BC_END) && is_listing(1, 0) && is_standing(1, 1));
+        CHECK(ERASE(1) == (uint64_t)1 << 32 && is_listing(1, 0));
+    }
+}
+
+static unsigned long repetitions_listed(void) {
+    unsigned long sum = 0;
+    for (size_t place = 0; place < state_word(LOGODWEN_AT_LISTED); place++)
+        sum += repetitions_at(place);
+    return sum;
+}
+
+/* Repetitions listed, handed out, and cleared or deleted are those written since the start. */
+static void test_repetitions(void) {
+    unsigned long written = 0, gone = 0, handed_out = 0;
+    lend_with(0);
+    lengths[LIST] = 20 * LOGODWEN_RECORD_BYTES;
+    for (unsigned turn = 0; turn < 3000; turn++) {
+        unsigned draw = turn * 40503u / 7 % 97;
+        unsigned long before = repetitions_listed();
+        if (draw < 12) {
+            LIST_WRITE_OF(0x0008, (uint16_t)(draw % 4), (uint16_t)(1 + draw), 0, 0, 0x0008, (uint16_t)draw, 3, 0, 0);
+            if (REQUEST(turn, 0, LOGODWEN_BC_WHOLE, 0) == zero_length(LOGODWEN_BC_END))
+                written += draw % 4 + draw;
+        } else if (draw < 16) {
+            PACKET_OF(0x5B2E, draw == 12 && turn % 8 == 0 ? 0xFFFF : (uint16_t)(turn % 23));
+            CHECK(logodwen_refusal(REQUEST(turn, 0, LOGODWEN_BC_WHOLE, 0)) == 0);
+            gone += before - repetitions_listed();
+        } else if (draw < 22) {
+            PACKET_OF(0x5B2E);
+            CHECK(REQUEST(turn, 0, LOGODWEN_BC_WHOLE, 0) == zero_length(LOGODWEN_BC_END) && repetitions_listed() == before);
+        } else {
+            handed_out += logodwen_answer(SLOW(turn)) == LOGODWEN_HANDED;
+        }
+        CHECK(repetitions_listed() + handed_out + gone == written);
+    }
+    CHECK(written > 500 && handed_out > 200 && gone > 50);
+}
+
 static void test_texts(void) {
     CHECK(strcmp(logodwen_reply_text(zero_length(0)), "NEXT") == 0 && strcmp(logodwen_reply_text(zero_length(1)), "ERROR") == 0);
     CHECK(strcmp(logodwen_reply_text(zero_length(2)), "ABORT") == 0 && strcmp(logodwen_reply_text(zero_length(3)), "END") == 0);
@@ -1151,21 +1534,24 @@ static void test_texts(void) {
     CHECK(logodwen_is_next(zero_length(0)) && !logodwen_is_next(zero_length(3)) && !logodwen_is_next(LOGODWEN_REFUSED_BUSY));
     CHECK(!logodwen_is_next((uint64_t)LOGODWEN_REPLY << 8 | (uint64_t)1 << 32)
           && !logodwen_is_next((uint64_t)LOGODWEN_WAITING << 8));
-    for (unsigned refusal = 1; refusal <= 8; refusal++)
+    for (unsigned refusal = 1; refusal <= 9; refusal++)
         CHECK((unsigned)(logodwen_refusal_text(refusal)[0] - '0') == refusal);
-    CHECK(strcmp(logodwen_refusal_text(0), "done") == 0 && strcmp(logodwen_refusal_text(9), "not a refusal") == 0);
+    CHECK(strcmp(logodwen_refusal_text(0), "done") == 0 && strcmp(logodwen_refusal_text(10), "not a refusal") == 0);
     CHECK(logodwen_slave(ask(23, 2)) == 23 && logodwen_from(ask(23, 2)) == 2 && logodwen_answer(ask(23, 2)) == LOGODWEN_ASK);
     CHECK(logodwen_bc(ask(2, 1)) == LOGODWEN_NONE && logodwen_words(ask(2, 1)) == 0);
     CHECK(logodwen_slave(send_next(23)) == 23 && logodwen_slave(send_next(0)) == 0 && logodwen_from(send_next(23)) == LOGODWEN_NONE);
     CHECK(logodwen_answer(send_next(0)) == LOGODWEN_SEND_NEXT && logodwen_refusal(send_next(0)) == LOGODWEN_DONE);
     CHECK(logodwen_bc(send_next(0)) == LOGODWEN_NONE && logodwen_words(send_next(0)) == 0 && !logodwen_is_next(send_next(0)));
     CHECK(strcmp(logodwen_reply_text(send_next(0)), "not a reply") == 0 && logodwen_place(send_next(0)) == LOGODWEN_NONE);
+    CHECK(logodwen_answer(handed(909)) == LOGODWEN_HANDED && logodwen_place(handed(909)) == 909 && logodwen_words(handed(909)) == 0);
+    CHECK(logodwen_answer(nothing()) == LOGODWEN_NOTHING && logodwen_place(nothing()) == LOGODWEN_NONE && logodwen_words(nothing()) == 0);
+    CHECK(logodwen_refusal(handed(0)) == LOGODWEN_DONE && logodwen_slave(handed(0)) == LOGODWEN_NONE && !logodwen_is_next(nothing()));
     CHECK(logodwen_slave(zero_length(2)) == LOGODWEN_NONE && logodwen_from(with_words(3)) == LOGODWEN_NONE);
     for (uint64_t other = 0; other < 8; other++) /* refused, waiting, words set */
         CHECK(logodwen_bc(other) == LOGODWEN_NONE && logodwen_slave((uint64_t)LOGODWEN_WAITING << 8) == LOGODWEN_NONE
               && logodwen_from(other << 32) == LOGODWEN_NONE);
     static const uint8_t text[8] = {0x32, 0x31, 0x34, 0x33, 0x36, 0x35, 0x38, 0x37};
-    CHECK(logodwen_fcs(text, 4) == 0xA12B && logodwen_fcs(NULL, 0) == 0xFFFF && logodwen3_fcs(text, 7) == logodwen_fcs(text, 3));
+    CHECK(logodwen_fcs(text, 4) == 0xA12B && logodwen_fcs(NULL, 0) == 0xFFFF && logodwen4_fcs(text, 7) == logodwen_fcs(text, 3));
 }
 
 /* What a slave is to be sent: the request from some word on, whole; or no words with BC 0; or nothing. */
@@ -1179,7 +1565,8 @@ static void test_to_send(void) {
     CHECK(!logodwen_to_send(ask(5, 2), request, 2, &sent) && !logodwen_to_send(ask(5, 2), NULL, 0, &sent));
     CHECK(!logodwen_to_send(zero_length(0), request, 3, &sent) && !logodwen_to_send(with_words(3), request, 3, &sent));
     CHECK(!logodwen_to_send((uint64_t)LOGODWEN_WAITING << 8, request, 3, &sent) && !logodwen_to_send(broken(0), request, 3, &sent));
-    for (uint64_t refusal = 0; refusal < 9; refusal++)
+    CHECK(!logodwen_to_send(handed(1), request, 3, &sent) && !logodwen_to_send(nothing(), request, 3, &sent));
+    for (uint64_t refusal = 0; refusal < 10; refusal++)
         CHECK(!logodwen_to_send(refusal, request, 3, &sent) && sent.bc == 9);
 }
 
@@ -1218,6 +1605,18 @@ int main(void) {
     test_while_erasing();
     test_drops();
     test_slave_length();
+    test_listing_bytes();
+    test_list_lengths();
+    test_list_write();
+    test_list_not_written();
+    test_list_room();
+    test_list_read();
+    test_list_delete();
+    test_slow();
+    test_slow_times();
+    test_slow_record();
+    test_slow_meanwhile();
+    test_repetitions();
     test_texts();
     test_to_send();
     for (int run = 0; run < RUNS; run++) {

@@ -32,7 +32,7 @@ static unsigned slaves_in(uint32_t set) {
 /* What the model's node is lent. */
 static struct {
     uint8_t state[LOGODWEN_STATE_BYTES], flash[LOGODWEN_FLASH_BYTES], area[LOGODWEN_AREA_BYTES], reply[LOGODWEN_REPLY_BYTES];
-} lent;
+} lent; /* and no record of a Q-List */
 
 static void start(void) {
     memset(lent.flash, 0xFF, sizeof lent.flash);
@@ -41,7 +41,7 @@ static void start(void) {
 
 static uint64_t request(uint32_t bc, const uint8_t *packet, size_t n) {
     return model_request(0, 0, bc, 0, packet, 2 * n, lent.state, sizeof lent.state, lent.flash, sizeof lent.flash, NULL, 0, NULL, 0,
-                         NULL, 0, lent.area, sizeof lent.area, lent.reply, sizeof lent.reply);
+                         NULL, 0, lent.area, sizeof lent.area, NULL, 0, lent.reply, sizeof lent.reply);
 }
 
 /* The request to the slaves of the mask, from a node with any status. */

@@ -11,17 +11,18 @@
 
 /* What is lent, twice: to the library and to the model. Guard bytes stand behind each run. */
 
-enum { STATE_RUN, FLASH_RUN, PM_RUN, DM_RUN, IO_RUN, AREA_RUN, REPLY_RUN, RUNS };
+enum { STATE_RUN, FLASH_RUN, PM_RUN, DM_RUN, IO_RUN, AREA_RUN, LIST_RUN, REPLY_RUN, RUNS };
 enum { GUARD = 16 };
-static const char *const run_names[RUNS] = {"state", "flash", "pm", "dm", "io", "area", "reply"};
-static const size_t room[RUNS] = {LOGODWEN_STATE_BYTES + 8, LOGODWEN_FLASH_BYTES + 8, LOGODWEN_PM_BYTES + 8,
-                                  LOGODWEN_DM_BYTES + 8,    LOGODWEN_IO_BYTES + 8,    LOGODWEN_AREA_BYTES + 8,
-                                  LOGODWEN_REPLY_BYTES + 8};
+static const char *const run_names[RUNS] = {"state", "flash", "pm", "dm", "io", "area", "list", "reply"};
+static const size_t room[RUNS] = {LOGODWEN_STATE_BYTES + 8, LOGODWEN_FLASH_BYTES + 8,
+                                  LOGODWEN_PM_BYTES + 8,    LOGODWEN_DM_BYTES + 8,
+                                  LOGODWEN_IO_BYTES + 8,    LOGODWEN_AREA_BYTES + 8,
+                                  LOGODWEN_LIST_BYTES + 2 * LOGODWEN_RECORD_BYTES, LOGODWEN_REPLY_BYTES + 8};
 static uint8_t *library[RUNS], *model[RUNS]; /* two worlds */
 static size_t lent_bytes[RUNS];
 
 static const size_t usual_bytes[RUNS] = {LOGODWEN_STATE_BYTES, LOGODWEN_FLASH_BYTES, 0, 0, 0,
-                                         LOGODWEN_AREA_BYTES,  LOGODWEN_REPLY_BYTES};
+                                         LOGODWEN_AREA_BYTES,  0,                    LOGODWEN_REPLY_BYTES};
 
 /* Where a length of 0 is lent, sometimes as NULL. */
 static uint8_t *lend(uint8_t *const *world, int run) { return lent_bytes[run] == 0 ? NULL : world[run]; }
@@ -44,7 +45,7 @@ static uint64_t seed;
 static unsigned long calls;
 static char call_text[256];
 static uint64_t answered;               /* the last one */
-static unsigned long tallies[5][16][9]; /* by call, by refusal, by answer */
+static unsigned long tallies[6][16][9]; /* by call, by refusal, by answer */
 static unsigned long commands[256][3];  /* own commands answered with words, END, ABORT */
 
 static void differs(const char *what, size_t at, uint64_t by_library, uint64_t by_model) {
@@ -75,8 +76,8 @@ static void compare(int call, uint64_t by_library, uint64_t by_model, const int 
 }
 
 static const int start_runs[] = {STATE_RUN, -1}, slave_runs[] = {STATE_RUN, REPLY_RUN, -1},
-                 erase_runs[] = {STATE_RUN, FLASH_RUN, -1},
-                 all_runs[] = {STATE_RUN, FLASH_RUN, PM_RUN, DM_RUN, IO_RUN, AREA_RUN, REPLY_RUN, -1};
+                 erase_runs[] = {STATE_RUN, FLASH_RUN, -1}, slow_runs[] = {STATE_RUN, LIST_RUN, -1},
+                 all_runs[] = {STATE_RUN, FLASH_RUN, PM_RUN, DM_RUN, IO_RUN, AREA_RUN, LIST_RUN, REPLY_RUN, -1};
 
 /* A File Write in several packets that stands, as the state says it, and how many requests of each kind acted on one: by 02,
    request 1, and by what came of it. The last two kinds, which leave it alone, count as none. */
@@ -266,11 +267,118 @@ static void count_dropped(struct group was) {
     has_packets = false;
 }
 
+static uint8_t packet[2 * 70000]; /* of the call now made */
+static size_t packet_bytes;
+
+/* The Q-List, as the state says it, and how many calls of each kind fell on it (02, request 7). */
+
+enum { ENTRY_WORDS = 5 };
+
+static unsigned listed(void) { return logodwen_get(model[STATE_RUN] + LOGODWEN_AT_LISTED, 0); }
+
+static unsigned records(void) { return (unsigned)(lent_bytes[LIST_RUN] / LOGODWEN_RECORD_BYTES); }
+
+/* The entry whose turn it is, all of it 0 where that is not lent. */
+static struct logodwen_record in_turn(void) {
+    struct logodwen_record record = {0, 0, 0, 0, 0, 0};
+    logodwen_read_record(model[LIST_RUN], records(), logodwen_get(model[STATE_RUN] + LOGODWEN_AT_TURN, 0), &record);
+    return record;
+}
+
+enum list_kind {
+    ADDED,
+    FILLED,
+    NONE_ADDED,
+    NO_PLACE,
+    NO_FREQUENCY,
+    DELAYED,
+    COUNT_WRONG,
+    SEGMENT_WRONG,
+    CLEARED,
+    NO_ENTRY,
+    REMOVED,
+    NONE_EXPIRED,
+    ALL_REMOVED,
+    TOO_MANY_PARAMETERS,
+    LISTED,
+    HANDED,
+    HANDED_LAST,
+    NOT_DUE,
+    EXPIRED,
+    NONE_LISTED,
+    LIST_REFUSED,
+    LIST_KINDS
+};
+static const char *const list_names[LIST_KINDS] = {
+    [ADDED] = "entries added",
+    [FILLED] = "entries added up to the last record",
+    [NONE_ADDED] = "a write of no entries",
+    [NO_PLACE] = "more entries than fit",
+    [NO_FREQUENCY] = "an entry of frequency 0",
+    [DELAYED] = "a delayed entry",
+    [COUNT_WRONG] = "a count that does not match",
+    [SEGMENT_WRONG] = "a wrong segment",
+    [CLEARED] = "repetitions cleared",
+    [NO_ENTRY] = "an unknown entry",
+    [REMOVED] = "expired entries removed",
+    [NONE_EXPIRED] = "no entry expired",
+    [ALL_REMOVED] = "all removed",
+    [TOO_MANY_PARAMETERS] = "too many parameters",
+    [LISTED] = "read",
+    [HANDED] = "handed out",
+    [HANDED_LAST] = "handed out for the last time",
+    [NOT_DUE] = "a step at an entry that is not due",
+    [EXPIRED] = "a step at an expired entry",
+    [NONE_LISTED] = "a step with nothing listed",
+    [LIST_REFUSED] = "refused by 9",
+};
+static unsigned long on_list[LIST_KINDS];
+
+/* Why a write was answered ABORT: its words are the header word, two of the segment's, the count, the entries and an FCS. */
+static enum list_kind why_not_added(unsigned before) {
+    size_t words = packet_bytes / 2, count = words > 3 ? logodwen_get(packet, 3) : 0;
+    if (words != 5 + ENTRY_WORDS * count)
+        return COUNT_WRONG;
+    if (logodwen_get(packet, 1) != (0x4002 + ENTRY_WORDS * count) || logodwen_get(packet, 2) != 0x2000 ||
+        logodwen_get(packet, words - 1) != logodwen_fcs(packet + 6, words - 4))
+        return SEGMENT_WRONG;
+    if (before + count > records())
+        return NO_PLACE;
+    for (size_t at = 4; at < words - 1; at += ENTRY_WORDS)
+        if ((logodwen_get(packet, at) & LOGODWEN_RECORD_FIRST) == 0)
+            return DELAYED;
+    return NO_FREQUENCY;
+}
+
+static enum list_kind deleted_kind(unsigned before, bool is_end) {
+    if (packet_bytes / 2 > 2)
+        return TOO_MANY_PARAMETERS;
+    if (packet_bytes / 2 == 1)
+        return listed() < before ? REMOVED : NONE_EXPIRED;
+    return !is_end ? NO_ENTRY : logodwen_get(packet, 1) == 0xFFFF ? ALL_REMOVED : CLEARED;
+}
+
+/* Counts a whole own command that was answered, if it is one of the list's. */
+static void count_command(unsigned before, uint64_t answer) {
+    bool is_end = logodwen_bc(answer) == LOGODWEN_BC_END;
+    if (packet[1] == LOGODWEN_ID_LIST_WRITE)
+        on_list[!is_end ? why_not_added(before) : listed() == before ? NONE_ADDED : listed() == records() ? FILLED : ADDED]++;
+    else if (packet[1] == LOGODWEN_ID_LIST_DELETE)
+        on_list[deleted_kind(before, is_end)]++;
+    else if (packet[1] == LOGODWEN_ID_LIST_READ)
+        on_list[logodwen_words(answer) != 0 ? LISTED : TOO_MANY_PARAMETERS]++;
+}
+
+static void count_step(struct logodwen_record was, uint64_t answer) {
+    if (logodwen_answer(answer) == LOGODWEN_HANDED)
+        on_list[was.repetitions == 1 ? HANDED_LAST : HANDED]++;
+    else if (logodwen_refusal(answer) == 0)
+        on_list[listed() == 0 ? NONE_LISTED : was.repetitions == 0 ? EXPIRED : NOT_DUE]++;
+}
+
 /* Calls. */
 
 static uint32_t now;
-static uint8_t packet[2 * 70000]; /* of the call now made */
-static size_t packet_bytes;
 
 static uint32_t call_start(uint32_t kind, uint32_t ports, uint32_t subdetector) {
     uint16_t first = (uint16_t)any(), second = (uint16_t)any(), tests = (uint16_t)(one_in(2) ? 0 : any());
@@ -288,26 +396,32 @@ static uint64_t call_request(uint32_t link, uint32_t bc, uint32_t receive_error)
     snprintf(
         call_text, sizeof call_text,
         "request(now %08x, link %u, bc %u, error %x, packet %zu bytes from %02x%02x, flash %zu, pm %zu, dm %zu, io %zu, area %zu, "
-        "reply %zu)",
+        "list %zu, reply %zu)",
         now, link, bc, receive_error, packet_bytes, packet[1], packet[0], lent_bytes[FLASH_RUN], lent_bytes[PM_RUN],
-        lent_bytes[DM_RUN], lent_bytes[IO_RUN], lent_bytes[AREA_RUN], lent_bytes[REPLY_RUN]);
+        lent_bytes[DM_RUN], lent_bytes[IO_RUN], lent_bytes[AREA_RUN], lent_bytes[LIST_RUN], lent_bytes[REPLY_RUN]);
     const uint8_t *words = packet_bytes == 0 ? NULL : packet;
     struct standing was = standing();
     struct group asked = group();
+    unsigned before = listed();
     uint64_t a =
         logodwen_request(now, link, bc, receive_error, words, packet_bytes, lend(library, STATE_RUN), lent_bytes[STATE_RUN],
                          lend(library, FLASH_RUN), lent_bytes[FLASH_RUN], lend(library, PM_RUN), lent_bytes[PM_RUN],
                          lend(library, DM_RUN), lent_bytes[DM_RUN], lend(library, IO_RUN), lent_bytes[IO_RUN],
-                         lend(library, AREA_RUN), lent_bytes[AREA_RUN], lend(library, REPLY_RUN), lent_bytes[REPLY_RUN]);
+                         lend(library, AREA_RUN), lent_bytes[AREA_RUN], lend(library, LIST_RUN), lent_bytes[LIST_RUN],
+                         lend(library, REPLY_RUN), lent_bytes[REPLY_RUN]);
     uint64_t b = model_request(now, link, bc, receive_error, words, packet_bytes, lend(model, STATE_RUN), lent_bytes[STATE_RUN],
                                lend(model, FLASH_RUN), lent_bytes[FLASH_RUN], lend(model, PM_RUN), lent_bytes[PM_RUN],
                                lend(model, DM_RUN), lent_bytes[DM_RUN], lend(model, IO_RUN), lent_bytes[IO_RUN],
-                               lend(model, AREA_RUN), lent_bytes[AREA_RUN], lend(model, REPLY_RUN), lent_bytes[REPLY_RUN]);
+                               lend(model, AREA_RUN), lent_bytes[AREA_RUN], lend(model, LIST_RUN), lent_bytes[LIST_RUN],
+                               lend(model, REPLY_RUN), lent_bytes[REPLY_RUN]);
     compare(1, a, b, all_runs);
     count_write(was, link, bc & 3, receive_error != 0, words, packet_bytes / 2, b);
     count_dropped(asked);
-    if (packet_bytes >= 2 && packet[0] == 0x2E && (bc & 3) == 3 && logodwen_refusal(b) == 0 && logodwen_bc(b) != LOGODWEN_BC_ERROR)
+    on_list[LIST_REFUSED] += logodwen_refusal(b) == LOGODWEN_REFUSED_LIST_SIZE;
+    if (packet_bytes >= 2 && packet[0] == 0x2E && (bc & 3) == 3 && logodwen_refusal(b) == 0 && logodwen_bc(b) != LOGODWEN_BC_ERROR) {
         commands[packet[1]][logodwen_words(b) != 0 ? 0 : logodwen_bc(b) == LOGODWEN_BC_END ? 1 : 2]++;
+        count_command(before, b);
+    }
     return b;
 }
 
@@ -345,6 +459,17 @@ static uint64_t call_erase(uint64_t budget) {
         logodwen_erase(budget, lend(library, STATE_RUN), lent_bytes[STATE_RUN], lend(library, FLASH_RUN), lent_bytes[FLASH_RUN]);
     uint64_t b = model_erase(budget, lend(model, STATE_RUN), lent_bytes[STATE_RUN], lend(model, FLASH_RUN), lent_bytes[FLASH_RUN]);
     compare(4, a, b, erase_runs);
+    return b;
+}
+
+static uint64_t call_slow(uint32_t at) {
+    snprintf(call_text, sizeof call_text, "slow(now %08x, state %zu, list %zu)", at, lent_bytes[STATE_RUN], lent_bytes[LIST_RUN]);
+    struct logodwen_record was = in_turn();
+    uint64_t a = logodwen_slow(at, lend(library, STATE_RUN), lent_bytes[STATE_RUN], lend(library, LIST_RUN), lent_bytes[LIST_RUN]);
+    uint64_t b = model_slow(at, lend(model, STATE_RUN), lent_bytes[STATE_RUN], lend(model, LIST_RUN), lent_bytes[LIST_RUN]);
+    compare(5, a, b, slow_runs);
+    on_list[LIST_REFUSED] += logodwen_refusal(b) == LOGODWEN_REFUSED_LIST_SIZE;
+    count_step(was, b);
     return b;
 }
 
@@ -457,6 +582,55 @@ static void file_command(unsigned name) {
         word(below(2));
 }
 
+/* An entry of a Q-List Write, mostly soon due; a wrong one is delayed, or has frequency 0. */
+static void put_entry(bool is_wrong) {
+    unsigned header = (any() & 0xFF) | LOGODWEN_RECORD_FIRST, frequency = 1 + below(60);
+    if (one_in(5)) { /* of 24 bits */
+        header |= 0x100 + 0x100 * below(255);
+        frequency = one_in(2) ? 0 : any() & 0xFFFF;
+    }
+    if (is_wrong && one_in(2)) {
+        header &= 0xFF;
+        frequency = 0;
+    } else if (is_wrong) {
+        header &= ~LOGODWEN_RECORD_FIRST;
+    }
+    word(header);
+    word(one_in(8) ? any() & 0xFFFF : below(4));
+    word(frequency);
+    word(any() & 0xFFFF);
+    word(any() & 0xFFFF);
+}
+
+/* The segment of a Q-List Write: few entries, or as many as fit, or one more. */
+static void put_entries(void) {
+    static const unsigned seconds[] = {0x2001, 0x1FFF, 0x0000, 0x6000, 0xA000, 0xE000};
+    unsigned before = listed(), left = records() > before ? records() - before : 0;
+    unsigned count = one_in(8) && left <= LOGODWEN_LIST_RECORDS ? left + below(2) : one_in(6) ? 0 : 1 + below(4);
+    word(0x4002 + ENTRY_WORDS * count);
+    word(one_in(20) ? seconds[below(6)] : 0x2000);
+    word(one_in(20) ? below(count + 3) : count);
+    unsigned wrong = one_in(8) && count > 0 ? below(count) : count;
+    for (unsigned i = 0; i < count; i++)
+        put_entry(i == wrong);
+    seal(3);
+}
+
+/* A command on the Q-List, mostly one that changes it. */
+static void list_command(void) {
+    static const unsigned ids[] = {LOGODWEN_ID_LIST_WRITE, LOGODWEN_ID_LIST_WRITE, LOGODWEN_ID_LIST_DELETE, LOGODWEN_ID_LIST_READ};
+    unsigned id = ids[below(listed() == 0 && !one_in(4) ? 2 : 4)];
+    own(id);
+    if (id == LOGODWEN_ID_LIST_WRITE)
+        put_entries();
+    else if (id == LOGODWEN_ID_LIST_DELETE && !one_in(3))
+        word(one_in(5) ? 0xFFFF : one_in(10) ? any() & 0xFFFF : below(listed() + 1));
+    if (id != LOGODWEN_ID_LIST_WRITE && one_in(12))
+        word(any() & 0xFFFF);
+    if (one_in(20))
+        damage();
+}
+
 static void own_command(void) {
     static const unsigned ids[] = {0x0C, 0x0D, 0x05, 0x05, 0x45, 0x45, 0x45, 0x06, 0x46, 0x46, 0x07, 0x47,
                                    0x48, 0x48, 0x0F, 0x10, 0x50, 0x11, 0x51, 0x12, 0x52, 0x17, 0x57, 0x57};
@@ -536,6 +710,8 @@ static void step_request(void) {
         forwarded_request();
     else if (one_in(20))
         any_packet();
+    else if (one_in(12))
+        list_command();
     else
         own_command();
     if (one_in(12))
@@ -808,10 +984,46 @@ static void step_start(void) {
     call_start(kind, ports, wild());
 }
 
+/* A slow-control step: now, a little later, or where the entry in turn is just due, not yet, or not any more. */
+static void step_slow(void) {
+    static const uint32_t since[] = {UINT32_MAX, 0, 1, 0x7FFFFFFF, 0x80000000};
+    if (one_in(3))
+        now += below(40);
+    call_slow(one_in(4) ? in_turn().due + since[below(5)] : one_in(40) ? wild() : now);
+}
+
+/* Commands on the Q-List and steps among them, from a link that doesn't drop the write that stands. */
+static void step_list(void) {
+    struct standing was = standing();
+    uint32_t link = was.stands ? other_link(was.link) : 0;
+    for (unsigned left = 1 + below(4); left > 0; left--) {
+        if (link < model[STATE_RUN][LOGODWEN_AT_PORTS] && one_in(listed() == 0 ? 1 : 3)) {
+            list_command();
+            call_request(link, 3, 0);
+        } else {
+            step_slow();
+        }
+    }
+}
+
 /* One byte of a stretch of the state, below a number. */
 static void put_any(size_t from, uint32_t count, uint32_t most) {
     size_t at = from + below(count);
     put_both(STATE_RUN, at, (uint8_t)below(most));
+}
+
+/* Entries listed and a turn that no calls led to, within their ranges or not, at times in bytes that are no state's; and records that no call
+   stored. */
+static void put_listing(void) {
+    unsigned count = one_in(8) ? wild() & 0xFFFF : one_in(3) ? LOGODWEN_LIST_RECORDS - 1 + below(3) : below(records() + 2);
+    put_state_word(LOGODWEN_AT_LISTED, count);
+    put_state_word(LOGODWEN_AT_TURN, one_in(4) ? count : one_in(8) ? wild() : count == 0 ? 0 : below(count));
+    if (one_in(4))
+        put_any(LOGODWEN_AT_RX_STATUS + 2, 2, 4);
+    for (unsigned i = below(20); i > 0; i--) {
+        size_t at = below((uint32_t)room[LIST_RUN]);
+        put_both(LIST_RUN, at, (uint8_t)(one_in(2) ? 0 : any()));
+    }
 }
 
 /* A state that no start leads to: one field, within its range or not; or any byte. */
@@ -819,7 +1031,7 @@ static void step_state(void) {
     uint8_t before[LOGODWEN_STATE_BYTES];
     memcpy(before, model[STATE_RUN], sizeof before);
     uint32_t set = one_in(4) ? any() : any() & 0xFFFFFF;
-    switch (below(12)) {
+    switch (below(14)) {
     case 0: put_any(0, LOGODWEN_STATE_BYTES, 256); break;
     case 1: put_any(0, 4, 10); break;
     case 2: put_state_long(LOGODWEN_AT_AMSWIRE_ERRORS, one_in(2) ? 0xFFFEFFFE : any()); break;
@@ -839,6 +1051,11 @@ static void step_state(void) {
                                            : one_in(10) ? wild()
                                                         : below(LOGODWEN_AREA_WORDS));
         break;
+    case 10:
+    case 11:
+        put_listing();
+        one_in(2) ? step_slow() : (void)call_poll();
+        break;
     default:
         put_both(STATE_RUN, LOGODWEN_AT_PENDING, (uint8_t)(1 + below(2)));
         put_both(STATE_RUN, LOGODWEN_AT_LINK, (uint8_t)below(4));
@@ -857,9 +1074,11 @@ static void step_state(void) {
         break;
     }
     for (int turn = 0; turn < 3; turn++) {
-        int kind = (int)below(7);
+        int kind = (int)below(8);
         if (kind == 0)
             step_request();
+        else if (kind == 7)
+            one_in(2) ? step_slow() : step_list();
         else if (kind >= 5)
             step_write();
         else if (kind == 1)
@@ -936,11 +1155,12 @@ static void step_lengths(void) {
     memcpy(before, lent_bytes, sizeof before);
     for (unsigned turn = 1 + below(2); turn > 0; turn--) {
         int run = (int)below(RUNS);
-        static const size_t most[RUNS] = {LOGODWEN_STATE_BYTES, LOGODWEN_FLASH_BYTES, LOGODWEN_PM_BYTES,   LOGODWEN_DM_BYTES,
-                                          LOGODWEN_IO_BYTES,    LOGODWEN_AREA_BYTES,  LOGODWEN_REPLY_BYTES};
+        static const size_t most[RUNS] = {LOGODWEN_STATE_BYTES, LOGODWEN_FLASH_BYTES, LOGODWEN_PM_BYTES,
+                                          LOGODWEN_DM_BYTES,    LOGODWEN_IO_BYTES,    LOGODWEN_AREA_BYTES,
+                                          LOGODWEN_LIST_BYTES + LOGODWEN_RECORD_BYTES, LOGODWEN_REPLY_BYTES};
         lent_bytes[run] = one_in(5) ? 0 : one_in(4) ? below((uint32_t)room[run]) : most[run] - 4 + below(9);
     }
-    int kind = (int)below(8);
+    int kind = (int)below(9);
     if (kind == 0)
         step_start();
     else if (kind == 1)
@@ -949,6 +1169,8 @@ static void step_lengths(void) {
         step_reply();
     else if (kind == 3)
         step_erase();
+    else if (kind == 8)
+        step_slow();
     else if (kind < 6)
         step_request();
     else
@@ -982,9 +1204,9 @@ static void step(void) {
         one_in(20) ? step_all_alike() : step_slave();
     else if (erasing != 0 && one_in(3))
         step_erase();
-    else if (one_in(40))
+    else if (one_in(50))
         step_flash();
-    else if (one_in(30))
+    else if (one_in(35))
         one_in(3) ? step_entry() : one_in(2) ? step_remains() : step_name_twice();
     else if (one_in(25))
         step_state();
@@ -996,7 +1218,9 @@ static void step(void) {
         step_start();
     else if (pending() == 0 && one_in(7))
         step_group();
-    else if (standing().stands ? one_in(20) : one_in(3))
+    else if (pending() == 0 && one_in(6))
+        step_list();
+    else if (standing().stands ? one_in(20) : one_in(4))
         step_request();
     else
         step_write();
@@ -1010,6 +1234,7 @@ static void fresh(void) {
     lent_bytes[DM_RUN] = below(large ? LOGODWEN_DM_BYTES + 1 : 400);
     lent_bytes[IO_RUN] = below(large ? LOGODWEN_IO_BYTES + 1 : 400);
     lent_bytes[AREA_RUN] += below(4);
+    lent_bytes[LIST_RUN] = one_in(4) ? LOGODWEN_LIST_BYTES + below(LOGODWEN_RECORD_BYTES) : below(12 * LOGODWEN_RECORD_BYTES);
     lent_bytes[REPLY_RUN] += below(4);
     lent_bytes[FLASH_RUN] += below(2);
     if (one_in(2))
@@ -1030,15 +1255,17 @@ static void make_worlds(void) {
 }
 
 static void print_tallies(void) {
-    static const char *const names[] = {"start", "request", "reply", "poll", "erase"};
-    for (int call = 0; call < 5; call++) {
+    static const char *const names[] = {"start", "request", "reply", "poll", "erase", "slow"};
+    for (int call = 0; call < 6; call++) {
         printf("  %-8s", names[call]);
         if (call == 0 || call == 4)
             printf(" done %lu", tallies[call][0][0]);
+        else if (call == 5)
+            printf(" handed out %lu, nothing %lu", tallies[call][0][LOGODWEN_HANDED], tallies[call][0][LOGODWEN_NOTHING]);
         else
             printf(" reply %lu, ask %lu, send NEXT %lu, waiting %lu", tallies[call][0][LOGODWEN_REPLY], tallies[call][0][LOGODWEN_ASK],
                    tallies[call][0][LOGODWEN_SEND_NEXT], tallies[call][0][LOGODWEN_WAITING]);
-        for (int refusal = 1; refusal < 9; refusal++)
+        for (int refusal = 1; refusal < 10; refusal++)
             if (tallies[call][refusal][0] != 0)
                 printf(", refused by %d %lu", refusal, tallies[call][refusal][0]);
         printf("\n");
@@ -1060,6 +1287,12 @@ static void print_tallies(void) {
     printf("  replies in packets: %lu calls fall in groups that have one\n", fell);
     for (int kind = 0; kind < PACKET_KINDS; kind++)
         printf("  reply in packets, %s: %lu\n", packet_names[kind], in_packets[kind]);
+    unsigned long of_list = 0;
+    for (int kind = 0; kind < LIST_KINDS; kind++)
+        of_list += on_list[kind];
+    printf("  calls on the list: %lu calls fall on the Q-List\n", of_list);
+    for (int kind = 0; kind < LIST_KINDS; kind++)
+        printf("  call on the list, %s: %lu\n", list_names[kind], on_list[kind]);
 }
 
 int main(int count, char **arguments) {

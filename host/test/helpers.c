@@ -61,6 +61,9 @@ static const struct {
              {"summary", logodwen_make_summary},
              {"mode_read", logodwen_make_mode_read},
              {"mask_read", logodwen_make_mask_read},
+             {"list_read", logodwen_make_list_read},
+             {"list_delete_expired", logodwen_make_list_delete_expired},
+             {"list_delete_all", logodwen_make_list_delete_all},
              {"to_all", logodwen_make_to_all}};
 
 static const struct {
@@ -70,7 +73,7 @@ static const struct {
                 {"file_load", logodwen_make_file_load},     {"erase_start", logodwen_make_erase_start},
                 {"mode_write", logodwen_make_mode_write},   {"erase_start_at", logodwen_make_erase_start_at},
                 {"to_slave", logodwen_make_to_slave},       {"to_mask", logodwen_make_to_mask},
-                {"to_slaves", logodwen_make_to_slaves}};
+                {"to_slaves", logodwen_make_to_slaves},     {"list_delete", logodwen_make_list_delete}};
 
 static bool is_request(const char *name) {
     static uint8_t packet[LOGODWEN_COMMAND_BYTES];
@@ -91,6 +94,18 @@ static bool is_request(const char *name) {
     return false;
 }
 
+/* A Q-List Write of entries of five numbers each: header, repetitions, frequency and parameters. */
+static size_t make_list_write(uint8_t *packet, size_t room) {
+    static struct logodwen_record records[MOST / 5];
+    size_t entries = (count - 1) / 5;
+    for (size_t i = 0; i < entries; i++) {
+        const uint32_t *numbers = given + 1 + 5 * i;
+        const struct logodwen_record record = {numbers[0], numbers[1], numbers[2], numbers[3], numbers[4], 0};
+        records[i] = record;
+    }
+    return logodwen_make_list_write(packet, room, records, entries);
+}
+
 /* Requests that have words: the first number is the room. */
 static bool is_long_request(const char *name) {
     size_t room = given[0], laid;
@@ -106,6 +121,8 @@ static bool is_long_request(const char *name) {
         laid = logodwen_make_file_write(packet, room, words, count - 1);
     else if (strcmp(name, "ping") == 0)
         laid = logodwen_make_ping(packet, room, words, count - 1);
+    else if (strcmp(name, "list_write") == 0)
+        laid = make_list_write(packet, room);
     else
         laid = SIZE_MAX;
     if (laid != SIZE_MAX)
@@ -219,6 +236,33 @@ static void read_named(void) {
     free(reply);
 }
 
+/* The Q-List: an entry at a place of a list, or of a reply to Q-List Read; and how many such a reply has. */
+
+static void print_record(bool is_there, const struct logodwen_record *record) {
+    const uint32_t numbers[6] = {record->header, record->repetitions, record->frequency, record->first, record->second, record->due};
+    print_numbers(numbers, is_there ? 6 : 1);
+    printf("\n");
+}
+
+static void read_record(bool is_reply) {
+    uint8_t *words = words_from(1);
+    struct logodwen_record record = {0, 0, 0, 0, 0, 0};
+    print_record(is_reply ? logodwen_read_listed(words, count - 1, given[0], &record)
+                          : logodwen_read_record(words, (count - 1) / 7, given[0], &record),
+                 &record);
+    free(words);
+}
+
+static void read_list(void) {
+    uint8_t *reply = words_from(0);
+    size_t entries;
+    if (logodwen_read_list(reply, count, &entries))
+        printf("1 %X\n", (unsigned)entries);
+    else
+        printf("0\n");
+    free(reply);
+}
+
 /* The whole walk, into a text: a reply that breaks off has none of it. */
 static void read_group(void) {
     static uint32_t numbers[MOST];
@@ -272,6 +316,10 @@ static void answer_line(const char *name) {
         read_entry();
     else if (strcmp(name, "read_named") == 0)
         read_named();
+    else if (strcmp(name, "read_record") == 0 || strcmp(name, "read_listed") == 0)
+        read_record(strcmp(name, "read_listed") == 0);
+    else if (strcmp(name, "read_list") == 0)
+        read_list();
     else if (strcmp(name, "read_group") == 0)
         read_group();
     else if (strcmp(name, "code_text") == 0)
@@ -453,7 +501,7 @@ static void try_sequence(unsigned long turn) {
     for (size_t i = 0; i <= 2 * words; i++)
         bytes[i] = (uint8_t)any();
     uint16_t expected = model_fcs(bytes, words);
-    if (logodwen_fcs(bytes, words) != expected || logodwen3_fcs(bytes, 2 * words + 1) != expected)
+    if (logodwen_fcs(bytes, words) != expected || logodwen4_fcs(bytes, 2 * words + 1) != expected)
         differs("a check sequence", turn);
     if (logodwen_is_sealed(bytes, words) != (words >= 2 && model_fcs(bytes, words - 1) == word_at(bytes, words - 1)))
         differs("whether a reply is sealed", turn);
@@ -505,8 +553,8 @@ static void try_write(unsigned long turn) {
     size_t sent;
     uint64_t answered = logodwen_node_write(&ours, 0, link, packet, room, file, words, &sent);
     uint64_t expected = model_request(0, link, LOGODWEN_BC_WHOLE, 0, whole, 2 * length, other.state, sizeof other.state, other.flash,
-                                      sizeof other.flash, NULL, 0, NULL, 0, NULL, 0, other.area, sizeof other.area, other.reply,
-                                      sizeof other.reply);
+                                      sizeof other.flash, NULL, 0, NULL, 0, NULL, 0, other.area, sizeof other.area, other.list,
+                                      sizeof other.list, other.reply, sizeof other.reply);
     if (answered != expected || sent != words || memcmp(ours.state, other.state, sizeof other.state) != 0
         || memcmp(ours.flash, other.flash, sizeof other.flash) != 0)
         differs("a file in packets", turn);
@@ -518,6 +566,43 @@ static void try_write(unsigned long turn) {
         differs("what a dropped file leaves", turn);
     try_entries(&ours, turn);
     free(packet);
+}
+
+/* Entries by chance are listed as they were given, by the records and by Q-List Read, and handed out in turn when they are due. */
+static void try_list(unsigned long turn) {
+    enum { MOST_ENTRIES = 9, PACKET_WORDS = 5 + 5 * MOST_ENTRIES };
+    static const struct logodwen_given kind = {LOGODWEN_CDP, 1, 0, 0, 0, 0, 0};
+    static struct logodwen_node node;
+    struct logodwen_record entries[MOST_ENTRIES], record, listed;
+    uint8_t packet[2 * PACKET_WORDS];
+    size_t written = 1 + any() % MOST_ENTRIES, told;
+    uint32_t now = any() << 1 | (any() & 1);
+    if (turn == 0) {
+        logodwen_node_blank(&node);
+        logodwen_node_start(&node, &kind);
+    }
+    for (size_t i = 0; i < written; i++) {
+        const struct logodwen_record entry = {(any() & 0xFFu) | LOGODWEN_RECORD_FIRST, any() % 3, 1 + any() % LOGODWEN_FREQUENCY_MOST,
+                                              any() & 0xFFFFu, any() & 0xFFFFu, 0};
+        entries[i] = entry;
+        entries[i].due = now + entry.frequency;
+    }
+    size_t words = logodwen_make_list_write(packet, PACKET_WORDS, entries, written);
+    logodwen_node_send(&node, now, 0, packet, words);
+    words = logodwen_words(logodwen_node_send(&node, now, 0, packet, logodwen_make_list_read(packet)));
+    if (!logodwen_read_list(node.reply, words, &told) || told != written)
+        differs("how many entries are listed", turn);
+    for (size_t i = 0; i < written; i++) {
+        if (!logodwen_read_record(node.list, LOGODWEN_LIST_RECORDS, i, &record) || memcmp(&record, &entries[i], sizeof record) != 0)
+            differs("a record", turn);
+        record.due = 0;
+        if (!logodwen_read_listed(node.reply, words, i, &listed) || memcmp(&listed, &record, sizeof listed) != 0)
+            differs("an entry that is told", turn);
+        uint32_t expected = entries[i].repetitions == 0 ? LOGODWEN_NONE : (uint32_t)i;
+        if (logodwen_place(logodwen_node_slow(&node, entries[i].due)) != expected)
+            differs("an entry that is handed out", turn);
+    }
+    logodwen_node_send(&node, now, 0, packet, logodwen_make_list_delete_all(packet));
 }
 
 /* Around the longest request, and the longest file in packets: on a bench flash all are ABORT, and stop where one is. */
@@ -551,6 +636,7 @@ int main(int arguments, char **argument) {
         try_capture(turn);
         try_sequence(turn);
         try_write(turn);
+        try_list(turn);
     }
     try_long_writes();
     printf("helpers: %lu turns by chance as the model has them\n", turns);

@@ -6,9 +6,9 @@
 #include <stdlib.h>
 #include <string.h>
 
-enum { FLASH, PROGRAM, DATA_MEMORY, REGISTERS, BUFFER, JOINING, MEMORIES };
-enum { MOST_WORDS = 1024, MOST_RUN = 65552, NODE_WORDS = 99 };
-static const size_t rooms[MEMORIES] = {262160, 32784, 32784, 4112, 12304, 32784};
+enum { FLASH, PROGRAM, DATA_MEMORY, REGISTERS, BUFFER, JOINING, LISTING, MEMORIES };
+enum { MOST_WORDS = 1024, MOST_RUN = 65552, NODE_WORDS = 101 };
+static const size_t rooms[MEMORIES] = {262160, 32784, 32784, 4112, 12304, 32784, 6386};
 static const struct limits wide = {32768, 32768, 4096, SIZE_MAX, true};
 
 static uint8_t *memories[MEMORIES];
@@ -106,6 +106,8 @@ static void words_of_node(uint16_t words[NODE_WORDS]) {
     *to++ = node.writing;
     *to++ = (uint16_t)node.writer;
     put_halves(&to, node.joined);
+    *to++ = node.listed;
+    *to++ = node.turn;
 }
 
 static void print_node(void) {
@@ -193,6 +195,8 @@ static void set(void) {
         node.writer = index;
         node.joined = value;
         break;
+    case 20: node.listed = (uint16_t)value; break;
+    case 21: node.turn = (uint16_t)value; break;
     default: set_pending(field - 15, index, value); break;
     }
 }
@@ -210,8 +214,8 @@ static uint64_t start(void) {
 
 static uint64_t request(void) {
     uint32_t now = (uint32_t)number(2), link = (uint32_t)number(2), bc = (uint32_t)number(1), error = (uint32_t)number(1);
-    struct lent lent = {lent_run(FLASH),     lent_run(PROGRAM), lent_run(DATA_MEMORY),
-                        lent_run(REGISTERS), lent_run(JOINING), lent_run(BUFFER)};
+    struct lent lent = {lent_run(FLASH),   lent_run(PROGRAM), lent_run(DATA_MEMORY), lent_run(REGISTERS),
+                        lent_run(JOINING), lent_run(LISTING), lent_run(BUFFER)};
     return model_node_request(&wide, &node, now, link, bc, error, run_bytes, run_of_line(run_bytes), &lent);
 }
 
@@ -243,6 +247,10 @@ static void print_answer(int does, uint64_t answer) {
         printf("ask %u %u", (unsigned)(answer >> 16 & 0xFF), (unsigned)(answer >> 24 & 0xFF));
     else if (kind == 8)
         printf("next %u", (unsigned)(answer >> 16 & 0xFF));
+    else if (kind == 6)
+        printf("handed %u", (unsigned)(answer >> 32));
+    else if (kind == 7)
+        printf("nothing");
     else
         printf("waiting");
 }
@@ -253,12 +261,13 @@ static void call(int does) {
                       : does == 2 ? request()
                       : does == 3 ? reply()
                       : does == 4 ? model_node_poll(&node, (uint32_t)number(2), lent_run(BUFFER))
-                                  : model_node_erase(&wide, &node, number(4), lent_run(FLASH));
+                      : does == 5 ? model_node_erase(&wide, &node, number(4), lent_run(FLASH))
+                                  : model_node_slow(&node, (uint32_t)number(2), lent_run(LISTING));
     printf("%04x ", digest_of_node());
     print_answer(does, answer);
     for (int memory = 0; memory < MEMORIES; memory++)
         if (show >> memory & 1)
-            printf(" %c %04x", "fpdira"[memory], digest_of(memory, 0, lent_words[memory]));
+            printf(" %c %04x", "fpdiral"[memory], digest_of(memory, 0, lent_words[memory]));
 }
 
 static void lend(void) {

@@ -27,6 +27,19 @@ static void group_request(void) {
     request(words + logodwen_make_status(packet + 2 * words));
 }
 
+/* As many entries as a list has room for, all of them told, and half of them removed; those that stay are due at tick 1. */
+static void list_requests(void) {
+    static struct logodwen_record records[LOGODWEN_LIST_RECORDS];
+    for (unsigned i = 0; i < LOGODWEN_LIST_RECORDS; i++) {
+        const struct logodwen_record record = {LOGODWEN_RECORD_FIRST, i % 2 * 0xFFFFu, 1, 0, 0, 0};
+        records[i] = record;
+    }
+    request(logodwen_make_list_write(packet, LOGODWEN_REQUEST_WORDS, records, LOGODWEN_LIST_RECORDS));
+    request(logodwen_make_list_read(packet));
+    request(logodwen_make_list_delete(packet, 5));
+    request(logodwen_make_list_delete_expired(packet));
+}
+
 static void requests(void) {
     enum { NAME = 1, ROOM = LOGODWEN_REQUEST_WORDS };
     static const uint32_t code[99];
@@ -60,6 +73,7 @@ static void requests(void) {
     request(logodwen_make_file_load(packet, NAME));
     request(logodwen_make_attribute_set(packet, NAME, true));
     request(logodwen_make_erase_start(packet, NAME));
+    list_requests();
     group_request();
 }
 
@@ -100,6 +114,11 @@ static void polls(void) {
 static void erases(void) {
     logodwen_node_erase(&node, 100);
     logodwen_node_erase(&node, UINT64_MAX);
+}
+
+static void steps(void) {
+    if (logodwen_answer(logodwen_node_slow(&node, 1)) != LOGODWEN_HANDED || logodwen_answer(logodwen_node_slow(&node, 0)) != LOGODWEN_NOTHING)
+        exit(2);
 }
 
 static void sequences(void) { logodwen_put(packet, 0, logodwen_fcs(packet, 1000)); }
@@ -156,6 +175,7 @@ int main(void) {
     group_request();
     wrong += measure("poll", polls, LOGODWEN_STACK_POLL);
     wrong += measure("erase", erases, LOGODWEN_STACK_ERASE);
+    wrong += measure("slow", steps, LOGODWEN_STACK_SLOW);
     wrong += measure("fcs", sequences, LOGODWEN_STACK_FCS);
     return wrong == 0 ? 0 : 1;
 }

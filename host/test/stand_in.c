@@ -17,7 +17,9 @@ enum { REMAINS_OVERLOOKED = 22 };                                               
 enum { LOWEST_TAKEN = 23 };                                                                     /* of a name in several sectors */
 enum { ALL_READABLE = 24, PLACE_OFF, SEAL_OVERLOOKED, LEFT_OVER_OVERLOOKED, KIND_UNKNOWN, MASK_CUT }; /* of a captured group reply */
 enum { OLD_CLOCK = 30, RX_STATUS_LOST };                                                        /* of a slave that is sent NEXT */
+enum { DUE_COMPARED = 32, TURN_WAITS, LAST_DUE_LEFT, CLEARED_TURN, HALF_ADDED, TURN_KEPT };     /* of the Q-List */
 enum { DIRECTORY_BYTES = 64, ENTRY_WORDS = 4, FIRST = 0, STATUS = 2, LENGTH = 3 };
+enum { REPETITIONS = 1, DUE = 10 }; /* in a record: a word, and a byte */
 
 static bool is_own(const uint8_t *packet, size_t packet_len, unsigned id) {
     return packet_len >= 2 && packet[0] == 0x2E && packet[1] == id;
@@ -119,7 +121,23 @@ static const uint8_t *erase_with_fault(const uint8_t *packet, size_t packet_len,
     return packet;
 }
 
-uint32_t logodwen3_start(uint32_t kind, uint32_t ports, uint32_t subdetector, uint16_t program_version,
+static unsigned listed_in(const uint8_t *state) { return logodwen_get(state + LOGODWEN_AT_LISTED, 0); }
+
+/* What a command on the Q-List leaves, with a fault: an entry that is cleared moves the turn to the first; entries that are not added leave a
+   byte; or those that are removed leave the turn. */
+static void list_with_fault(uint64_t answered, const uint8_t *packet, size_t packet_len, uint16_t turn, uint8_t *state, uint8_t *list,
+                            size_t list_len) {
+    bool is_end = logodwen_bc(answered) == LOGODWEN_BC_END, is_abort = logodwen_bc(answered) == LOGODWEN_BC_ABORT;
+    bool is_delete = is_own(packet, packet_len, 0x5B) && is_end;
+    if (FAULT == CLEARED_TURN && is_delete && packet_len >= 4)
+        logodwen_put(state + LOGODWEN_AT_TURN, 0, 0);
+    if (FAULT == HALF_ADDED && is_own(packet, packet_len, 0x5C) && is_abort && listed_in(state) < list_len / LOGODWEN_RECORD_BYTES)
+        list[LOGODWEN_RECORD_BYTES * listed_in(state)] ^= 1;
+    if (FAULT == TURN_KEPT && is_delete && turn < listed_in(state))
+        logodwen_put(state + LOGODWEN_AT_TURN, 0, turn);
+}
+
+uint32_t logodwen4_start(uint32_t kind, uint32_t ports, uint32_t subdetector, uint16_t program_version,
                          uint16_t subdetector_version, uint16_t start_tests, uint32_t clock, const uint8_t *flash, size_t flash_len,
                          uint8_t *state, size_t state_len) {
     uint32_t refusal = model_start(kind, ports, subdetector, program_version, subdetector_version, start_tests, clock, flash,
@@ -131,10 +149,10 @@ uint32_t logodwen3_start(uint32_t kind, uint32_t ports, uint32_t subdetector, ui
     return refusal;
 }
 
-uint64_t logodwen3_request(uint32_t now, uint32_t link, uint32_t bc, uint32_t receive_error, const uint8_t *packet,
+uint64_t logodwen4_request(uint32_t now, uint32_t link, uint32_t bc, uint32_t receive_error, const uint8_t *packet,
                            size_t packet_len, uint8_t *state, size_t state_len, uint8_t *flash, size_t flash_len, uint8_t *pm,
                            size_t pm_len, uint8_t *dm, size_t dm_len, uint8_t *io, size_t io_len, uint8_t *area, size_t area_len,
-                           uint8_t *reply, size_t reply_len) {
+                           uint8_t *list, size_t list_len, uint8_t *reply, size_t reply_len) {
     static uint8_t spare_state[LOGODWEN_STATE_BYTES], spare_flash[LOGODWEN_FLASH_BYTES];
     uint8_t before[DIRECTORY_BYTES];
     bool is_write = is_own(packet, packet_len, 0x45), is_read = is_own(packet, packet_len, 0x05);
@@ -145,6 +163,7 @@ uint64_t logodwen3_request(uint32_t now, uint32_t link, uint32_t bc, uint32_t re
     }
     const uint8_t *written = standing(state, state_len);
     uint32_t joined = written == NULL ? 0 : logodwen_get_pm(written + LOGODWEN_AT_JOINED, 0);
+    uint16_t turn = state_len == LOGODWEN_STATE_BYTES ? logodwen_get(state + LOGODWEN_AT_TURN, 0) : 0;
     if (FAULT == OTHER_LET_IN && written != NULL && packet_len >= 2 && (bc & 2) == 0)
         link = written[LOGODWEN_AT_WRITE_LINK];
     if (state_len == LOGODWEN_STATE_BYTES) {
@@ -152,7 +171,7 @@ uint64_t logodwen3_request(uint32_t now, uint32_t link, uint32_t bc, uint32_t re
         packet = erase_with_fault(packet, packet_len, before);
     }
     uint64_t answered = model_request(now, link, bc, receive_error, packet, packet_len, state, state_len, flash, flash_len, pm,
-                                      pm_len, dm, dm_len, io, io_len, area, area_len, reply, reply_len);
+                                      pm_len, dm, dm_len, io, io_len, area, area_len, list, list_len, reply, reply_len);
     if (FAULT == ODD_BYTE_CLEARED && logodwen_answer(answered) == LOGODWEN_REPLY && dm_len % 2 == 1)
         dm[dm_len - 1] = 0;
     if (FAULT == JOINED_TOO_MUCH && (bc & 2) == 0 && joined + packet_len / 2 > LOGODWEN_AREA_WORDS &&
@@ -160,6 +179,7 @@ uint64_t logodwen3_request(uint32_t now, uint32_t link, uint32_t bc, uint32_t re
         area[LOGODWEN_AREA_BYTES - 1] ^= 1;
     if (state_len == LOGODWEN_STATE_BYTES)
         lengths_with_fault(before, state + LOGODWEN_AT_DIRECTORY);
+    list_with_fault(answered, packet, packet_len, turn, state, list, list_len);
     if (is_summary && logodwen_words(answered) != 0)
         summary_with_fault(answered, reply);
     if (written == NULL && is_write && standing(state, state_len) != NULL)
@@ -177,7 +197,7 @@ static void next_with_fault(uint32_t asked_at, uint8_t *state) {
         logodwen_put(state + LOGODWEN_AT_RX_STATUS, 0, 0);
 }
 
-uint64_t logodwen3_reply(uint32_t now, uint32_t slave, uint32_t bc, uint32_t receive_error, uint16_t rx_status, uint16_t rx_address,
+uint64_t logodwen4_reply(uint32_t now, uint32_t slave, uint32_t bc, uint32_t receive_error, uint16_t rx_status, uint16_t rx_address,
                          const uint8_t *packet, size_t packet_len, uint8_t *state, size_t state_len, uint8_t *reply,
                          size_t reply_len) {
     uint32_t asked_at = state_len == LOGODWEN_STATE_BYTES ? logodwen_get_pm(state + LOGODWEN_AT_ASKED_AT, 0) : 0;
@@ -192,13 +212,13 @@ uint64_t logodwen3_reply(uint32_t now, uint32_t slave, uint32_t bc, uint32_t rec
     return answered;
 }
 
-uint64_t logodwen3_poll(uint32_t now, uint8_t *state, size_t state_len, uint8_t *reply, size_t reply_len) {
+uint64_t logodwen4_poll(uint32_t now, uint8_t *state, size_t state_len, uint8_t *reply, size_t reply_len) {
     if (FAULT == CLOCK_COMPARED && state_len == LOGODWEN_STATE_BYTES && now < logodwen_get_pm(state + LOGODWEN_AT_ASKED_AT, 0))
         now = logodwen_get_pm(state + LOGODWEN_AT_ASKED_AT, 0);
     return model_poll(now, state, state_len, reply, reply_len);
 }
 
-uint64_t logodwen3_erase(uint64_t budget, uint8_t *state, size_t state_len, uint8_t *flash, size_t flash_len) {
+uint64_t logodwen4_erase(uint64_t budget, uint8_t *state, size_t state_len, uint8_t *flash, size_t flash_len) {
     uint8_t before[DIRECTORY_BYTES];
     if (state_len == LOGODWEN_STATE_BYTES)
         memcpy(before, state + LOGODWEN_AT_DIRECTORY, sizeof before);
@@ -210,7 +230,33 @@ uint64_t logodwen3_erase(uint64_t budget, uint8_t *state, size_t state_len, uint
     return answered;
 }
 
-uint16_t logodwen3_fcs(const uint8_t *bytes, size_t len) { return model_fcs(bytes, len / 2); }
+/* The record of the entry whose turn it is, NULL where none is lent. */
+static uint8_t *in_turn(const uint8_t *state, size_t state_len, uint8_t *list, size_t list_len) {
+    if (state_len != LOGODWEN_STATE_BYTES)
+        return NULL;
+    size_t turn = logodwen_get(state + LOGODWEN_AT_TURN, 0);
+    return turn < list_len / LOGODWEN_RECORD_BYTES ? list + LOGODWEN_RECORD_BYTES * turn : NULL;
+}
+
+/* The slow-control step, with a fault: times are compared as they stand; the turn waits until its entry is handed out; or an entry that is
+   handed out for the last time keeps its due time. */
+uint64_t logodwen4_slow(uint32_t now, uint8_t *state, size_t state_len, uint8_t *list, size_t list_len) {
+    uint8_t *record = in_turn(state, state_len, list, list_len);
+    if (record == NULL)
+        return model_slow(now, state, state_len, list, list_len);
+    uint32_t due = logodwen_get_pm(record + DUE, 0);
+    uint16_t turn = logodwen_get(state + LOGODWEN_AT_TURN, 0);
+    if (FAULT == DUE_COMPARED && now < due)
+        now = due - 1;
+    uint64_t answered = model_slow(now, state, state_len, list, list_len);
+    if (FAULT == TURN_WAITS && logodwen_answer(answered) == LOGODWEN_NOTHING)
+        logodwen_put(state + LOGODWEN_AT_TURN, 0, turn);
+    if (FAULT == LAST_DUE_LEFT && logodwen_answer(answered) == LOGODWEN_HANDED && logodwen_get(record, REPETITIONS) == 0)
+        logodwen_put_pm(record + DUE, 0, due);
+    return answered;
+}
+
+uint16_t logodwen4_fcs(const uint8_t *bytes, size_t len) { return model_fcs(bytes, len / 2); }
 
 /* A captured group reply, with a fault: an FCS is taken for right, whatever it is, or words left over are not looked at. */
 static uint64_t capture_with_fault(uint64_t answered, uint32_t mask, const uint8_t *words) {
@@ -225,7 +271,7 @@ static uint64_t capture_with_fault(uint64_t answered, uint32_t mask, const uint8
     return model_capture(mask, resealed, 2 * place + 2) == LOGODWEN_ACCEPTED << 8 ? LOGODWEN_ACCEPTED << 8 : answered;
 }
 
-uint64_t logodwen3_capture(uint32_t mask, const uint8_t *words, size_t words_len) {
+uint64_t logodwen4_capture(uint32_t mask, const uint8_t *words, size_t words_len) {
     uint64_t answered = model_capture(FAULT == MASK_CUT ? mask & 0xFFFFFFu : mask, words, words_len);
     if (FAULT == ALL_READABLE)
         return LOGODWEN_ACCEPTED << 8;
