@@ -13,7 +13,7 @@ use Rattle.border.proofs.Groups.{group-is-its-fragments}
 use Rattle.border.proofs.Captures.{data-is-accepted}
 use Rattle.border.proofs.Ends.{each-lowers-or-stores, always-ends, never-asked-twice, settled-in-time, dead-end-in-time, all-end-in-time}
 use Rattle.border.proofs.ClosedRun.{closed-run}
-use Rattle.border.proofs.Listing.{repetitions-conserved}
+use Rattle.border.proofs.Listing.{repetitions-conserved, listed-lent, repetitions-at}
 use Rattle.border.proofs.OneSector.{one-sector, no-bit-rises}
 
 pub demands : Demands entries
@@ -36,6 +36,8 @@ demands =
       dead-end-in-time = dead-end-in-time;
       all-end-in-time = all-end-in-time;
       repetitions-conserved = repetitions-conserved;
+      listed-lent = listed-lent;
+      repetitions-at = repetitions-at;
       closed-run = closed-run;
       no-stale-record = no-stale-record;
       lengths-shown = lengths-shown;

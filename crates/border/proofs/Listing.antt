@@ -1,5 +1,5 @@
 -- Repetitions are conserved over bytes: by the node's theorem, which the entries come to. Assumes nothing.
-use Prim.Native.Nat.{ℕ, _+_, _/_, _%_}
+use Prim.Native.Nat.{ℕ, _+_, _*_, _/_, _%_, _≤_}
 use native.Mathlib.Nat.{add-zero}
 use native.Mathlib.Omega.{arith}
 use mathlib.Core.Path.{_≡_, refl, sym, ap, _∙_, subst}
@@ -11,35 +11,41 @@ use borrow.Author.Tests.{eqb-true, eqb-false, eq-eqb, ne-eqb}
 use Rattle.base.specs.Pick.{pick}
 use Rattle.base.specs.Words.{Below}
 use Rattle.base.proofs.Part.{below-drop}
-use Rattle.qlist.specs.Words.{recordsIn, entryIn}
-use Rattle.qlist.specs.Commands.{Changed, countIn}
+use Rattle.base.proofs.Pick.{pick-case}
+use Rattle.qlist.specs.Words.{recordsIn, entryIn, clearIn}
+use Rattle.qlist.specs.Commands.{Changed, countIn, canWrite, writeIn, deleteIn}
 use Rattle.qlist.specs.Laws.{brings}
+use Rattle.qlist.specs.declared.Listed.{Listed as QListed}
+use Rattle.qlist.specs.declared.Listing.{Listing}
 use Rattle.qlist.specs.declared.Slow.{Slow}
-use Rattle.qlist.proofs.Lengths.{length-step, length-write, length-delete}
+use Rattle.qlist.proofs.Lengths.{length-step, close-count, length-write, length-delete}
+use Rattle.qlist.proofs.Writing.{can-tells}
 use Rattle.qlist.proofs.Ranges.{below-step, below-write, below-delete}
-use Rattle.node.specs.Refusals.{slowVerdict}
-use Rattle.node.specs.Effect.{Effect, Lent, lent, further, Relist, listAfter as relistedTo}
-use Rattle.node.specs.Calls.{judged, lentList, requestOf, slowEffect, slowOf}
+use Rattle.node.specs.Refusals.{replyVerdict, pollVerdict, eraseVerdict, slowVerdict, startVerdict}
+use Rattle.node.specs.Effect.{Effect, Lent, lent, further, Relist, listingAfter, listAfter as relistedTo}
+use Rattle.node.specs.Slaves.{replyEffect, pollEffect}
+use Rattle.node.specs.Calls.{judged, lentReply, lentFlash, lentList, given, startBy, startOf, requestOf, replyOf, pollOf, eraseEffect, eraseOf, slowEffect, slowOf}
 use Rattle.node.specs.declared.Answer.{Answer}
 use Rattle.node.specs.declared.Node.{Node}
 use Rattle.node.specs.declared.Verdict.{Verdict}
-use Rattle.node.proofs.Why.{Relists, Relisted, request-why}
+use Rattle.node.proofs.Why.{Relists, Relisted, request-why, reply-quiet, poll-quiet}
 use Rattle.demands.specs.Machine.{Call, logodwen, isRefused}
 use Rattle.demands.specs.Requests.{isCommand}
 use Rattle.demands.specs.Reached.{Lends16, stateAfter as nodeAfter}
 use Rattle.demands.specs.Listing.{lending as lendingWords, listOf, isEnd, handsOut as handsOutWords, Tally, tally, talliedBy as talliedWords, ListStep as WordsStep, Listed as WordsListed}
 use Rattle.demands.proofs.Taken.{verdictOn, requestEffect}
 use Rattle.demands.proofs.Listing.{repetitions-conserved as words-conserved}
-use Rattle.codec.specs.Bytes.{wordsOf, storeWords}
+use Rattle.codec.specs.Bytes.{numberAt, wordsOf, storeWords}
 use Rattle.codec.specs.StateBytes.{nodeIn}
 use Rattle.logodwen.specs.Entry.{Answered}
-use Rattle.codec.proofs.Runs.{length-words-of}
+use Rattle.codec.proofs.Runs.{length-words-of, word-there}
 use Rattle.codec.proofs.ThereAndBack.{bytes-kept}
 use Rattle.border.specs.Exactly.{entries}
 use Rattle.border.specs.Host.{Entry, InC, U8s, numberAfter, stateAfter, flashAfter, onWords, isDone}
 use Rattle.border.specs.Answers.{Says, answerIn, endNumber}
-use Rattle.border.specs.Listing.{lending, listAfter, listedTotal, handsOut, talliedBy, ListStep, Listed, RepetitionsConserved}
+use Rattle.border.specs.Listing.{lending, listAfter, listedTotal, handsOut, talliedBy, ListStep, Listed, RepetitionsConserved, ListedLent, RepetitionsAt}
 use Rattle.border.proofs.Runs.{words-of-below, stored-words, stored-below}
+use Rattle.border.proofs.Fine.{records-are}
 use Rattle.border.proofs.Exactly.{refused-exactly}
 use Rattle.border.proofs.Steps.{Made, done-made, done-taken, undone-left, undone-flash}
 use Rattle.border.proofs.Stands.{Stands, lends, made-moves, first-begun}
@@ -107,6 +113,85 @@ call-fits (Call.Reply clock slave bc errors status address words reply) n flash 
 call-fits (Call.Poll clock reply) n flash list p b = record { size = refl; below = b }
 call-fits (Call.Erase budget) n flash list p b = record { size = refl; below = b }
 call-fits (Call.Slow clock other) n flash list p b = slow-fits n clock list b
+
+-- those listed have room in so many records
+abbrev LentIn : ℕ → QListed → Type 0
+LentIn records (QListed.Entries g) = g .entries ≤ records
+LentIn records QListed.Abort = Unit {0}
+
+module _ (g : Listing) (segment list : List ℕ) (h : g .entries ≤ recordsIn list) where
+  abbrev Lent-in : Changed → Type 0
+  Lent-in c = LentIn (recordsIn list) (c .listed)
+
+  delete-lent : Lent-in (deleteIn g segment list)
+  unfolding deleteIn
+  delete-lent =
+      pick-case Lent-in (eqb (length segment) 0) (λ _. omega (arith, close-count (g .entries) list))
+      (λ _. pick-case Lent-in (eqb (length segment) 1)
+      (λ _. pick-case Lent-in (eqb (getD segment 0 0) 0xFFFF) (λ _. omega arith)
+      (λ _. pick-case Lent-in (clearIn (g .entries) (getD segment 0 0) list .found) (λ _. h) (λ _. tt)))
+      (λ _. tt))
+
+  write-lent : (clock : ℕ) → Lent-in (writeIn g clock segment list)
+  unfolding writeIn
+  write-lent clock =
+      pick-case Lent-in (canWrite (g .entries) (recordsIn list) segment) (λ e. can-tells (g .entries) (recordsIn list) segment e .1) (λ _. tt)
+
+-- so it is after every call, where it was before
+abbrev LentAfter : Node → List ℕ → Type 0
+LentAfter n list = n .listing .entries ≤ recordsIn list
+
+relist-lent : (n : Node) (clock : ℕ) (packet list : List ℕ) → LentAfter n list → (x : Relist) → Relists x n clock packet list
+    → listingAfter x (n .listing) .entries ≤ recordsIn list
+relist-lent n clock packet list h Relist.Kept r = h
+relist-lent n clock packet list h (Relist.Became g words) (Relisted.Deleted c e) =
+    subst (λ (x : Changed). LentIn (recordsIn list) (x .listed)) e (delete-lent (n .listing) (drop 1 packet) list h)
+relist-lent n clock packet list h (Relist.Became g words) (Relisted.Wrote c e) =
+    subst (λ (x : Changed). LentIn (recordsIn list) (x .listed)) e (write-lent (n .listing) (drop 1 packet) list h clock)
+
+start-lent : (kind ports subdetector program version tests clock : ℕ) (flash list : List ℕ)
+    → LentAfter (startOf kind ports subdetector program version tests clock flash .node) list
+unfolding startOf
+start-lent kind ports subdetector program version tests clock flash list = by (startVerdict kind ports subdetector (length flash))
+  where
+    by : (v : Verdict) → LentAfter (startBy v (given kind ports subdetector program version tests clock (length flash)) flash .node) list
+    by Verdict.Fine = omega arith
+    by (Verdict.No r) = omega arith
+
+call-lent : (c : Call) (n : Node) (flash list : List ℕ) → LentAfter n list → LentAfter (nodeAfter logodwen (lendingWords list c) n flash) list
+unfolding requestOf replyOf pollOf eraseOf slowOf
+call-lent (Call.Start kind ports subdetector program version tests clock) n flash list h =
+    pick-case (λ (m : Node). LentAfter m list) (isRefused (startOf kind ports subdetector program version tests clock flash .answer)) (λ _. h)
+    (λ _. start-lent kind ports subdetector program version tests clock flash list)
+call-lent (Call.Request clock link bc errors packet m x reply) n flash list h = by (verdictOn n link packet l)
+  where
+    l : Lent
+    l = lent flash m (further (x .area) list) reply
+
+    by : (v : Verdict) → LentAfter (judged v n l (requestEffect n clock link bc errors packet l) .turn .node) list
+    by Verdict.Fine = relist-lent n clock packet list h (requestEffect n clock link bc errors packet l .list) (request-why n link bc packet l clock errors .1 .1)
+    by (Verdict.No r) = h
+call-lent (Call.Reply clock slave bc errors status address words reply) n flash list h = by (replyVerdict n slave (length reply))
+  where
+    by : (v : Verdict) → LentAfter (judged v n (lentReply reply) (replyEffect n clock errors status address bc words reply) .turn .node) list
+    by Verdict.Fine =
+        subst (λ (x : Relist). listingAfter x (n .listing) .entries ≤ recordsIn list) (sym (reply-quiet n clock errors status address bc words reply .list)) h
+    by (Verdict.No r) = h
+call-lent (Call.Poll clock reply) n flash list h = by (pollVerdict n (length reply))
+  where
+    by : (v : Verdict) → LentAfter (judged v n (lentReply reply) (pollEffect n clock reply) .turn .node) list
+    by Verdict.Fine = subst (λ (x : Relist). listingAfter x (n .listing) .entries ≤ recordsIn list) (sym (poll-quiet n clock reply .list)) h
+    by (Verdict.No r) = h
+call-lent (Call.Erase budget) n flash list h = by (eraseVerdict n (length flash))
+  where
+    by : (v : Verdict) → LentAfter (judged v n (lentFlash flash) (eraseEffect n budget flash) .turn .node) list
+    by Verdict.Fine = h
+    by (Verdict.No r) = h
+call-lent (Call.Slow clock other) n flash list h = by (slowVerdict n (recordsIn list))
+  where
+    by : (v : Verdict) → LentAfter (judged v n (lentList list) (slowEffect n clock list) .turn .node) list
+    by Verdict.Fine = h
+    by (Verdict.No r) = h
 
 -- the bytes of the list after an entry that is done
 list-is : (e : Entry) (state flash list : List ℕ) → Below 256 list → Made (lending list e) state flash
@@ -217,6 +302,7 @@ undone-tally (Entry.Slow clock other) number state list t h =
 record Carried (state flash list : List ℕ) (t : Tally) : Type 0 where
   stands : Stands state flash
   below : Below 256 list
+  room : LentAfter (nodeIn state) (wordsOf 2 list)
   words : WordsListed logodwen (nodeIn state) (wordsOf 2 list) t
 
 done-carried : (e : Entry) (state flash list : List ℕ) (t : Tally) → InC e → isDone (numberAfter entries (lending list e) state flash) ≡ true → Carried state flash list t
@@ -237,6 +323,9 @@ done-carried e state flash list t c done k =
     record {
       stands = moved .stands;
       below = subst (λ (x : List ℕ). Below 256 x) (sym left) (stored-below new list (k .below));
+      room =
+          subst (λ (x : Node). LentAfter x (wordsOf 2 (listAfter entries e state flash list))) (sym node)
+          (omega (arith, call-lent (onWords e) n (wordsOf 2 flash) ws (k .room), ap length read, fits .size));
       words =
           subst (to (nodeIn (stateAfter entries lends-it state flash)) (wordsOf 2 (listAfter entries e state flash list))) (sym (tallied-is e state flash list t done))
           (subst (λ (x : List ℕ). to (nodeIn (stateAfter entries lends-it state flash)) x (talliedWords logodwen (onWords e) n (wordsOf 2 flash) ws t)) (sym read)
@@ -278,6 +367,7 @@ carried (Listed.First kind ports subdetector program version tests clock state f
     record {
       stands = begun .stands;
       below = b;
+      room = subst (λ (n : Node). LentAfter n (wordsOf 2 list)) (sym (begun .node)) (start-lent kind ports subdetector program version tests clock (wordsOf 2 flash) (wordsOf 2 list));
       words =
           subst (λ (n : Node). WordsListed logodwen n (wordsOf 2 list) (tally 0 0 0)) (sym (begun .node))
           (WordsListed.First kind ports subdetector program version tests clock (wordsOf 2 flash) (wordsOf 2 list) (begun .taken));
@@ -287,3 +377,13 @@ carried (Listed.Then r step) = step-carried step (carried r)
 pub repetitions-conserved : RepetitionsConserved entries
 unfolding nodeIn
 repetitions-conserved state flash list t r = words-conserved (nodeIn state) (wordsOf 2 list) t (carried r .words)
+
+pub repetitions-at : RepetitionsAt
+unfolding entryIn
+repetitions-at list i h =
+    let place : (i * 7 + 1) * 2 ≡ i * 14 + 2 = omega arith in
+    sym (word-there list (i * 7 + 1) (omega arith) refl) ∙ ap (λ (at : ℕ). numberAt 2 at list) place
+
+pub listed-lent : ListedLent entries
+unfolding nodeIn
+listed-lent state flash list t r = omega (arith, carried r .room, records-are list)

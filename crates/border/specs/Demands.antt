@@ -13,7 +13,7 @@ use Rattle.border.specs.Groups.{GroupIsAsked, GroupIsItsFragments}
 use Rattle.border.specs.Ends.{EachLowersOrStores, AlwaysEnds, NeverAskedTwice, SettledInTime, DeadEndInTime, AllEndInTime}
 use Rattle.border.specs.Captures.{DataIsAccepted}
 use Rattle.border.specs.Flash.{OneSector, NoBitRises}
-use Rattle.border.specs.Listing.{RepetitionsConserved}
+use Rattle.border.specs.Listing.{RepetitionsConserved, ListedLent, RepetitionsAt}
 use Rattle.border.specs.ClosedRun.{ClosedRun}
 
 pub record Demands (E : Entries) : Type 0 where
@@ -44,8 +44,11 @@ pub record Demands (E : Entries) : Type 0 where
   pub settled-in-time : SettledInTime E
   pub dead-end-in-time : DeadEndInTime E
   pub all-end-in-time : AllEndInTime E
-  -- Repetitions of the Q-List are conserved: those listed, handed out and cleared are those written.
+  -- Repetitions of the Q-List are conserved: those listed, handed out and cleared are those written. Every entry listed has its record in the
+  -- list's bytes, and its repetitions at byte 2 of it.
   pub repetitions-conserved : RepetitionsConserved E
+  pub listed-lent : ListedLent E
+  pub repetitions-at : RepetitionsAt
   -- One run, worked out: start, File Write, File Read.
   pub closed-run : ClosedRun E
   -- 3 No stale record. After any sequence of entries, refused ones and half-done erasures included, the directory kept in the state bytes is

@@ -1,6 +1,6 @@
 -- Demand 2 over bytes, of the Q-List: over any entries of a host that keeps state bytes, flash bytes and the list's bytes, and lends them, repetitions
 -- are conserved. A record is 14 bytes, and its repetitions are the word of its bytes 2 and 3. 02, request 7. Assumes nothing.
-use Prim.Native.Nat.{ℕ, _+_, _/_, _%_}
+use Prim.Native.Nat.{ℕ, _+_, _*_, _/_, _%_, _≤_, _<_}
 use mathlib.Core.Path.{_≡_}
 use mathlib.Core.Bool.{false, _&&_}
 use mathlib.Core.List.{List}
@@ -13,7 +13,7 @@ use Rattle.qlist.specs.Laws.{total, brings}
 use Rattle.node.specs.Effect.{further}
 use Rattle.demands.specs.Requests.{isCommand}
 use Rattle.demands.specs.Listing.{Tally, tally}
-use Rattle.codec.specs.Bytes.{wordsOf}
+use Rattle.codec.specs.Bytes.{numberAt, wordsOf}
 use Rattle.codec.specs.StateBytes.{listedIn}
 use Rattle.logodwen.specs.Entry.{Answered}
 use Rattle.border.specs.Exactly.{Entries}
@@ -96,3 +96,11 @@ pub data Listed (E : Entries) : List ℕ → List ℕ → List ℕ → Tally →
 abbrev pub RepetitionsConserved : Entries → Type 0
 RepetitionsConserved E =
     (state flash list : List ℕ) (t : Tally) → Listed E state flash list t → listedTotal state list + t .handed + t .cleared ≡ t .written
+
+-- Every entry listed has its record in the list.
+abbrev pub ListedLent : Entries → Type 0
+ListedLent E = (state flash list : List ℕ) (t : Tally) → Listed E state flash list t → listedIn state ≤ length list / 14
+
+-- Of a record that the list has whole, they are the two bytes at 2, low byte first.
+abbrev pub RepetitionsAt : Type 0
+RepetitionsAt = (list : List ℕ) (i : ℕ) → i < length list / 14 → entryIn (wordsOf 2 list) i .repetitions ≡ numberAt 2 (i * 14 + 2) list

@@ -108,7 +108,7 @@ pub fn is_own(header: u16, frequency: u16) -> bool
 pub fn moved_on(listing: Listing) -> Listing
     ensures { λ r. ⌜ r ≡ movedOn listing ⌝ }
 {
-    // (whoever asks for more entries than there is memory has no next place)
+    // A turn past the listed entries, which no state has, is not counted up: its sum might be too large for a number.
     let next = if listing.turn < listing.entries {
         listing.turn + 1
     } else {
