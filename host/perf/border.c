@@ -388,7 +388,7 @@ int perf_border_runs(void) {
         {"erase of 4,096 words", erasing, erases_all, 1, LONG},
         {"Q-List Write of 900 entries", many_states, writes_list, 2, LONG},
         {"Q-List Read of 900 entries", some_listed, reads_list, 2, LONG},
-        {"Entry Delete of those expired of 910", some_are_expired, removes_expired, 1, LONG},
+        {"Entry Delete of those expired of 910", some_are_expired, removes_expired, 1, SHORT},
     };
     const size_t count = sizeof rows / sizeof *rows;
     lay_packets();
