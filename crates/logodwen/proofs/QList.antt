@@ -6,7 +6,7 @@ use mathlib.Core.Bool.{Bool, true, false, _&&_, _||_, false≢true}
 use mathlib.Core.List.{List, [], _∷_}
 use native.Mathlib.Omega.{arith}
 use native.Mathlib.Nat.{div-mul-le-self, sub-zero}
-use lib.Dec.{ltb, leb, eqb}
+use lib.Dec.{ltb, eqb}
 use lib.ListN.{length, getD, take, drop, set, length-drop}
 use lib.Seq.{length-take-le, getD-drop}
 use borrow.Author.Tests.{eq-eqb, ne-eqb, eqb-true, ltb-true, lt-ltb, le-ltb, le-leb}
@@ -20,7 +20,7 @@ use Rattle.group.specs.declared.ZeroLength.{ZeroLength}
 use Rattle.memory.specs.Segment.{memories}
 use Rattle.qlist.specs.Entry.{isReady, toldOf}
 use Rattle.qlist.specs.Words.{listing, recordsIn, entryIn, stepped, Stepped, stepIn, movedOn, Closed, closed, closeIn, Cleared, cleared, clearIn}
-use Rattle.qlist.specs.Commands.{Changed, changed, countIn, isWrite, allOwn, addFrom, canWrite, writeIn, deleteIn, toldWords, Read, read, readOf}
+use Rattle.qlist.specs.Commands.{changed, countIn, addFrom, canWrite, writeIn, deleteIn, toldWords, Read, read, readOf}
 use Rattle.qlist.specs.declared.Entry.{Entry}
 use Rattle.qlist.specs.declared.Listed.{Listed}
 use Rattle.qlist.specs.declared.Listing.{Listing}
@@ -313,32 +313,17 @@ list-reads-not n bs packet h = no _ (ne-eqb (length (wordsOf 2 packet)) 1 (λ e.
 
 -- 5C
 
--- a write that can be done can be done in a room of its size
-fresh : (listed lent : ℕ) (segment : List ℕ) → canWrite listed lent segment ≡ true → canWrite 0 (countIn segment) segment ≡ true
-unfolding canWrite
-fresh listed lent segment h =
-    let a : Bool = isWrite segment in
-    let b : Bool = leb (listed + countIn segment) lent in
-    let c : Bool = allOwn (countIn segment) 0 segment in
-    sym (and-yes (and-left a (b && c) h) (and-yes (le-leb (0 + countIn segment) (countIn segment) (omega arith)) (sym (and-right b c (and-right a (b && c) h)))))
-
-pub add-left : (listed clock : ℕ) (segment bs room : List ℕ) {n : ℕ} {l : Listed} {made after : List ℕ} → Below 256 bs → canWrite listed (length bs / 14) segment ≡ true
-    → n ≡ countIn segment → length room ≡ n * 7 → changed l made ≡ writeIn (listing 0 0) clock segment room → after ≡ laid bs (listed * 7 * 2) (bytesOf 2 made)
+-- the entries of a write that can be done, made in a room of their size and stored behind those listed
+pub add-left : (listed clock : ℕ) (segment bs room : List ℕ) {n : ℕ} {made after : List ℕ} → Below 256 bs → canWrite listed (length bs / 14) segment ≡ true
+    → n ≡ countIn segment → length room ≡ n * 7 → made ≡ addFrom n 0 0 clock segment room → after ≡ laid bs (listed * 7 * 2) (bytesOf 2 made)
     → after ≡ storeWords 2 (addFrom n 0 listed clock segment (wordsOf 2 bs)) bs
-unfolding writeIn
-add-left listed clock segment bs room {n} {l} {made} b can e size f g =
+add-left listed clock segment bs room {n} {made} b can e size f g =
     let ws = wordsOf 2 bs in
-    let k = countIn segment in
     let t = can-tells listed (length bs / 14) segment can in
-    let rooms : recordsIn room ≡ k = omega arith in
-    let ok : canWrite 0 (recordsIn room) segment ≡ true = ap (λ (x : ℕ). canWrite 0 x segment) rooms ∙ fresh listed (length bs / 14) segment can in
-    let new : made ≡ addFrom k 0 0 clock segment room =
-    ap (λ (c : Changed). c .words) (f ∙ sym (yes (changed Listed.Abort room) ok refl)) in
-    let long : length (addFrom k 0 0 clock segment room) ≡ k * 7 = length-add k 0 0 clock segment room ∙ size ∙ ap (_* 7) e in
-    g ∙ ap (λ (x : List ℕ). laid bs (listed * 7 * 2) (bytesOf 2 x)) new
-    ∙ stored-at bs (listed * 7) (addFrom k 0 0 clock segment room) (omega (arith, long, t .1)) b
-    ∙ ap (λ (x : List ℕ). storeWords 2 x bs) (sym (add-laid k listed clock segment ws room (omega arith) (omega (arith, t .1, length-words-of 2 bs))))
-    ∙ ap (λ (x : ℕ). storeWords 2 (addFrom x 0 listed clock segment ws) bs) (sym e)
+    let long : length (addFrom n 0 0 clock segment room) ≡ n * 7 = length-add n 0 0 clock segment room ∙ size in
+    g ∙ ap (λ (x : List ℕ). laid bs (listed * 7 * 2) (bytesOf 2 x)) f
+    ∙ stored-at bs (listed * 7) (addFrom n 0 0 clock segment room) (omega (arith, long, e, t .1)) b
+    ∙ ap (λ (x : List ℕ). storeWords 2 x bs) (sym (add-laid n listed clock segment ws room size (omega (arith, e, t .1, length-words-of 2 bs))))
 
 module _ (g : Listing) (clock : ℕ) (bs segment : List ℕ) where
   enough : {t : Bool} → canWrite (g .entries) (length bs / 14) segment ≡ t → canWrite (g .entries) (recordsIn (wordsOf 2 bs)) segment ≡ t

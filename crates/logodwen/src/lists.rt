@@ -244,11 +244,7 @@ fn add_behind(
     requires { ⌜ (n ≡ countIn (now segment)) × (length (now room) ≡ n * 7) ⌝ }
     ensures { λ _. ⌜ now (list .exit) ≡ storeWords 2 (addFrom n 0 listed clock (now (segment .entry)) (wordsOf 2 (now (list .entry)))) (now (list .entry)) ⌝ }
 {
-    let none = Listing {
-        entries: 0,
-        turn: 0,
-    };
-    qlist::commands::write(room, none, clock, segment);
+    qlist::commands::add(room, 0, n, clock, segment);
     store_at16(room, list, listed * 7);
 }
 

@@ -66,8 +66,8 @@ fn brought(segment: &[u16], i: usize, clock: u32) -> Entry
     }
 }
 
-// A write's n entries stand from a place on.
-fn add(words: &mut [u16], place: usize, n: usize, clock: u32, segment: &[u16])
+// A write's n entries stand from a place on. Asks that they are there, and have room.
+pub fn add(words: &mut [u16], place: usize, n: usize, clock: u32, segment: &[u16])
     requires { ⌜ place * 7 + n * 7 ≤ length (now words) ⌝ }
     requires { ⌜ n * 5 + 4 ≤ length (now segment) ⌝ }
     ensures { λ _. ⌜ now (words .exit) ≡ addFrom n 0 place clock (now (segment .entry)) (now (words .entry)) ⌝ }
