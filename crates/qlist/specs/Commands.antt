@@ -62,7 +62,8 @@ writeIn g clock segment ws =
     (changed Listed.Abort ws)
 
 -- 5B, Q-List Entry Delete. With no parameter those with no repetitions left are removed, the others close up, and the turn goes to the first.
--- FFFF: none is listed, and so the turn. Another parameter, a listed place: that entry has no repetitions any more.
+-- FFFF: none is listed, and the turn goes to the first too. Another parameter, a listed place: that entry has no repetitions any more, and the turn
+-- stays; a place that is not listed, or two parameters and more: ABORT.
 unfoldable pub deleteIn : Listing → List ℕ → List ℕ → Changed
 deleteIn g parameters ws =
     pick (eqb (length parameters) 0) (changed (Listed.Entries (listing (closeIn (g .entries) ws .count) 0)) (closeIn (g .entries) ws .words))

@@ -1,6 +1,6 @@
 -- The Q-List as a run of records, and that of its words. What step, closing up and clearing leave of the records is what they leave of the
 -- words. 02, request 7. Assumes nothing.
-use Prim.Native.Nat.{ℕ, zero, suc, _+_, _/_, _%_, min, _≤_}
+use Prim.Native.Nat.{ℕ, zero, suc, _+_, _/_, _%_, min}
 use mathlib.Core.Path.{_≡_}
 use mathlib.Core.Bool.{Bool, true, false, _&&_}
 use mathlib.Core.List.{List, [], _∷_}
@@ -23,6 +23,7 @@ wordsOf (e ∷ es) =
 abbrev pub none : Entry
 none = entry 0 0 0 0 0 0
 
+-- The slow-control step: the record in turn alone, where it is listed and lent.
 pub record Stepped : Type 0 where
   pub slow : Slow
   pub list : List Entry
@@ -36,6 +37,7 @@ stepOf g clock es =
     (stepped (toldOf clock (g .turn) (getD es (g .turn) none)) (set es (g .turn) (advancedOf clock (getD es (g .turn) none))))
     (stepped Slow.Nothing es)
 
+-- The listed records with repetitions left close up, in order.
 pub record Closed : Type 0 where
   pub count : ℕ
   pub list : List Entry
@@ -51,6 +53,7 @@ closeFrom (suc n) i k es =
 abbrev pub closeOf : ℕ → List Entry → Closed
 closeOf listed es = closeFrom (min listed (length es)) 0 0 es
 
+-- The record at a listed place has no repetitions any more.
 pub record Cleared : Type 0 where
   pub found : Bool
   pub list : List Entry
