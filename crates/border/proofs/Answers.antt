@@ -49,7 +49,8 @@ use Rattle.demands.proofs.Taken.{verdictOn, requestEffect}
 use Rattle.codec.specs.Bytes.{wordsOf}
 use Rattle.codec.specs.StateBytes.{nodeIn, areState}
 use Rattle.logodwen.specs.Number.{fields, answerNumber}
-use Rattle.logodwen.specs.Entry.{memoryWords, replyWords, isSet, furtherWords}
+use Rattle.touch.specs.InBytes.{memoryWords, replyWords, furtherWords}
+use Rattle.logodwen.specs.Entry.{isSet}
 use Rattle.codec.proofs.Runs.{length-words, length-words-of}
 use Rattle.logodwen.proofs.Entering.{request-fine, reply-fine, poll-fine, erase-fine, slow-fine}
 use Rattle.codec.proofs.Small.{size-most}

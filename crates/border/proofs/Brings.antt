@@ -24,7 +24,7 @@ use Rattle.demands.specs.Requests.{isCommand, isLast, isWrite, ended, brought}
 use Rattle.codec.specs.Bytes.{valueOf, numberAt, wordsIn, wordsOf}
 use Rattle.codec.specs.StateBytes.{standingIn, writingOf, nodeIn, areState}
 use Rattle.codec.proofs.Runs.{words-front}
-use Rattle.logodwen.specs.Entry.{furtherWords}
+use Rattle.touch.specs.InBytes.{furtherWords}
 use Rattle.logodwen.proofs.Fine.{state-sound}
 use Rattle.border.specs.Files.{fileWrite, Stands, Brings}
 use Rattle.border.proofs.Runs.{words-two}

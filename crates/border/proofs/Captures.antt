@@ -34,7 +34,8 @@ use Rattle.codec.specs.Bytes.{wordsOf}
 use Rattle.codec.specs.StateBytes.{nodeIn}
 use Rattle.codec.proofs.Runs.{words-front}
 use Rattle.logodwen.specs.Number.{captureNumber}
-use Rattle.logodwen.specs.Entry.{replyWords, isSet}
+use Rattle.touch.specs.InBytes.{replyWords}
+use Rattle.logodwen.specs.Entry.{isSet}
 use Rattle.border.specs.Exactly.{entries}
 use Rattle.border.specs.Answers.{Says}
 use Rattle.border.specs.Events.{Event, callsOf, AllInC, isPending}

@@ -20,7 +20,8 @@ use Rattle.demands.specs.Requests.{Arrives, Delivered, handed as handedWords}
 use Rattle.codec.specs.Bytes.{wordsOf, bytesOf, storeWords}
 use Rattle.codec.specs.StateBytes.{nodeIn}
 use Rattle.logodwen.specs.Number.{answerNumber}
-use Rattle.logodwen.specs.Entry.{answered, memoryWords, memoriesLeft, furtherWords, furtherLeft, replyWords, inBytes, told, isSet}
+use Rattle.touch.specs.InBytes.{memoryWords, memoriesLeft, furtherWords, furtherLeft, replyWords, inBytes}
+use Rattle.logodwen.specs.Entry.{answered, told, isSet}
 use Rattle.codec.proofs.Runs.{length-bytes, length-words-of}
 use Rattle.logodwen.proofs.Entering.{request-fine}
 use Rattle.codec.proofs.ThereAndBack.{encoded-decoded, bytes-kept}

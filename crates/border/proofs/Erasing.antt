@@ -42,7 +42,8 @@ use Rattle.demands.proofs.Lays.{flash-follows as words-laid}
 use Rattle.codec.specs.Bytes.{wordsOf, bytesOf, storeWords}
 use Rattle.codec.specs.StateBytes.{sizeIn, nodeIn, progressIn}
 use Rattle.logodwen.specs.Number.{fields, answerNumber}
-use Rattle.logodwen.specs.Entry.{memoryWords, replyWords, isSet, furtherWords}
+use Rattle.touch.specs.InBytes.{memoryWords, replyWords, furtherWords}
+use Rattle.logodwen.specs.Entry.{isSet}
 use Rattle.codec.proofs.Runs.{length-bytes, length-words-of}
 use Rattle.logodwen.proofs.Entering.{request-fine, erase-fine}
 use Rattle.codec.proofs.ThereAndBack.{bytes-kept}

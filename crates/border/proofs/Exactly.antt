@@ -36,7 +36,8 @@ use Rattle.codec.specs.Bytes.{numberAt, wordsOf}
 use Rattle.codec.specs.StateBytes.{sizeIn, portsIn, listedIn, tallyOf, waitIn, nodeIn}
 use Rattle.logodwen.specs.Number.{answerNumber}
 use Rattle.logodwen.specs.Causes.{benchCause as benchTest, memoriesCause as memoriesTest, lengthCause as lengthTest, recordsCause as recordsTest, portCause as portTest, bytesCause as bytesTest, requestCheck, replyCheck, pollCheck, eraseCheck, slowCheck, startCheck}
-use Rattle.logodwen.specs.Entry.{Answered, entered, isSet, replyWords, runWords, startEntry, requestEntry, replyEntry, pollEntry, eraseEntry, slowEntry}
+use Rattle.touch.specs.InBytes.{replyWords, runWords}
+use Rattle.logodwen.specs.Entry.{Answered, entered, isSet, startEntry, requestEntry, replyEntry, pollEntry, eraseEntry, slowEntry}
 use Rattle.codec.specs.declared.Wait.{Wait}
 use Rattle.border.specs.Exactly.{entries, Above, BenchSize, Pends, Asks, startCauses, requestCauses, replyCauses, pollCauses, eraseCauses, slowCauses, Exactly, Unchanged, RefusedExactly}
 use Rattle.border.proofs.Fine.{request-fine, reply-fine, poll-fine, erase-fine, slow-fine, start-fine}

@@ -20,7 +20,7 @@ use Rattle.demands.proofs.Taken.{verdictOn}
 use Rattle.codec.specs.Bytes.{wordsOf}
 use Rattle.codec.specs.StateBytes.{nodeIn}
 use Rattle.logodwen.specs.Causes.{benchCause, memoriesCause, lengthCause, recordsCause, portCause, bytesCause, requestCheck, replyCheck, pollCheck, eraseCheck, slowCheck, startCheck}
-use Rattle.logodwen.specs.Entry.{replyWords, runWords}
+use Rattle.touch.specs.InBytes.{replyWords, runWords}
 use Rattle.codec.proofs.Runs.{length-words-of}
 use Rattle.logodwen.proofs.Fine.{none-refuses, state-no, flash-no, memory-no, records-no, link-no, slow-verdict}
 

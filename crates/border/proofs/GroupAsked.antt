@@ -15,7 +15,7 @@ use Rattle.demands.specs.Groups.{isGroup, setAsked, stripped, knowsMask}
 use Rattle.demands.proofs.Asks.{group-is-asked as node-asked}
 use Rattle.codec.specs.Bytes.{numberAt, wordsOf}
 use Rattle.codec.specs.StateBytes.{nodeIn}
-use Rattle.logodwen.specs.Entry.{memoryWords, replyWords, furtherWords}
+use Rattle.touch.specs.InBytes.{memoryWords, replyWords, furtherWords}
 use Rattle.codec.proofs.Runs.{length-words-of}
 use Rattle.border.specs.Exactly.{entries}
 use Rattle.border.specs.Host.{Entry, numberAfter, isDone}

@@ -36,7 +36,8 @@ use Rattle.codec.specs.Places.{packed}
 use Rattle.logodwen.specs.Number.{answerNumber}
 use Rattle.codec.specs.StateBytes.{encodeOf, nodeIn, alike, areState}
 use Rattle.logodwen.specs.Causes.{requestCheck}
-use Rattle.logodwen.specs.Entry.{Answered, entered, told, inBytes, memoryWords, replyWords, requestEntry, furtherWords}
+use Rattle.touch.specs.InBytes.{inBytes, memoryWords, replyWords, furtherWords}
+use Rattle.logodwen.specs.Entry.{Answered, entered, told, requestEntry}
 use Rattle.codec.proofs.Runs.{length-words-of}
 use Rattle.border.specs.Host.{U8s, InC, answerOf, numberAfter, isDone, Hosted}
 use Rattle.border.specs.Answers.{InBits}

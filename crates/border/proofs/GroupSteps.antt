@@ -36,7 +36,8 @@ use Rattle.codec.specs.Bytes.{wordsIn, wordsOf, bytesOf, storeWords}
 use Rattle.codec.specs.StateBytes.{tallyOf, waitOf, waitIn, nodeIn, areState}
 use Rattle.logodwen.specs.Number.{answerNumber}
 use Rattle.logodwen.specs.Causes.{bytesCause, replyCheck, pollCheck}
-use Rattle.logodwen.specs.Entry.{Answered, entered, memoryWords, replyWords, isSet, replyEntry, pollEntry, furtherWords}
+use Rattle.touch.specs.InBytes.{memoryWords, replyWords, furtherWords}
+use Rattle.logodwen.specs.Entry.{Answered, entered, isSet, replyEntry, pollEntry}
 use Rattle.codec.specs.declared.Wait.{Wait}
 use Rattle.codec.proofs.Runs.{length-words-of, length-bytes, length-store, store-words, words-take}
 use Rattle.codec.proofs.ThereAndBack.{words-read}

@@ -31,7 +31,8 @@ use Rattle.demands.specs.Ends.{isTaken, unfinishedIn, receivedIn, settles, take
 use Rattle.demands.proofs.Groups.{group-is-its-fragments as node-fragments, so-far as node-so-far, asked-in-order, each-asked-once}
 use Rattle.codec.specs.Bytes.{wordsOf, storeWords}
 use Rattle.codec.specs.StateBytes.{nodeIn}
-use Rattle.logodwen.specs.Entry.{memoryWords, replyWords, isSet, furtherWords}
+use Rattle.touch.specs.InBytes.{memoryWords, replyWords, furtherWords}
+use Rattle.logodwen.specs.Entry.{isSet}
 use Rattle.logodwen.proofs.Entering.{request-fine}
 use Rattle.border.specs.Exactly.{entries}
 use Rattle.border.specs.Host.{InC, isDone}

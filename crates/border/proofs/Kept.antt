@@ -20,7 +20,7 @@ use Rattle.codec.specs.Bytes.{valueOf, wordsIn, wordsOf, bytesOf}
 use Rattle.codec.specs.Places.{packed}
 use Rattle.codec.specs.StateBytes.{sizes, numbersOf, tailBytes, encodeOf, nodeIn}
 use Rattle.codec.specs.Kept.{Typed}
-use Rattle.logodwen.specs.Entry.{memoryWords, furtherWords, replyWords}
+use Rattle.touch.specs.InBytes.{memoryWords, furtherWords, replyWords}
 use Rattle.codec.proofs.Runs.{length-bytes}
 use Rattle.codec.proofs.Encoding.{length-numbers}
 use Rattle.codec.proofs.ThereAndBack.{encoded-decoded}

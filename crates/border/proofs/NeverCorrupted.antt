@@ -33,7 +33,8 @@ use Rattle.demands.proofs.NeverCorrupted.{never-corrupted as words-never}
 use Rattle.codec.specs.Bytes.{valueOf, digitsOf, numberAt, wordsIn, wordsOf, bytesOf, storeWords}
 use Rattle.codec.specs.Places.{packed}
 use Rattle.codec.specs.StateBytes.{encodeOf, nodeIn, areState}
-use Rattle.logodwen.specs.Entry.{Answered, answered, memoryWords, memoriesLeft, inBytes, told, replyWords, runWords, isSet}
+use Rattle.touch.specs.InBytes.{memoryWords, memoriesLeft, inBytes, replyWords, runWords}
+use Rattle.logodwen.specs.Entry.{Answered, answered, told, isSet}
 use Rattle.codec.proofs.Runs.{length-bytes, length-words-of}
 use Rattle.logodwen.proofs.Entering.{RequestFine, request-fine}
 use Rattle.codec.proofs.ThereAndBack.{encoded-decoded, words-read, bytes-kept}

@@ -21,7 +21,8 @@ use Rattle.demands.specs.Files.{IsFile, fileName, Unused as WordsUnused, Writte
 use Rattle.demands.proofs.ReadsBack.{reads-back as words-back}
 use Rattle.codec.specs.Bytes.{valueOf, wordsOf, bytesOf, storeWords}
 use Rattle.codec.specs.StateBytes.{nodeIn}
-use Rattle.logodwen.specs.Entry.{memoryWords, furtherWords, replyWords, isSet}
+use Rattle.touch.specs.InBytes.{memoryWords, furtherWords, replyWords}
+use Rattle.logodwen.specs.Entry.{isSet}
 use Rattle.codec.proofs.Runs.{length-words-of}
 use Rattle.logodwen.proofs.Entering.{request-fine}
 use Rattle.codec.proofs.Small.{size-most}

@@ -19,7 +19,8 @@ use Rattle.codec.specs.Bytes.{wordsOf, storeWords}
 use Rattle.codec.specs.StateBytes.{encodeOf, nodeIn}
 use Rattle.logodwen.specs.Number.{answerNumber}
 use Rattle.logodwen.specs.Causes.{requestCheck, replyCheck, pollCheck, eraseCheck, slowCheck, startCheck}
-use Rattle.logodwen.specs.Entry.{Answered, answered, inBytes, told, entered, replyWords, runWords, isSet, startEntry, requestEntry, replyEntry, pollEntry, eraseEntry, slowEntry}
+use Rattle.touch.specs.InBytes.{inBytes, replyWords, runWords}
+use Rattle.logodwen.specs.Entry.{Answered, answered, told, entered, isSet, startEntry, requestEntry, replyEntry, pollEntry, eraseEntry, slowEntry}
 use Rattle.codec.proofs.ThereAndBack.{bytes-kept}
 use Rattle.border.specs.Exactly.{entries}
 use Rattle.border.specs.Host.{Entry, answerOf, numberAfter, stateAfter, flashLeft, flashAfter, onWords, isDone}

@@ -11,7 +11,7 @@ use Rattle.demands.proofs.Writes.{writes as words-written}
 use Rattle.codec.specs.Bytes.{wordsOf}
 use Rattle.codec.specs.StateBytes.{nodeIn}
 use Rattle.logodwen.specs.Number.{answerNumber}
-use Rattle.logodwen.specs.Entry.{memoryWords, furtherWords, replyWords}
+use Rattle.touch.specs.InBytes.{memoryWords, furtherWords, replyWords}
 use Rattle.codec.proofs.Runs.{length-words-of}
 use Rattle.logodwen.proofs.Entering.{request-fine}
 use Rattle.codec.proofs.Small.{size-most}

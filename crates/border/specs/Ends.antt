@@ -14,7 +14,7 @@ use Rattle.demands.specs.Groups.{Ascending}
 use Rattle.demands.specs.Ends.{isAnswer, isTaken, settles, Steps}
 use Rattle.codec.specs.Bytes.{wordsOf}
 use Rattle.codec.specs.StateBytes.{nodeIn}
-use Rattle.logodwen.specs.Entry.{replyWords}
+use Rattle.touch.specs.InBytes.{replyWords}
 use Rattle.border.specs.Exactly.{Entries}
 use Rattle.border.specs.Host.{InC}
 use Rattle.border.specs.Answers.{Says}

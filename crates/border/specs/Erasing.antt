@@ -24,7 +24,8 @@ use Rattle.demands.specs.Files.{Names}
 use Rattle.codec.specs.Bytes.{wordsOf, bytesOf}
 use Rattle.codec.specs.StateBytes.{nodeIn}
 use Rattle.logodwen.specs.Number.{fields}
-use Rattle.logodwen.specs.Entry.{Answered, furtherWords}
+use Rattle.touch.specs.InBytes.{furtherWords}
+use Rattle.logodwen.specs.Entry.{Answered}
 use Rattle.border.specs.Exactly.{Entries}
 use Rattle.border.specs.Host.{Entry, InC, answerOf, numberAfter, stateAfter, isDone, Step, Hosted}
 use Rattle.border.specs.Kept.{erasingIn}

@@ -10,7 +10,8 @@ use Rattle.memory.specs.Segment.{Memories}
 use Rattle.node.specs.Effect.{Further}
 use Rattle.demands.specs.Events.{Event as Call}
 use Rattle.codec.specs.Bytes.{numberAt, wordsOf}
-use Rattle.logodwen.specs.Entry.{Answered, memoryWords, furtherWords, isSet}
+use Rattle.touch.specs.InBytes.{memoryWords, furtherWords}
+use Rattle.logodwen.specs.Entry.{Answered, isSet}
 use Rattle.border.specs.Exactly.{Entries}
 use Rattle.border.specs.Host.{Entry, InC, answerOf, flashLeft, isDone}
 

@@ -18,7 +18,7 @@ use Rattle.demands.specs.Events.{Undropped, asked, heards}
 use Rattle.demands.specs.Groups.{isGroup, setAsked, stripped, knowsMask, packetsStored, EndsBy, ExactlyThose}
 use Rattle.codec.specs.Bytes.{numberAt, wordsOf, storeWords}
 use Rattle.codec.specs.StateBytes.{nodeIn}
-use Rattle.logodwen.specs.Entry.{replyWords}
+use Rattle.touch.specs.InBytes.{replyWords}
 use Rattle.border.specs.Exactly.{Entries}
 use Rattle.border.specs.Host.{Entry, InC, numberAfter, isDone, Hosted}
 use Rattle.border.specs.Answers.{InBits, Says}

@@ -12,7 +12,8 @@ use Rattle.memory.specs.Segment.{Memories}
 use Rattle.node.specs.Effect.{Further, lent}
 use Rattle.demands.specs.Machine.{Call}
 use Rattle.codec.specs.Bytes.{wordsOf}
-use Rattle.logodwen.specs.Entry.{Answered, memoryWords, furtherWords, replyWords, isSet}
+use Rattle.touch.specs.InBytes.{memoryWords, furtherWords, replyWords}
+use Rattle.logodwen.specs.Entry.{Answered, isSet}
 use Rattle.border.specs.Exactly.{Entries}
 
 -- An entry, with all that it is given and lent but the state bytes and the flash bytes. Packets, memories, areas,

@@ -19,7 +19,8 @@ use Rattle.node.specs.Effect.{Further, Lent, lent}
 use Rattle.demands.specs.Requests.{isCommand}
 use Rattle.demands.specs.Files.{IsFile}
 use Rattle.codec.specs.Bytes.{digitsOf, numberAt, wordsIn, wordsOf, bytesOf}
-use Rattle.logodwen.specs.Entry.{Answered, answered, memoryWords, memoriesLeft}
+use Rattle.touch.specs.InBytes.{memoryWords, memoriesLeft}
+use Rattle.logodwen.specs.Entry.{Answered, answered}
 use Rattle.border.specs.Exactly.{Entries}
 use Rattle.border.specs.Host.{Entry, InC, U8s, answerOf, numberAfter, isDone}
 use Rattle.border.specs.Kept.{erasingIn}

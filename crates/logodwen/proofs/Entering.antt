@@ -23,7 +23,8 @@ use Rattle.codec.specs.StateBytes.{encodeOf, nodeIn, alike, areState}
 use Rattle.logodwen.specs.Number.{answerNumber}
 use Rattle.logodwen.specs.Causes.{keptOk, recordsOk, linkOk, requestCheck, replyCheck, pollCheck, eraseCheck, slowCheck}
 use Rattle.codec.proofs.Small.{one-of}
-use Rattle.logodwen.specs.Entry.{answered, inBytes, told, entered}
+use Rattle.touch.specs.InBytes.{inBytes}
+use Rattle.logodwen.specs.Entry.{answered, told, entered}
 
 pub entered-fine : (v : Verdict) (state : List ℕ) (runs : Lent) (o : Outcome) {t : Turn} {l : Lent} {number : ℕ} {after : List ℕ} → v ≡ Verdict.Fine
     → outcome t l ≡ inBytes o runs → number ≡ answerNumber (t .answer) → after ≡ encodeOf (t .node) → answered number after l ≡ entered v state runs o

@@ -1,10 +1,9 @@
-// What a call answers, and what the reader of captured replies says, as one number; and how many words of the reply buffer a call has laid.
+// What a call answers, and what the reader of captured replies says, as one number.
 ghost use mathlib.Core.Path.{_≡_};
 ghost use Rattle.node.specs.declared.Answer.{Answer};
 ghost use Rattle.capture.specs.declared.Capture.{Capture};
 ghost use Rattle.qlist.specs.declared.Slow.{Slow};
 ghost use Rattle.logodwen.specs.Number.{fields, slowNumber, answerNumber, captureNumber};
-ghost use Rattle.logodwen.specs.Touch.{repliedWords};
 use capture::Capture;
 use node::Answer;
 use node::refusals::refusal_number;
@@ -49,21 +48,5 @@ pub fn capture_number(capture: Capture) -> u64
     match capture {
         Capture::Accepted => done(4, 0, 0, 0),
         Capture::Broken(place) => done(5, 0, 0, place as u64),
-    }
-}
-
-// How many words an answer has laid at the front of the reply buffer.
-pub fn answer_words(answer: Answer) -> usize
-    ensures { λ r. ⌜ r ≡ repliedWords answer ⌝ }
-{
-    match answer {
-        Answer::Refused(_) => 0,
-        Answer::Started => 0,
-        Answer::Reply(reply) => reply.words,
-        Answer::Ask(_) => 0,
-        Answer::Next(_) => 0,
-        Answer::Waiting => 0,
-        Answer::Erased(_) => 0,
-        Answer::Slow(_) => 0,
     }
 }

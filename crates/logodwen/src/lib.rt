@@ -13,35 +13,21 @@ use crate::checks::poll_check;
 use crate::checks::reply_check;
 use crate::checks::request_check;
 use crate::checks::slow_check;
-use crate::erasing::on_erase;
-use crate::lists::on_slow;
-use crate::requests::on_request;
-use crate::slaves::on_poll;
-use crate::slaves::on_reply;
-use crate::starting::on_start;
 use codec::state::encode;
 use codec::state::node_in;
 use node::Verdict;
 use node::refusals::refusal_number;
+use touch::erasing::on_erase;
+use touch::lists::on_slow;
+use touch::requests::on_request;
+use touch::slaves::on_poll;
+use touch::slaves::on_reply;
+use touch::starting::on_start;
 
 mod answers;
 pub mod captured;
 mod checks;
-mod erasing;
-mod files;
-mod filing;
-mod lists;
-mod load;
-mod memories;
-mod packets;
-mod requests;
-mod rooms;
-mod sectors;
 pub mod sequence;
-mod settings;
-mod slaves;
-mod starting;
-mod stretches;
 
 // Start on a flash: the refusal's number, 0 for done.
 #[no_mangle]

@@ -7,7 +7,8 @@ use Rattle.codec.specs.StateBytes.{nodeIn}
 use Rattle.logodwen.proofs.Entering.{entered-fine, entered-refused, state-long, erase-fine}
 use Rattle.logodwen.proofs.Fine.{erase-verdict}
 use Rattle.logodwen.specs.Causes.{eraseCheck}
-use Rattle.logodwen.specs.Entry.{inBytes, eraseEntry}
+use Rattle.touch.specs.InBytes.{inBytes}
+use Rattle.logodwen.specs.Entry.{eraseEntry}
 use Rattle.node.specs.Refusals.{eraseVerdict}
 use Rattle.node.specs.Calls.{eraseOf, lentFlash}
 use Rattle.node.specs.declared.Node.{Node}

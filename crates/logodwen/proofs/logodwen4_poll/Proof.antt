@@ -6,7 +6,8 @@ use Rattle.codec.specs.StateBytes.{nodeIn}
 use Rattle.logodwen.proofs.Entering.{entered-fine, entered-refused, state-long, poll-fine}
 use Rattle.logodwen.proofs.Fine.{poll-verdict}
 use Rattle.logodwen.specs.Causes.{pollCheck}
-use Rattle.logodwen.specs.Entry.{replyWords, inBytes, pollEntry}
+use Rattle.touch.specs.InBytes.{replyWords, inBytes}
+use Rattle.logodwen.specs.Entry.{pollEntry}
 use Rattle.node.specs.Refusals.{pollVerdict}
 use Rattle.node.specs.Calls.{pollOf, lentReply}
 use Rattle.node.specs.declared.Node.{Node}

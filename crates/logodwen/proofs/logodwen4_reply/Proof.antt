@@ -7,7 +7,8 @@ use Rattle.codec.specs.StateBytes.{nodeIn}
 use Rattle.logodwen.proofs.Entering.{entered-fine, entered-refused, state-long, reply-fine}
 use Rattle.logodwen.proofs.Fine.{reply-verdict}
 use Rattle.logodwen.specs.Causes.{replyCheck}
-use Rattle.logodwen.specs.Entry.{replyWords, inBytes, isSet, replyEntry}
+use Rattle.touch.specs.InBytes.{replyWords, inBytes}
+use Rattle.logodwen.specs.Entry.{isSet, replyEntry}
 use Rattle.node.specs.Refusals.{replyVerdict}
 use Rattle.node.specs.Calls.{replyOf, lentReply}
 use Rattle.node.specs.declared.Node.{Node}

@@ -11,7 +11,8 @@ use Rattle.node.specs.declared.Verdict.{Verdict}
 use Rattle.codec.specs.Bytes.{wordsOf}
 use Rattle.codec.specs.StateBytes.{nodeIn}
 use Rattle.logodwen.specs.Causes.{requestCheck}
-use Rattle.logodwen.specs.Entry.{runWords, inBytes, isSet, requestEntry}
+use Rattle.touch.specs.InBytes.{runWords, inBytes}
+use Rattle.logodwen.specs.Entry.{isSet, requestEntry}
 use Rattle.logodwen.proofs.Entering.{RequestFine, entered-fine, entered-refused, state-long, request-fine}
 use Rattle.logodwen.proofs.Fine.{records-listed, request-verdict}
 use borrow.Author.Needs.{needs}

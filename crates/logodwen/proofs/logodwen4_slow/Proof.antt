@@ -10,7 +10,8 @@ use Rattle.node.specs.declared.Verdict.{Verdict}
 use Rattle.codec.specs.Bytes.{wordsOf}
 use Rattle.codec.specs.StateBytes.{nodeIn}
 use Rattle.logodwen.specs.Causes.{slowCheck}
-use Rattle.logodwen.specs.Entry.{inBytes, slowEntry}
+use Rattle.touch.specs.InBytes.{inBytes}
+use Rattle.logodwen.specs.Entry.{slowEntry}
 use Rattle.logodwen.proofs.Entering.{entered-fine, entered-refused, state-long, slow-fine}
 use Rattle.logodwen.proofs.Fine.{slow-verdict}
 use borrow.Author.Needs.{needs}

@@ -17,7 +17,7 @@ use Rattle.node.specs.declared.Refusal.{Refusal}
 use Rattle.node.specs.declared.Turn.{Turn}
 use Rattle.logodwen.specs.Number.{answerNumber}
 use Rattle.codec.proofs.Runs.{length-words-of}
-use Rattle.logodwen.proofs.Exchange.{left-nothing}
+use Rattle.touch.proofs.Exchange.{left-nothing}
 use borrow.Author.Needs.{needs}
 use Rattle.logodwen.proofs.logodwen4_start.Statement.{statement}
 use Rattle.logodwen.proofs.logodwen4_start.Tie as tie

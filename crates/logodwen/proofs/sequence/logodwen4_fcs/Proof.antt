@@ -2,7 +2,7 @@
 use mathlib.Core.Path.{_≡_, ap, _∙_}
 use borrow.Author.Needs.{needs}
 use Rattle.fcs.specs.Fcs.{fcsOf}
-use Rattle.logodwen.proofs.ByteWords.{byte-words}
+use Rattle.touch.proofs.ByteWords.{byte-words}
 use Rattle.logodwen.proofs.sequence.logodwen4_fcs.Statement.{statement}
 use Rattle.logodwen.proofs.sequence.logodwen4_fcs.Tie as tie
 

@@ -1,0 +1,16 @@
+pub mod ByteWords
+pub mod Exchange
+pub mod InSector
+pub mod Touch
+pub mod Taken
+pub mod Settles
+pub mod Waits
+pub mod Blanked
+pub mod OneFile
+pub mod Alters
+pub mod Held
+pub mod Hears
+pub mod InPackets
+pub mod Moves
+pub mod Joins
+pub mod QList

@@ -1,0 +1,29 @@
+-- A poll before the timeout touches nothing that is lent. Assumes nothing.
+use Prim.Native.Nat.{ℕ, _-_, _/_, _≤_}
+use mathlib.Core.Path.{_≡_, sym, ap, _∙_}
+use mathlib.Core.Bool.{false}
+use mathlib.Core.List.{List, []}
+use lib.ListN.{length}
+use Rattle.base.specs.Pick.{pick}
+use Rattle.base.specs.Words.{laid, Below}
+use Rattle.group.specs.Time.{isLate}
+use Rattle.node.specs.State.{turn}
+use Rattle.node.specs.Effect.{outcome, only}
+use Rattle.node.specs.Slaves.{askedAt, pollEffect, hears, silent}
+use Rattle.node.specs.Refusals.{pollVerdict}
+use Rattle.node.specs.Calls.{judged, pollOf, lentReply}
+use Rattle.node.specs.declared.Answer.{Answer}
+use Rattle.node.specs.declared.Node.{Node}
+use Rattle.node.specs.declared.Verdict.{Verdict}
+use Rattle.codec.specs.Bytes.{bytesOf}
+use Rattle.touch.specs.InBytes.{replyWords, inBytes}
+use Rattle.touch.proofs.Touch.{length-reply, reply-kept}
+
+pub poll-waits : (n : Node) (clock : ℕ) (reply : List ℕ) → isLate clock (askedAt (n .pending)) ≡ false → 12288 ≤ length reply / 2 → Below 256 reply → pollVerdict n 12288 ≡ Verdict.Fine
+    → outcome (turn n Answer.Waiting) (lentReply reply) ≡ inBytes (pollOf n clock (replyWords reply)) (lentReply reply)
+unfolding pollOf pollEffect laid bytesOf
+poll-waits n clock reply early h b fine =
+    let words = replyWords reply in
+    let verdict = sym (ap (pollVerdict n) (length-reply reply h) ∙ fine) in
+    ap (λ (x : List ℕ). outcome (turn n Answer.Waiting) (lentReply x)) (sym (reply-kept reply h b))
+    ∙ (λ i. inBytes (judged (verdict i) n (lentReply words) (pick (sym early i) (hears (n .pending) n clock silent [] words) (only Answer.Waiting (n .pending) words))) (lentReply reply))

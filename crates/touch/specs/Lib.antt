@@ -1,0 +1,6 @@
+pub mod InBytes
+pub mod Apart
+pub mod Touch
+pub mod Held
+pub mod Moves
+pub mod Joins
