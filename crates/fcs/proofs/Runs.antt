@@ -2,12 +2,12 @@
 -- bytes are. Assumes nothing.
 use mathlib.Core.Path.{_≡_, refl, ap, _∙_}
 use mathlib.Core.List.{List, [], _∷_, _++_}
-use Prim.Native.Nat.{ℕ, suc, _+_, _*_, _/_, _≤_, _<_}
+use Prim.Native.Nat.{ℕ, zero, suc, _+_, _*_, _/_, _≤_, _<_}
 use native.Mathlib.Numerals.{add-one}
 use native.Mathlib.Omega.{arith}
-use lib.ListN.{length, getD, drop, drop-of-length-le, length-drop}
+use lib.ListN.{length, getD, drop, drop-of-length-le}
 use lib.Seq.{drop-cons}
-use Rattle.fcs.specs.Fcs.{fcsWord, fcsFrom, fcsOf, byteWords}
+use Rattle.fcs.specs.Fcs.{fcsWord, fcsFrom, fcsOf, byteWords, given}
 
 pub from-turn : (c i : ℕ) (ws : List ℕ) → i < length ws → fcsFrom (fcsWord c (getD ws i 0)) (drop (i + 1) ws) ≡ fcsFrom c (drop i ws)
 unfolding fcsFrom
@@ -26,27 +26,43 @@ from-append c (w ∷ ws) b = from-append (fcsWord c w) ws b
 pub fcs-append : (a b : List ℕ) → fcsOf (a ++ b) ≡ fcsFrom (fcsOf a) b
 fcs-append a b = from-append 0xFFFF a b
 
--- over bytes, two a turn
+-- the words that bytes are
 
-words-turn : (i : ℕ) (bs : List ℕ) → i * 2 + 1 < length bs
-    → byteWords (drop (i * 2) bs) ≡ (getD bs (i * 2) 0 + 256 * getD bs (i * 2 + 1) 0) ∷ byteWords (drop ((i + 1) * 2) bs)
+pub bytes-length : (bs : List ℕ) → length (byteWords bs) ≡ length bs / 2
 unfolding byteWords
-words-turn i bs h =
-    let two : (i + 1) * 2 ≡ suc (suc (i * 2)) = omega arith in
-    let one : i * 2 + 1 ≡ suc (i * 2) = omega arith in
-    rw (two, one, drop-cons bs (i * 2) 0 (omega arith), drop-cons bs (suc (i * 2)) 0 (omega arith))
+bytes-length [] = refl
+bytes-length (b ∷ []) = refl
+bytes-length (low ∷ high ∷ bs) =
+    let rest = bytes-length bs in
+    omega (arith, rest)
 
-words-none : (bs : List ℕ) → length bs ≤ 1 → byteWords bs ≡ []
+pub bytes-at : (bs : List ℕ) (i : ℕ) → i < length bs / 2 → getD (byteWords bs) i 0 ≡ getD bs (i * 2) 0 + 256 * getD bs (i * 2 + 1) 0
 unfolding byteWords
-words-none [] h = refl
-words-none (b ∷ []) h = refl
-words-none (b ∷ c ∷ bs) h = absurd (omega arith)
+bytes-at [] i h = absurd (omega arith)
+bytes-at (b ∷ []) i h = absurd (omega arith)
+bytes-at (low ∷ high ∷ bs) zero h = refl
+bytes-at (low ∷ high ∷ bs) (suc i) h =
+    let two : suc i * 2 ≡ suc (suc (i * 2)) = omega arith in
+    let three : suc i * 2 + 1 ≡ suc (suc (i * 2 + 1)) = omega arith in
+    rw (three, two) (bytes-at bs i (omega arith))
 
-pub bytes-turn : (c i : ℕ) (bs : List ℕ) → i < length bs / 2
-    → fcsFrom (fcsWord c (getD bs (i * 2) 0 + 256 * getD bs (i * 2 + 1) 0)) (byteWords (drop ((i + 1) * 2) bs)) ≡ fcsFrom c (byteWords (drop (i * 2) bs))
-unfolding fcsFrom
-bytes-turn c i bs h = rw (words-turn i bs (omega arith))
+-- a run that is given as words or as bytes
 
-pub bytes-end : (c i : ℕ) (bs : List ℕ) → length bs / 2 ≤ i → fcsFrom c (byteWords (drop (i * 2) bs)) ≡ c
-unfolding fcsFrom
-bytes-end c i bs h = rw (words-none (drop (i * 2) bs) (simp length-drop (omega arith)))
+pub given-bytes : (ws bs : List ℕ) → length ws ≡ 0 → given ws bs ≡ byteWords bs
+unfolding given
+given-bytes [] bs h = refl
+given-bytes (w ∷ ws) bs h = absurd (omega arith)
+
+pub given-bytes-length : (ws bs : List ℕ) → length ws ≡ 0 → length (given ws bs) ≡ length bs / 2
+given-bytes-length ws bs h = ap length (given-bytes ws bs h) ∙ bytes-length bs
+
+pub given-words : (ws bs : List ℕ) → (length ws ≡ 0 → ⊥) → given ws bs ≡ ws
+unfolding given
+given-words [] bs h = absurd (h refl)
+given-words (w ∷ ws) bs h = refl
+
+-- with no bytes
+pub given-alone : (ws : List ℕ) → given ws [] ≡ ws
+unfolding given byteWords
+given-alone [] = refl
+given-alone (w ∷ ws) = refl

@@ -44,6 +44,11 @@ byteWords [] = []
 byteWords (low ∷ []) = []
 byteWords (low ∷ high ∷ bytes) = (low + 256 * high) ∷ byteWords bytes
 
+-- The words of a run that is given as words or, where there are none, as bytes.
+unfoldable pub given : List ℕ → List ℕ → List ℕ
+given [] bytes = byteWords bytes
+given (word ∷ words) bytes = word ∷ words
+
 -- The rule of the table (section 16.2): entry k is what the eight bits of byte k make of an empty register.
 pub record Divides (table : List ℕ) : Type 0 where
   pub entry : (k : ℕ) → k < 256 → getD table k 0 ≡ fcsByte 0 k

@@ -1,7 +1,8 @@
 // The check sequence (FCS) of a run of words: 01 'Check sequence', section 16 of the note.
 ghost use mathlib.Core.Path.{_≡_};
 ghost use Prim.Native.Nat.{_<_};
-ghost use Rattle.fcs.specs.Fcs.{fcsByte, fcsWord, fcsFrom, fcsOf, byteWords, Divides};
+ghost use lib.ListN.{length, getD};
+ghost use Rattle.fcs.specs.Fcs.{fcsByte, fcsWord, fcsFrom, fcsOf, byteWords, given, Divides};
 
 // Entry k is what the eight bits of byte k make of an empty register: the table of section 16.2.
 const TABLE: [u16; 256] = [
@@ -275,38 +276,78 @@ fn wide_word(word: u16) -> u32
     word as u32
 }
 
-// The register after one more byte. The table is lent: a function that names a constant array copies it to its own frame, so
-// only those that the world calls do, once a call. The register is held in 32 bits: a processor
-// is slower at 16.
+// The register after one more byte. The table is lent, so that one function names it. The register is held in 32 bits: a processor is slower
+// at 16.
 fn byte_step(table: &[u16; 256], c: u32, byte: u32) -> u32
     requires { ⌜ (c < 65536) × (byte < 256) ⌝ }
     requires { ⌜ Divides (now table) ⌝ }
     ensures { λ r. ⌜ (r ≡ fcsByte c byte) × (r < 65536) ⌝ }
 {
-    wide_word(table[((c >> 8) ^ byte) as usize]) ^ (c % 256 * 256)
+    let turned = ((((c >> 8) ^ byte) + 128) % 256) as u8;
+    wide_word(lookup::entry(table, turned)) ^ (c % 256 * 256)
 }
 
-// The register after one more word: its high byte, then its low byte.
-fn word_step(table: &[u16; 256], c: u32, word: u32) -> u32
-    requires { ⌜ (c < 65536) × (word < 65536) ⌝ }
+// The register after one more word: its high byte, then its low byte. They go by one call of `byte_step`, as `lookup` asks.
+fn word_step(table: &[u16; 256], start: u32, word: u32) -> u32
+    requires { ⌜ (start < 65536) × (word < 65536) ⌝ }
     requires { ⌜ Divides (now table) ⌝ }
-    ensures { λ r. ⌜ (r ≡ fcsWord c word) × (r < 65536) ⌝ }
+    ensures { λ r. ⌜ (r ≡ fcsWord start word) × (r < 65536) ⌝ }
 {
-    byte_step(table, byte_step(table, c, word >> 8), word % 256)
+    let mut c = start;
+    let mut rest = word;
+    let mut i: u32 = 0;
+    while i < 2 {
+        c = byte_step(table, c, rest >> 8);
+        rest = rest % 256 * 256;
+        i += 1;
+    }
+    c
+}
+
+// How many words are given, as words or as bytes.
+fn count(words: &[u16], bytes: &[u8]) -> usize
+    ensures { λ r. ⌜ r ≡ length (given (now (words .entry)) (now (bytes .entry))) ⌝ }
+{
+    if words.len() == 0 {
+        bytes.len() / 2
+    } else {
+        words.len()
+    }
+}
+
+// The word at a place below that number.
+fn word_at(words: &[u16], bytes: &[u8], i: usize) -> u32
+    requires { ⌜ i < length (given (now words) (now bytes)) ⌝ }
+    ensures { λ r. ⌜ (r ≡ getD (given (now (words .entry)) (now (bytes .entry))) i 0) × (r < 65536) ⌝ }
+{
+    if words.len() == 0 {
+        wide_byte(bytes[i * 2]) + 256 * wide_byte(bytes[i * 2 + 1])
+    } else {
+        wide_word(words[i])
+    }
+}
+
+// The register after a run that is given as words or as bytes: one loop for both, as `lookup` asks.
+fn run(start: u32, words: &[u16], bytes: &[u8]) -> u32
+    requires { ⌜ start < 65536 ⌝ }
+    ensures { λ r. ⌜ (r ≡ fcsFrom start (given (now (words .entry)) (now (bytes .entry)))) × (r < 65536) ⌝ }
+{
+    let table = TABLE;
+    let n = count(words, bytes);
+    let mut c = start;
+    let mut i = 0;
+    while i < n {
+        c = word_step(&table, c, word_at(words, bytes, i));
+        i += 1;
+    }
+    c
 }
 
 // The register after a run of words, from a value that was reached.
 pub fn fcs_from(start: u16, words: &[u16]) -> u16
     ensures { λ r. ⌜ r ≡ fcsFrom start (now (words .entry)) ⌝ }
 {
-    let table = TABLE;
-    let mut c = wide_word(start);
-    let mut i = 0;
-    while i < words.len() {
-        c = word_step(&table, c, wide_word(words[i]));
-        i += 1;
-    }
-    c as u16
+    run(wide_word(start), words, &[]) as u16
 }
 
 // The check sequence of a run of words.
@@ -316,22 +357,9 @@ pub fn fcs(words: &[u16]) -> u16
     fcs_from(0xFFFF, words)
 }
 
-// The check sequence of the words that bytes are, for a host that has bytes. They are looked up as they stand: nothing is copied but the
-// table.
+// The check sequence of the words that bytes are, for a host that has bytes. They are looked up as they stand: nothing is copied.
 pub fn fcs_bytes(bytes: &[u8]) -> u16
     ensures { λ r. ⌜ r ≡ fcsOf (byteWords (now (bytes .entry))) ⌝ }
 {
-    let table = TABLE;
-    let n = bytes.len() / 2;
-    let mut c = 0xFFFF;
-    let mut i = 0;
-    while i < n {
-        c = word_step(
-            &table,
-            c,
-            wide_byte(bytes[i * 2]) + 256 * wide_byte(bytes[i * 2 + 1]),
-        );
-        i += 1;
-    }
-    c as u16
+    run(0xFFFF, &[], bytes) as u16
 }
