@@ -26,6 +26,7 @@ refusalNumber Refusal.Busy = 6
 refusalNumber Refusal.Unasked = 7
 refusalNumber Refusal.AreaSize = 8
 refusalNumber Refusal.ListSize = 9
+refusalNumber Refusal.Overrun = 10
 
 abbrev pub node : List ℕ → List ℕ → Given → ℕ → Counts → Erasing → Pending → Writing → Listing → Node
 node masks directory given mode counts erasing pending writing listing =

@@ -25,6 +25,7 @@ pub fn refusal_number(refusal: Refusal) -> u32
         Refusal::Unasked => 7,
         Refusal::AreaSize => 8,
         Refusal::ListSize => 9,
+        Refusal::Overrun => 10,
     }
 }
 
