@@ -22,11 +22,14 @@ use Rattle.demands.proofs.ClosedRun.{closed-run}
 use Rattle.demands.proofs.Listing.{repetitions-conserved}
 use Rattle.demands.proofs.Turns.{writes-whole, turn-in-order, due-across-wrap}
 use Rattle.demands.proofs.Unread.{unlisted-unread}
+use Rattle.demands.proofs.Series.{list-refused, one-by-one}
+use Rattle.demands.proofs.PastStays.{past-stays}
 
 pub demands : Demands logodwen
 demands =
     record {
       refused-exactly = refused-exactly;
+      list-refused = list-refused;
       never-refused-by-5 = never-refused-by-5;
       zeros-refused = zeros-refused;
       writes = writes;
@@ -58,6 +61,8 @@ demands =
       turn-in-order = turn-in-order;
       unlisted-unread = unlisted-unread;
       due-across-wrap = due-across-wrap;
+      one-by-one = one-by-one;
+      past-stays = past-stays;
       closed-run = closed-run;
       no-stale-record = no-stale-record;
       lengths-shown = lengths-shown;

@@ -1,6 +1,7 @@
 pub mod Taken
 pub mod Tests
 pub mod Commands
+pub mod Lists
 pub mod Sound
 pub mod NoStaleRecord
 pub mod Refusals
@@ -31,6 +32,8 @@ pub mod ClosedRun
 pub mod Listing
 pub mod Turns
 pub mod Unread
+pub mod Series
+pub mod PastStays
 pub mod Demands
 pub mod Examples
 pub mod Settled

@@ -8,7 +8,8 @@ use Rattle.group.specs.Ending.{Sent}
 use Rattle.qlist.specs.Words.{Stepped, Closed, Cleared}
 use Rattle.qlist.specs.Commands.{Changed, Read as ToldRead}
 use Rattle.node.specs.Effect.{Outcome}
-use Rattle.demands.specs.Settled.{BaseSettled, FcsSettled, ImageSettled, FlashSettled, MemorySettled, GroupSettled, ReportSettled, QlistSettled, CaptureSettled, NodeSettled, Settled}
+use Rattle.series.specs.Requests.{Came}
+use Rattle.demands.specs.Settled.{BaseSettled, FcsSettled, ImageSettled, FlashSettled, MemorySettled, GroupSettled, ReportSettled, QlistSettled, CaptureSettled, NodeSettled, SeriesSettled, Settled}
 
 pub base-settled : BaseSettled
 base-settled =
@@ -21,6 +22,7 @@ base-settled =
 pub fcs-settled : FcsSettled
 fcs-settled =
     record {
+      entry = λ κs given x y v w p q. (p ∙ sym q, refl);
       fcs-from = λ κs given x y v w p q. (p ∙ sym q, refl);
       fcs = λ κs given x y v w p q. (p ∙ sym q, refl);
       fcs-bytes = λ κs given x y v w p q. (p ∙ sym q, refl);
@@ -201,6 +203,14 @@ node-settled =
       valid-state-ok = λ κs given x y v w p q. (p ∙ sym q, refl);
     }
 
+pub series-settled : SeriesSettled
+series-settled =
+    record {
+      fits = λ κs given x y v w p q. (p ∙ sym q, refl);
+      is-left = λ κs given x y v w p q. (p ∙ sym q, refl);
+      requests = λ κs given x y v w p q. (ap (λ (c : Came). c .series) (p ∙ sym q), λ i. (v .0, (v .1 .0, (v .1 .1 .0, ((p ∙ sym q) i .after .flash, ((p ∙ sym q) i .after .memories .pm, ((p ∙ sym q) i .after .memories .dm, ((p ∙ sym q) i .after .memories .io, ((p ∙ sym q) i .after .further .area, ((p ∙ sym q) i .after .further .list, ((p ∙ sym q) i .after .reply, v .1 .1 .1 .1 .1 .1 .1 .1 .1 .1)))))))))));
+    }
+
 pub settled : Settled
 settled =
     record {
@@ -214,4 +224,5 @@ settled =
       qlist = qlist-settled;
       capture = capture-settled;
       node = node-settled;
+      series = series-settled;
     }

@@ -2,7 +2,7 @@
 -- of zeros of which a sector is erased, or with a group of one slave that answers in packets. Assumes nothing.
 use Prim.Native.Nat.{ℕ, zero, suc, _+_, _*_, _≤_, _<_}
 use mathlib.Core.Path.{_≡_, refl, sym, ap, _∙_, subst}
-use mathlib.Core.Logic.{inl, inr, ⊎-elim}
+use mathlib.Core.Logic.{_⊎_, inl, inr, ⊎-elim}
 use mathlib.Core.Bool.{Bool, true, false, false≢true}
 use mathlib.Core.List.{List, [], _∷_}
 use native.Mathlib.Nat.{add-zero}
@@ -56,7 +56,7 @@ use Rattle.node.specs.Settings.{statusIn as ownStatusIn, modeReadOf}
 use Rattle.node.specs.Lists.{listWriteOf, listDeleteOf}
 use Rattle.node.specs.Own.{settingsOf, filesOf, listsOf, ownOf}
 use Rattle.node.specs.Calls.{routed, startOf, requestOf, eraseOf, replyOf, pollOf, slowOf}
-use Rattle.node.specs.Effect.{Outcome, outcome, applied, lent, further}
+use Rattle.node.specs.Effect.{Lent, Outcome, outcome, applied, lent, further}
 use Rattle.node.specs.Slaves.{ask, received, nothingReceived, gathering, askedAt, replyEffect}
 use Rattle.node.specs.declared.Answer.{Answer}
 use Rattle.node.specs.declared.Node.{Node}
@@ -65,6 +65,8 @@ use Rattle.node.specs.declared.Refusal.{Refusal}
 use Rattle.node.specs.declared.Turn.{Turn}
 use Rattle.node.specs.declared.Writing.{Writing}
 use Rattle.node.proofs.Directories.{some-words}
+use Rattle.series.specs.Packets.{fitFrom, packetsFrom, fits, packetsIn}
+use Rattle.series.specs.Requests.{row, stepBy, Came, requestsBy}
 use Rattle.demands.specs.Machine.{Machine, logodwen, isRefused, Call, turnOf, flashOf}
 use Rattle.demands.specs.Requests.{end, abort}
 use Rattle.demands.specs.Reached.{stateAfter, Step, Reached, NoStaleRecord}
@@ -77,7 +79,8 @@ use Rattle.demands.specs.Groups.{isGroup, StartsFull, GroupRun, packetsS
 use Rattle.demands.specs.Ends.{pendingIn, unfinishedIn, isTaken, takenIn, Ticking, Timed, askedTick, EachLowersOrStores, AlwaysEnds, NeverAskedTwice, SettledInTime}
 use Rattle.demands.specs.ClosedRun.{with, started, written, ClosedRun}
 use Rattle.demands.specs.Listing.{handsOut, ListStep, Listed, RepetitionsConserved, TurnInOrder, writesOne, DueAcrossWrap}
-use Rattle.demands.specs.ShutOut.{refusing, unstarted, disorderly, aborting, constant, idle, lying, denying, judging, hoarding, mixing, empty, sealing, hurrying, counting, insisting, waitsOn, patient, losing, skipping, greater, loader, hasty, boasting, dropping, rogue, scanning, remembering, measuring, overlooking, choosing, doubling, ShutOut}
+use Rattle.demands.specs.ShutOut.{refusing, unstarted, disorderly, aborting, constant, idle, lying, denying, judging, hoarding, mixing, empty, sealing, hurrying, counting, insisting, waitsOn, patient, losing, skipping, greater, quitting, eager, loader, hasty, boasting, dropping, rogue, scanning, remembering, measuring, overlooking, choosing, doubling, ShutOut}
+use Rattle.demands.specs.Series.{OneByOne, Whole, countIn, ListRefused}
 use Rattle.demands.specs.Flash.{countOf, Course, HasSet, ErasureFollows, Erases}
 use Rattle.demands.proofs.Refusals.{refused-exactly}
 use Rattle.demands.proofs.Held.{named-blank}
@@ -97,6 +100,7 @@ not-done Refusal.Busy e = omega arith
 not-done Refusal.Unasked e = omega arith
 not-done Refusal.AreaSize e = omega arith
 not-done Refusal.ListSize e = omega arith
+not-done Refusal.Overrun e = omega arith
 
 -- an erase-progress call that ours takes
 taken : eraseOf (started logodwen .node) 0 blank .turn .answer ≡ Answer.Erased 0
@@ -234,6 +238,7 @@ true-directory n flash r = by r
     by (Reached.Then {n = m} {flash = f} q (Step.Made c b)) = made c m f (by q)
     by (Reached.Then {n = m} {flash = f} q (Step.OtherFlash c other h)) = stray c m f other h (by q)
     by (Reached.Then {n = m} {flash = f} q (Step.OtherState c other h)) = kept c m f other (by q)
+    by (Reached.Listed q clock list m x replies small) = by q
 
 -- a node started on a flash of zeros, and the erasure of sector 3 begun by its address
 zeros : List ℕ
@@ -836,6 +841,28 @@ compares : DueAcrossWrap greater → ⊥
 unfolding laid fcsBit fcsBits fcsWord fcsFrom memoryOf pageOf lengthOk pageOk spanOf bodyOk segmentOk segmentEnd isSegment isOwn entryIn putIn stepIn advancedOf toldOf isWrite allOwn broughtBy addFrom canWrite writeIn masksOk stateOk startVerdict requestVerdict slowVerdict addressed routeOf listWriteOf listsOf ownOf startOf requestOf slowOf
 compares w = eqb-false 1 0 refl (ap handsOut (w .early))
 
+-- two packets of no words, each ABORT: ours does both
+twice : List ℕ
+twice = 0 ∷ 3 ∷ 0 ∷ 0 ∷ 3 ∷ 0 ∷ []
+
+forTwo : Lent
+forTwo = lent blank (memories [] [] []) (further (replicate 32768 0) []) (replicate 12292 0)
+
+stops-early : OneByOne quitting → ⊥
+unfolding twice forTwo fitFrom packetsFrom fits packetsIn row stepBy requestsBy laid masksOk stateOk startVerdict requestVerdict routeOf startOf requestOf
+stops-early w = eqb-false 1 2 refl (ap (λ (c : Came). countIn (c .series .done)) (w (started logodwen .node) 0 twice forTwo))
+
+-- a list of one word is not whole
+whole-size : {list : List ℕ} → Whole list → (length list ≡ 0) ⊎ (3 ≤ length list)
+whole-size Whole.Empty = inl refl
+whole-size (Whole.Packet link bc words rest w) = inr (omega arith)
+
+runs-past : ListRefused eager → ⊥
+runs-past w =
+    let short : Whole (0 ∷ []) → ⊥ = λ h. ⊎-elim (λ e. omega (arith, e)) (λ e. omega (arith, e)) (whole-size h) in
+    let e : _≡_ {A = ℕ} 0 10 = w (started logodwen .node) 0 (0 ∷ []) forTwo .0 10 .1 (inl (refl, short)) in
+    omega (arith, e)
+
 pub shut-out : ShutOut
 shut-out =
     record {
@@ -863,6 +890,8 @@ shut-out =
       loses = loses;
       skips = skips;
       compares = compares;
+      stops-early = stops-early;
+      runs-past = runs-past;
       loads-half = loads-half;
       overlooks-remains = overlooks-remains;
       chooses = chooses;

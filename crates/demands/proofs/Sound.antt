@@ -32,6 +32,7 @@ use Rattle.node.proofs.Ranges.{and-both, Ranges, size-some, why-erasing, step-e
 use Rattle.node.proofs.Verdicts.{request-fine, reply-fine, poll-fine, start-fine}
 use Rattle.demands.specs.Machine.{Call, logodwen, turnOf, flashOf, isRefused}
 use Rattle.demands.specs.Reached.{Lends16, stateAfter, Step, Reached}
+use Rattle.demands.proofs.Lists.{list-keeps}
 use Rattle.demands.proofs.Taken.{verdictOn, requestEffect, request-taken, reply-taken, poll-taken, judged-unchanged}
 
 -- no change changes the size of the flash
@@ -326,3 +327,6 @@ step-case P {n} {flash} (Step.OtherState c other h) p made = subst (λ (f : List
 pub reached-sound : {n : Node} {flash : List ℕ} → Reached logodwen n flash → Sound n flash
 reached-sound (Reached.First kind ports subdetector program version tests clock flash h) = first-sound kind ports subdetector program version tests clock flash h
 reached-sound (Reached.Then {n = n} {flash = flash} r s) = step-case Sound s (reached-sound r) (λ c b. call-keeps c n flash b (reached-sound r))
+reached-sound (Reached.Listed {n = n} {flash = flash} r clock list m x replies small) =
+    list-keeps Sound (λ at link bc words m′ x′ reply n′ flash′ b. call-keeps (Call.Request at link bc false words m′ x′ reply) n′ flash′ b)
+    clock list m x replies n flash small (reached-sound r)

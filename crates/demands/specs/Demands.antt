@@ -1,7 +1,7 @@
 -- What the house was promised of a node, on one page: the sentences of the three demands in their order, and beneath each the statements
 -- that stand for it. That any packet, slave reply, clock reading, node state and lent memory gets an answer is the contract of the six
--- calls, which has no condition; and that replies, status words, check sequences, next states, flash and memories are those of 01 is that
--- the machine is `logodwen`, its six definitions. Here is what holds of them. Assumes nothing.
+-- calls and of the list of requests, which has no condition; and that replies, status words, check sequences, next states, flash and memories
+-- are those of 01 is that the machine is `logodwen`, its seven definitions. Here is what holds of them. Assumes nothing.
 use Rattle.demands.specs.Machine.{Machine}
 use Rattle.demands.specs.Refusals.{RefusedExactly, NeverRefusedBy5, ZerosRefused}
 use Rattle.demands.specs.Reached.{NoStaleRecord, LengthsShown, SummaryIsTrue}
@@ -11,11 +11,14 @@ use Rattle.demands.specs.Packets.{AnyDivision, LeftAlone}
 use Rattle.demands.specs.Groups.{StartsFull, GroupIsAsked, GroupIsItsFragments, AskedInOrder, EachAskedOnce, FragmentsStand, NothingPastTheWords, PacketsStore, DataIsAcceptable}
 use Rattle.demands.specs.Ends.{EachLowersOrStores, AlwaysEnds, NeverAskedTwice, SettledInTime, DeadEndInTime, AllEndInTime}
 use Rattle.demands.specs.ClosedRun.{ClosedRun}
+use Rattle.demands.specs.Series.{OneByOne, ListRefused, PastStays}
 use Rattle.demands.specs.Listing.{RepetitionsConserved, WritesWhole, TurnInOrder, UnlistedUnread, DueAcrossWrap}
 
 pub record Demands (M : Machine) : Type 0 where
   -- 1 Conduct. Refusals come for their listed causes and no other, and change nothing.
   pub refused-exactly : RefusedExactly M
+  -- A list of requests is refused by 10 where a packet runs past its end, by nothing else, and then changes nothing.
+  pub list-refused : ListRefused M
   -- No state reached from an accepted start is refused by 5. What a refused start hands back is no state: every call refuses it.
   pub never-refused-by-5 : NeverRefusedBy5 M
   pub zeros-refused : ZerosRefused M
@@ -63,10 +66,14 @@ pub record Demands (M : Machine) : Type 0 where
   pub turn-in-order : TurnInOrder M
   pub unlisted-unread : UnlistedUnread M
   pub due-across-wrap : DueAcrossWrap M
+  -- A list of requests in one call is its packets' requests, one by one: all that is said here of calls is said of it too, each packet a call. Words of
+  -- the replies' run past the last reply stay.
+  pub one-by-one : OneByOne M
+  pub past-stays : PastStays M
   -- One run, worked out: start, File Write, File Read.
   pub closed-run : ClosedRun M
-  -- 3 No stale record. After any sequence of calls, refused ones and half-done erasures included, the directory kept is the one worked out
-  -- afresh from the flash and the erasure in progress, the lengths of the files in it; and so is what Flash Summary answers.
+  -- 3 No stale record. After any sequence of calls, refused ones, half-done erasures and lists of requests included, the directory kept is the one
+  -- worked out afresh from the flash and the erasure in progress, the lengths of the files in it; and so is what Flash Summary answers.
   pub no-stale-record : NoStaleRecord M
   pub lengths-shown : LengthsShown M
   pub summary-is-true : SummaryIsTrue M

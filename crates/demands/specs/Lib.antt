@@ -11,6 +11,7 @@ pub mod Ends
 pub mod Anchors
 pub mod ClosedRun
 pub mod Listing
+pub mod Series
 pub mod Demands
 pub mod Examples
 pub mod Settled

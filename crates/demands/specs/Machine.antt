@@ -1,5 +1,5 @@
--- Anything that answers the six calls. The demands are stated of any such machine, so that they can be seen to shut out wrong ones;
--- ours is the node's definitions. 01 'Covered' and 'What calls owe', and 02, request 7. Assumes nothing.
+-- Anything that answers the six calls, and the list of requests. The demands are stated of any such machine, so that they can be seen to shut
+-- out wrong ones; ours is the node's definitions. 01 'Covered' and 'What calls owe', and 02, requests 7 and 9. Assumes nothing.
 use Prim.Native.Nat.{ℕ}
 use mathlib.Core.Bool.{Bool, true, false}
 use mathlib.Core.List.{List}
@@ -9,8 +9,10 @@ use Rattle.node.specs.Calls.{startOf, requestOf, replyOf, pollOf, eraseOf, slow
 use Rattle.node.specs.declared.Answer.{Answer}
 use Rattle.node.specs.declared.Node.{Node}
 use Rattle.node.specs.declared.Turn.{Turn}
+use Rattle.series.specs.Requests.{Came, requestsOf}
 
--- The six calls, each a function of what it is given and lent.
+-- The six calls, each a function of what it is given and lent; and several requests in one call, which is no call of its own: each of its packets
+-- is one (Series).
 pub record Machine : Type 0 where
   pub start : ℕ → ℕ → ℕ → ℕ → ℕ → ℕ → ℕ → List ℕ → Turn
   pub request : Node → ℕ → ℕ → ℕ → Bool → List ℕ → Lent → Outcome
@@ -18,10 +20,12 @@ pub record Machine : Type 0 where
   pub poll : Node → ℕ → List ℕ → Outcome
   pub erase : Node → ℕ → List ℕ → Outcome
   pub slow : Node → ℕ → List ℕ → Outcome
+  pub requests : Node → ℕ → List ℕ → Lent → Came
 
 -- The node.
 abbrev pub logodwen : Machine
-logodwen = record { start = startOf; request = requestOf; reply = replyOf; poll = pollOf; erase = eraseOf; slow = slowOf }
+logodwen =
+    record { start = startOf; request = requestOf; reply = replyOf; poll = pollOf; erase = eraseOf; slow = slowOf; requests = requestsOf }
 
 -- A call, with all that it is given and lent but the state and the flash.
 pub data Call : Type 0 where

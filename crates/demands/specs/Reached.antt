@@ -1,5 +1,6 @@
--- Demand 3: start the node on any flash and let any calls follow, accepted and refused, further starts among them; the directory kept
--- is always the one worked out afresh from the flash. 01 'Call refusals', 'Flash' and 'What calls owe'. Assumes nothing.
+-- Demand 3: start the node on any flash and let any calls follow, accepted and refused, further starts and lists of requests among them; the
+-- directory kept is always the one worked out afresh from the flash. 01 'Call refusals', 'Flash' and 'What calls owe', and 02, request 9. Assumes
+-- nothing.
 use Prim.Native.Nat.{ℕ, _+_}
 use mathlib.Core.Path.{_≡_}
 use mathlib.Core.Bool.{Bool, true, false, _&&_}
@@ -38,12 +39,16 @@ pub data Step (M : Machine) (n : Node) (flash : List ℕ) : Node → List ℕ �
   OtherFlash : (c : Call) (other : List ℕ) → isRefused (turnOf M c n other .answer) ≡ true → Step M n flash (stateAfter M c n other) flash
   OtherState : (c : Call) (other : Node) → isRefused (turnOf M c other flash .answer) ≡ true → Step M n flash n (flashOf M c other flash)
 
--- The states reached, each with the flash that it is kept with: an accepted start on any flash, then any calls.
+-- The states reached, each with the flash that it is kept with: an accepted start on any flash, then any calls, and any lists of requests (02,
+-- request 9).
 pub data Reached (M : Machine) : Node → List ℕ → Type 0 where
   First : (kind ports subdetector program version tests clock : ℕ) (flash : List ℕ)
       → isRefused (M .start kind ports subdetector program version tests clock flash .answer) ≡ false
       → Reached M (M .start kind ports subdetector program version tests clock flash .node) flash
   Then : {n next : Node} {flash after : List ℕ} → Reached M n flash → Step M n flash next after → Reached M next after
+  Listed : {n : Node} {flash : List ℕ} → Reached M n flash
+      → (clock : ℕ) (list : List ℕ) (m : Memories) (x : Further) (replies : List ℕ) → Below 65536 list
+      → Reached M (M .requests n clock list (lent flash m x replies) .series .node) (M .requests n clock list (lent flash m x replies) .after .flash)
 
 -- No stale record: the directory kept is the one worked out afresh.
 abbrev pub NoStaleRecord : Machine → Type 0

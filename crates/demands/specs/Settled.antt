@@ -7,6 +7,7 @@ use borrow.Fn.Kinds.{PK, RK, Out, Dens, resT, endedOf}
 use contract.Lifetimes.{Lfts}
 use denote.Triple.Clauses.{Lasts, atExit}
 use Rattle.base.proofs as Base
+use Rattle.lookup.proofs as Lookup
 use Rattle.fcs.proofs as Fcs
 use Rattle.image.proofs as Image
 use Rattle.flash.proofs as Flash
@@ -16,6 +17,7 @@ use Rattle.report.proofs as Report
 use Rattle.qlist.proofs as Qlist
 use Rattle.capture.proofs as Capture
 use Rattle.node.proofs as Node
+use Rattle.series.proofs as Series
 
 -- Whatever a function is given and lent, any two results that its statement allows are the same: what it returns, in a given sense,
 -- and the last value of each thing that it is lent to change.
@@ -35,8 +37,9 @@ pub record BaseSettled : Type 0 where
   pub least : Settles Base.least.Kinds.ps Base.least.Kinds.r Base.least.Reads.Learnt
   pub copy : Settles Base.copy.Kinds.ps Base.copy.Kinds.r Base.copy.Reads.Learnt
 
--- The check sequence.
+-- The look-up of a table by cases, and the check sequence, which goes by it.
 pub record FcsSettled : Type 0 where
+  pub entry : Settles Lookup.entry.Kinds.ps Lookup.entry.Kinds.r Lookup.entry.Reads.Learnt
   pub fcs-from : Settles Fcs.fcs_from.Kinds.ps Fcs.fcs_from.Kinds.r Fcs.fcs_from.Reads.Learnt
   pub fcs : Settles Fcs.fcs.Kinds.ps Fcs.fcs.Kinds.r Fcs.fcs.Reads.Learnt
   pub fcs-bytes : Settles Fcs.fcs_bytes.Kinds.ps Fcs.fcs_bytes.Kinds.r Fcs.fcs_bytes.Reads.Learnt
@@ -201,6 +204,12 @@ pub record NodeSettled : Type 0 where
   pub valid-ports-ok : Settles Node.valid.ports_ok.Kinds.ps Node.valid.ports_ok.Kinds.r Node.valid.ports_ok.Reads.Learnt
   pub valid-state-ok : Settles Node.valid.state_ok.Kinds.ps Node.valid.state_ok.Kinds.r Node.valid.state_ok.Reads.Learnt
 
+-- A list of requests in one call.
+pub record SeriesSettled : Type 0 where
+  pub fits : Settles Series.fits.Kinds.ps Series.fits.Kinds.r Series.fits.Reads.Learnt
+  pub is-left : Settles Series.is_left.Kinds.ps Series.is_left.Kinds.r Series.is_left.Reads.Learnt
+  pub requests : Settles Series.requests.Kinds.ps Series.requests.Kinds.r Series.requests.Reads.Learnt
+
 -- All of them.
 pub record Settled : Type 0 where
   pub base : BaseSettled
@@ -213,3 +222,4 @@ pub record Settled : Type 0 where
   pub qlist : QlistSettled
   pub capture : CaptureSettled
   pub node : NodeSettled
+  pub series : SeriesSettled

@@ -32,6 +32,9 @@ use Rattle.node.specs.declared.Pending.{Pending}
 use Rattle.node.specs.declared.Refusal.{Refusal}
 use Rattle.node.specs.declared.Turn.{Turn}
 use Rattle.node.specs.declared.Writing.{Writing}
+use Rattle.series.specs.Packets.{Packet, fits, packetsIn}
+use Rattle.series.specs.Requests.{Kept, kept, stop, row, stepBy, came, series, ended, requestsOf, Step as SeriesStep}
+use Rattle.series.specs.declared.Done.{Done}
 use Rattle.demands.specs.Machine.{Machine}
 use Rattle.demands.specs.Requests.{end, abort, isCommand}
 use Rattle.demands.specs.Reached.{NoStaleRecord}
@@ -42,6 +45,7 @@ use Rattle.demands.specs.Packets.{AnyDivision, LeftAlone}
 use Rattle.demands.specs.Groups.{StartsFull, GroupIsItsFragments, PacketsStore}
 use Rattle.demands.specs.Ends.{EachLowersOrStores, AlwaysEnds, NeverAskedTwice, SettledInTime}
 use Rattle.demands.specs.ClosedRun.{ClosedRun}
+use Rattle.demands.specs.Series.{OneByOne, ListRefused}
 use Rattle.demands.specs.Listing.{RepetitionsConserved, TurnInOrder, DueAcrossWrap}
 
 -- Once started, always refuses.
@@ -57,6 +61,7 @@ refusing r =
       poll = λ n clock reply. refused r n (lentReply reply);
       erase = λ n budget flash. refused r n (lentFlash flash);
       slow = λ n clock list. refused r n (lentList list);
+      requests = requestsOf;
     }
 
 -- Says ABORT to every request.
@@ -69,6 +74,7 @@ aborting =
       poll = pollOf;
       erase = eraseOf;
       slow = slowOf;
+      requests = requestsOf;
     }
 
 -- Does what a request asks for, but answers each with the same reply.
@@ -84,6 +90,7 @@ constant r ws =
       poll = pollOf;
       erase = eraseOf;
       slow = slowOf;
+      requests = requestsOf;
     }
 
 -- Answers as it should, but changes nothing: neither state nor flash nor memories nor Q-List.
@@ -99,6 +106,7 @@ idle =
       poll = λ n clock reply. unchanging n (lentReply reply) (pollOf n clock reply);
       erase = λ n budget flash. unchanging n (lentFlash flash) (eraseOf n budget flash);
       slow = λ n clock list. unchanging n (lentList list) (slowOf n clock list);
+      requests = λ n clock list l. came (series n (Done.Packets 0)) l;
     }
 
 -- Erases all at the first progress call, whatever count it reports.
@@ -114,6 +122,7 @@ hasty says =
       poll = pollOf;
       erase = λ n budget flash. reporting (says budget) (eraseOf n (length flash) flash);
       slow = slowOf;
+      requests = requestsOf;
     }
 
 -- Reports words that it did not set: its state and its answer go on, the flash stays.
@@ -126,6 +135,7 @@ boasting =
       poll = pollOf;
       erase = λ n budget flash. outcome (eraseOf n budget flash .turn) (lentFlash flash);
       slow = slowOf;
+      requests = requestsOf;
     }
 
 -- Scans at start only: the directory stays as start worked it out.
@@ -141,6 +151,7 @@ scanning =
       poll = pollOf;
       erase = λ n budget flash. stale n (eraseOf n budget flash);
       slow = slowOf;
+      requests = requestsOf;
     }
 
 -- Looks at the slave of a reply before the reply buffer: refusal 4 comes before 2.
@@ -154,6 +165,7 @@ disorderly =
       poll = pollOf;
       erase = eraseOf;
       slow = slowOf;
+      requests = requestsOf;
     }
 
 -- Refuses start too.
@@ -166,6 +178,7 @@ unstarted r =
       poll = pollOf;
       erase = eraseOf;
       slow = slowOf;
+      requests = requestsOf;
     }
 
 -- Begins to erase sector 3 of its own accord, with every reply that has words, where nothing is being erased; its directory tells it.
@@ -195,6 +208,7 @@ rogue =
       poll = pollOf;
       erase = eraseOf;
       slow = slowOf;
+      requests = requestsOf;
     }
 
 -- Drops an erasure in progress when a request comes; its directory is worked out afresh.
@@ -212,6 +226,7 @@ dropping =
       poll = pollOf;
       erase = eraseOf;
       slow = slowOf;
+      requests = requestsOf;
     }
 
 -- Loads from a half-erased sector: during an erasure it answers Load as it should, and puts that sector's words into PM.
@@ -230,6 +245,7 @@ loader =
       poll = pollOf;
       erase = eraseOf;
       slow = slowOf;
+      requests = requestsOf;
     }
 
 -- Says END to a File Write that it answers ABORT, and stores nothing.
@@ -254,6 +270,7 @@ lying =
       poll = pollOf;
       erase = eraseOf;
       slow = slowOf;
+      requests = requestsOf;
     }
 
 -- Stores a file, but says ABORT.
@@ -268,6 +285,7 @@ denying =
       poll = pollOf;
       erase = eraseOf;
       slow = slowOf;
+      requests = requestsOf;
     }
 
 -- Judges what is in the first packet of a file: ABORT where its words begin with no header of a valid file.
@@ -281,6 +299,7 @@ judging =
       poll = pollOf;
       erase = eraseOf;
       slow = slowOf;
+      requests = requestsOf;
     }
 
 -- Forgets the header word's place: in the first packet of a file it joins with the others.
@@ -297,6 +316,7 @@ hoarding =
       poll = pollOf;
       erase = eraseOf;
       slow = slowOf;
+      requests = requestsOf;
     }
 
 -- Lets any link's packets between into the write that stands.
@@ -313,6 +333,7 @@ mixing =
       poll = pollOf;
       erase = eraseOf;
       slow = slowOf;
+      requests = requestsOf;
     }
 
 -- Starts with mask 0 empty.
@@ -328,6 +349,7 @@ empty =
       poll = pollOf;
       erase = eraseOf;
       slow = slowOf;
+      requests = requestsOf;
     }
 
 -- Keeps the old length of sector 3 when it is to be erased.
@@ -346,6 +368,7 @@ remembering =
       poll = pollOf;
       erase = eraseOf;
       slow = slowOf;
+      requests = requestsOf;
     }
 
 -- Gives sector 3 a length at start where it is bad.
@@ -363,6 +386,7 @@ measuring =
       poll = pollOf;
       erase = eraseOf;
       slow = slowOf;
+      requests = requestsOf;
     }
 
 -- Overlooks what is behind a file: at start, and when it is asked for one, sees sector 3 as if all words after its file were FFFF.
@@ -385,6 +409,7 @@ overlooking =
       poll = pollOf;
       erase = eraseOf;
       slow = slowOf;
+      requests = requestsOf;
     }
 
 -- Takes the lower of two files of one name: when it is asked for one, it sees no file in sector 4.
@@ -403,6 +428,7 @@ choosing =
       poll = pollOf;
       erase = eraseOf;
       slow = slowOf;
+      requests = requestsOf;
     }
 
 -- Doesn't see which name sector 3 has when it writes a file.
@@ -418,6 +444,7 @@ doubling =
       poll = pollOf;
       erase = eraseOf;
       slow = slowOf;
+      requests = requestsOf;
     }
 
 -- Leaves the slave's FCS in the fragment of a reply that came in packets: its last word stands where the fragment has its status word. 02, request
@@ -441,6 +468,7 @@ sealing =
       poll = pollOf;
       erase = eraseOf;
       slow = slowOf;
+      requests = requestsOf;
     }
 
 -- Sends NEXT, and leaves the slave what is left of its 60 ticks.
@@ -462,6 +490,7 @@ hurrying =
       poll = pollOf;
       erase = eraseOf;
       slow = slowOf;
+      requests = requestsOf;
     }
 
 -- Counts the words of a late packet: the count of a five-word fragment has them too.
@@ -482,6 +511,7 @@ counting =
       poll = pollOf;
       erase = eraseOf;
       slow = slowOf;
+      requests = requestsOf;
     }
 
 -- After an answer with receive errors asks the slave of a group once more, and nothing else comes of it. 02, request 13.
@@ -502,6 +532,7 @@ insisting =
       poll = pollOf;
       erase = eraseOf;
       slow = slowOf;
+      requests = requestsOf;
     }
 
 -- Waits for ever after NEXT: with words received a poll is answered so, however late, and changes nothing.
@@ -519,6 +550,7 @@ patient =
       poll = λ n clock reply. waitsOn (n .pending) n reply (pollOf n clock reply);
       erase = eraseOf;
       slow = slowOf;
+      requests = requestsOf;
     }
 
 -- Takes a repetition off an entry that is due, and hands out nothing. 02, request 7.
@@ -543,6 +575,7 @@ losing =
       slow = λ n clock list.
           let o : Outcome = slowOf n clock list in
           outcome (turn (o .turn .node) (withheld (o .turn .answer))) (o .after);
+      requests = requestsOf;
     }
 
 -- Leaves the turn where it is when a delete closes the entries up.
@@ -558,6 +591,7 @@ skipping =
       poll = pollOf;
       erase = eraseOf;
       slow = slowOf;
+      requests = requestsOf;
     }
 
 -- Compares clock and due time as numbers: an entry is due to it from a clock on that isn't less, as if the clock never wrapped.
@@ -573,6 +607,41 @@ greater =
       poll = pollOf;
       erase = eraseOf;
       slow = λ n clock list. slowOf n (compared (entryIn list (n .listing .turn) .due) clock) list;
+      requests = requestsOf;
+    }
+
+-- Stops a list after the first ABORT: the last two words filled are its BC, 10, and its length, 0.
+abbrev pub aborted : Kept → Bool
+aborted k = leb 2 (k .filled) && (eqb (getD (k .runs .reply) (k .filled - 2) 0) 2 && eqb (getD (k .runs .reply) (k .filled - 1) 0) 0)
+
+abbrev pub quits : (Kept → Packet → SeriesStep) → Kept → Packet → SeriesStep
+quits f k p = pick (aborted k) (stop k) (f k p)
+
+abbrev pub quitting : Machine
+quitting =
+    record {
+      start = startOf;
+      request = requestOf;
+      reply = replyOf;
+      poll = pollOf;
+      erase = eraseOf;
+      slow = slowOf;
+      requests = λ n clock list l.
+          pick (fits list) (ended (row (quits (stepBy requestOf clock list)) (kept n l 0) (packetsIn list)))
+          (came (series n (Done.Refused Refusal.Overrun)) l);
+    }
+
+-- Does the first packets of a list that runs past its end.
+abbrev pub eager : Machine
+eager =
+    record {
+      start = startOf;
+      request = requestOf;
+      reply = replyOf;
+      poll = pollOf;
+      erase = eraseOf;
+      slow = slowOf;
+      requests = λ n clock list l. ended (row (stepBy requestOf clock list) (kept n l 0) (packetsIn list));
     }
 
 -- Each fails a demand.
@@ -613,6 +682,9 @@ pub record ShutOut : Type 0 where
   pub loses : RepetitionsConserved losing → ⊥
   pub skips : TurnInOrder skipping → ⊥
   pub compares : DueAcrossWrap greater → ⊥
+  -- stops a list after the first ABORT; does the first packets of one that runs past its end
+  pub stops-early : OneByOne quitting → ⊥
+  pub runs-past : ListRefused eager → ⊥
   -- loads from a half-erased sector
   pub loads-half : NeverCorrupted loader → ⊥
   -- hands out a file with remains behind it
