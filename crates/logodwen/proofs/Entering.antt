@@ -2,11 +2,11 @@
 use Prim.Native.Nat.{ℕ, _≤_}
 use native.Mathlib.Omega.{arith}
 use mathlib.Core.Path.{_≡_, refl, sym, ap, _∙_}
-use mathlib.Core.Bool.{Bool, true, false, _&&_, _||_, not}
+use mathlib.Core.Bool.{Bool, true, false, _&&_, _||_, not, false≢true}
 use mathlib.Core.List.{List}
 use lib.ListN.{length}
 use lib.Dec.{ltb, leb, eqb}
-use borrow.Author.Tests.{eqb-true, leb-true, ltb-false, not-false}
+use borrow.Author.Tests.{eqb-true, leb-true, ltb-false, not-true, not-false}
 use Rattle.base.specs.Pick.{pick}
 use Rattle.base.proofs.Pick.{no, and-left, and-right}
 use Rattle.node.specs.State.{refusalNumber}
@@ -20,11 +20,13 @@ use Rattle.node.specs.declared.Turn.{Turn}
 use Rattle.node.specs.declared.Verdict.{Verdict}
 use Rattle.node.proofs.Verdicts.{or-neither}
 use Rattle.codec.specs.StateBytes.{encodeOf, nodeIn, alike, areState}
-use Rattle.logodwen.specs.Number.{answerNumber}
-use Rattle.logodwen.specs.Causes.{keptOk, recordsOk, linkOk, requestCheck, replyCheck, pollCheck, eraseCheck, slowCheck}
+use Rattle.series.specs.Requests.{Row, rowed}
+use Rattle.series.specs.declared.Rowed.{Rowed}
+use Rattle.logodwen.specs.Number.{fields, answerNumber}
+use Rattle.logodwen.specs.Causes.{isBench, keptOk, recordsOk, linkOk, requestCheck, replyCheck, pollCheck, eraseCheck, slowCheck}
 use Rattle.codec.proofs.Small.{one-of}
 use Rattle.touch.specs.InBytes.{inBytes}
-use Rattle.logodwen.specs.Entry.{answered, told, entered}
+use Rattle.logodwen.specs.Entry.{answered, told, entered, listed}
 
 pub entered-fine : (v : Verdict) (state : List ℕ) (runs : Lent) (o : Outcome) {t : Turn} {l : Lent} {number : ℕ} {after : List ℕ} → v ≡ Verdict.Fine
     → outcome t l ≡ inBytes o runs → number ≡ answerNumber (t .answer) → after ≡ encodeOf (t .node) → answered number after l ≡ entered v state runs o
@@ -145,3 +147,22 @@ start-done kind ports subdetector program version tests clock flash size h =
     let sized : not (sizeOk (length flash)) ≡ false = ap (λ (n : ℕ). not (sizeOk n)) size in
     let fine : Verdict.Fine ≡ startVerdict kind ports subdetector (length flash) = no _ sized (no _ h refl) in
     ap (λ (v : Verdict). startBy v (given kind ports subdetector program version tests clock (length flash)) flash .answer) (sym fine)
+
+-- a list of requests
+
+pub both-hold : (t u : Bool) → (not t || not u) ≡ false → (t && u) ≡ true
+both-hold true u e = not-false u e
+both-hold false u e = absurd (false≢true (sym e))
+
+pub one-fails : (t u : Bool) → (not t || not u) ≡ true → (t && u) ≡ false
+one-fails true u e = not-true u e
+one-fails false u e = refl
+
+pub bench-tells : (flash pm dm : ℕ) → isBench flash pm dm ≡ true → (flash ≡ 32768) × (pm ≤ 8192) × (dm ≤ 8192)
+bench-tells flash pm dm h =
+    let a = and-left (eqb flash 32768 && leb pm 8192) (leb dm 8192) h in
+    (eqb-true flash 32768 (and-left (eqb flash 32768) (leb pm 8192) a), leb-true pm 8192 (and-right (eqb flash 32768) (leb pm 8192) a), leb-true dm 8192 (and-right (eqb flash 32768 && leb pm 8192) (leb dm 8192) h))
+
+pub listed-all : (r : Row) {all : Rowed} {l : Lent} {number : ℕ} {after : List ℕ} → rowed all l ≡ r → number ≡ fields 0 0 0 (all .done) → after ≡ encodeOf (all .node)
+    → answered number after l ≡ listed r
+listed-all r {l = l} made numbered encoded = (λ i. answered (numbered i) (encoded i) l) ∙ ap listed made

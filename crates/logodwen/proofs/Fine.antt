@@ -9,20 +9,15 @@ use lib.ListN.{length}
 use lib.Dec.{ltb, leb, eqb}
 use borrow.Author.Tests.{ltb-true, ltb-false, leb-true, le-ltb, lt-leb, eqb-true, eq-eqb, not-false}
 use Rattle.base.specs.Pick.{pick}
-use Rattle.base.proofs.Pick.{no, and-right}
+use Rattle.base.proofs.Pick.{and-right}
 use Rattle.node.specs.Valid.{sizeOk, stateOk}
-use Rattle.node.specs.Refusals.{Cause, firstOf, flashCause, replyCause, memoryCause, areaCause, listCause, linkCause, slaveCause, stateCause, busyCause, pollCause, unaskedCause, requestVerdict, replyVerdict, pollVerdict, eraseVerdict, slowVerdict}
-use Rattle.node.specs.declared.Node.{Node}
+use Rattle.node.specs.Refusals.{flashCause, replyCause, memoryCause, areaCause, listCause, linkCause, slaveCause, stateCause, busyCause, pollCause, unaskedCause, requestVerdict, replyVerdict, pollVerdict, eraseVerdict, slowVerdict}
 use Rattle.node.specs.declared.Verdict.{Verdict}
-use Rattle.node.proofs.Verdicts.{NoneHolds, fine-tells, or-neither}
+use Rattle.node.proofs.Verdicts.{fine-tells, or-neither}
+use Rattle.touch.proofs.Beside.{none-refuses, list-no}
 use Rattle.codec.specs.StateBytes.{sizeIn, portsIn, listedIn, encodeOf, nodeIn, alike, areState}
 use Rattle.logodwen.specs.Causes.{keptOk, recordsOk, linkOk, benchCause, memoriesCause, lengthCause, recordsCause, portCause, bytesCause, requestCheck, replyCheck, pollCheck, eraseCheck, slowCheck}
 use Rattle.logodwen.proofs.Entering.{state-long}
-
--- where no cause holds, none refuses
-pub none-refuses : (causes : List Cause) → NoneHolds causes → firstOf causes ≡ Verdict.Fine
-none-refuses [] h = refl
-none-refuses (c ∷ causes) h = sym (no _ (h .0) (sym (none-refuses causes (h .1))))
 
 -- bytes that pass refusal 5 stand for a state
 pub state-sound : (state : List ℕ) → areState state ≡ true → stateOk (nodeIn state) ≡ true
@@ -70,9 +65,6 @@ link-no state link s h =
 pub records-listed : (state : List ℕ) (records : ℕ) → areState state ≡ true → recordsOk state records ≡ true → nodeIn state .listing .entries ≤ records
 unfolding nodeIn
 records-listed state records s h = leb-true (listedIn state) records (where-long state (leb (listedIn state) records) s h)
-
-pub list-no : (n : Node) (records : ℕ) → records ≤ 910 → n .listing .entries ≤ records → listCause n records .holds ≡ false
-list-no n records most few = λ i. le-ltb 910 records most i || le-ltb records (n .listing .entries) few i
 
 pub records-no : (state : List ℕ) (records : ℕ) → bytesCause state .holds ≡ false → recordsCause state records .holds ≡ false
     → listCause (nodeIn state) records .holds ≡ false

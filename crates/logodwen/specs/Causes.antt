@@ -2,7 +2,7 @@
 -- requests 1 and 7. 1, 9 and 4 read the kept size, the entries listed and the ports off the state bytes as they are, where there are 192.
 -- Assumes nothing.
 use Prim.Native.Nat.{ℕ}
-use mathlib.Core.Bool.{Bool, true, _||_, not}
+use mathlib.Core.Bool.{Bool, true, _&&_, _||_, not}
 use mathlib.Core.List.{List, [], _∷_}
 use lib.ListN.{length}
 use lib.Dec.{ltb, leb, eqb}
@@ -26,6 +26,10 @@ memoriesCause pm dm io = cause Refusal.MemorySize (ltb 8192 pm || ltb 8192 dm ||
 
 abbrev pub lengthCause : ℕ → Cause
 lengthCause packet = cause Refusal.MemorySize (ltb 32768 packet)
+
+-- The limits that the border has beside the node's own: none of 1 by bench size, nor of 3 by PM and DM, holds.
+abbrev pub isBench : ℕ → ℕ → ℕ → Bool
+isBench flash pm dm = eqb flash 32768 && leb pm 8192 && leb dm 8192
 
 -- 9: more than 910 records are lent, or fewer than are listed. 02, request 7.
 abbrev pub recordsOk : List ℕ → ℕ → Bool

@@ -1,20 +1,25 @@
--- The six entries of the C border: what each answers, and the bytes that it leaves in every run that it is lent. An entry is refused
+-- The seven entries of the C border: what each answers, and the bytes that it leaves in every run that it is lent. An entry is refused
 -- by the first cause that holds, and then every byte stays; or it is the node's call on the words of the lent bytes. 01 'Covered',
--- and 02, requests 1 and 7, which lend a request the area and the Q-List. Assumes nothing.
+-- and 02, requests 1 and 7, which lend a request the area and the Q-List, and 9. Assumes nothing.
 use Prim.Native.Nat.{ℕ, _/_}
-use mathlib.Core.Bool.{Bool, not}
+use mathlib.Core.Bool.{Bool, _&&_, not}
 use mathlib.Core.List.{List, []}
 use lib.ListN.{length}
 use lib.Dec.{eqb}
+use Rattle.base.specs.Pick.{pick}
 use Rattle.node.specs.State.{refusalNumber}
 use Rattle.node.specs.Effect.{Lent, Outcome, outcome}
 use Rattle.node.specs.Calls.{startOf, requestOf, replyOf, pollOf, eraseOf, slowOf, lentReply, lentFlash, lentList}
+use Rattle.node.specs.declared.Refusal.{Refusal}
 use Rattle.node.specs.declared.Verdict.{Verdict}
 use Rattle.codec.specs.Bytes.{wordsOf}
-use Rattle.codec.specs.StateBytes.{encodeOf, nodeIn}
+use Rattle.codec.specs.StateBytes.{encodeOf, nodeIn, areState}
+use Rattle.series.specs.Packets.{fits}
+use Rattle.series.specs.Requests.{Row}
 use Rattle.touch.specs.InBytes.{replyWords, runWords, inBytes}
-use Rattle.logodwen.specs.Number.{answerNumber}
-use Rattle.logodwen.specs.Causes.{requestCheck, replyCheck, pollCheck, eraseCheck, slowCheck, startCheck}
+use Rattle.rows.specs.Rows.{requestsIn}
+use Rattle.logodwen.specs.Number.{fields, answerNumber}
+use Rattle.logodwen.specs.Causes.{isBench, requestCheck, replyCheck, pollCheck, eraseCheck, slowCheck, startCheck}
 
 -- The number answered, the state bytes, and the bytes of the other runs.
 pub record Answered : Type 0 where
@@ -73,3 +78,17 @@ eraseEntry budget state flash =
 unfoldable pub slowEntry : ℕ → List ℕ → List ℕ → Answered
 slowEntry clock state list =
     entered (slowCheck state (length list / 14)) state (lentList list) (slowOf (nodeIn state) clock (wordsOf 2 list))
+
+-- A list of requests. Refused by 10 alone, and then every byte stays. Where the state bytes are none of a state, or what is lent is beyond the
+-- border's limits, every packet would be refused: none is done. Otherwise the packets one after the other, up to the first that is not done. 02,
+-- request 9.
+abbrev pub listed : Row → Answered
+listed r = answered (fields 0 0 0 (r .done)) (encodeOf (r .end .node)) (r .end .runs)
+
+unfoldable pub requestsEntry : ℕ → List ℕ → List ℕ → Lent → Answered
+requestsEntry clock packets state runs =
+    pick (fits (wordsOf 2 packets))
+    (pick (isBench (length (runs .flash) / 2) (length (runs .memories .pm) / 4) (length (runs .memories .dm) / 2) && areState state)
+    (listed (requestsIn (nodeIn state) clock packets runs))
+    (answered 0 state runs))
+    (answered (refusalNumber Refusal.Overrun) state runs)

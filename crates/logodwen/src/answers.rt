@@ -41,6 +41,13 @@ pub fn answer_number(answer: Answer) -> u64
     }
 }
 
+// How many packets of a list were done, as one number.
+pub fn done_number(count: usize) -> u64
+    ensures { λ r. ⌜ r ≡ fields 0 0 0 count ⌝ }
+{
+    done(0, 0, 0, count as u64)
+}
+
 // What the reader of captured replies says, as one number.
 pub fn capture_number(capture: Capture) -> u64
     ensures { λ r. ⌜ r ≡ captureNumber capture ⌝ }

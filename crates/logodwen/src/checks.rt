@@ -1,6 +1,6 @@
 // When an entry is refused: by numbers, lengths and the state bytes alone.
 ghost use mathlib.Core.Path.{_≡_};
-ghost use Rattle.logodwen.specs.Causes.{keptOk, recordsOk, linkOk, requestCheck, replyCheck, pollCheck, eraseCheck, slowCheck};
+ghost use Rattle.logodwen.specs.Causes.{isBench, keptOk, recordsOk, linkOk, requestCheck, replyCheck, pollCheck, eraseCheck, slowCheck};
 use codec::state::is_state;
 use codec::state::node_in;
 use codec::words::byte;
@@ -34,6 +34,13 @@ fn link_ok(state: &[u8], link: u32) -> bool
         return true;
     }
     link < byte(state, 1) as u32
+}
+
+// What is lent to a list of requests is within the limits of the border.
+pub fn is_bench(flash: usize, pm: usize, dm: usize) -> bool
+    ensures { λ r. ⌜ r ≡ isBench flash pm dm ⌝ }
+{
+    (flash == 32768) & (pm <= 8192) & (dm <= 8192)
 }
 
 pub fn request_check(

@@ -1,4 +1,4 @@
-// The C border: six entries on numbers and runs of bytes, which a bench host in C links. An entry checks what it is given, takes the
+// The C border: seven entries on numbers and runs of bytes, which a bench host in C links. An entry checks what it is given, takes the
 // node out of the state bytes, makes the node's call on the words of the lent bytes, and puts state and words back. What each answers
 // and leaves in every run is one definition of specs/Entry, refused entries included. The symbols carry the border's version.
 ghost use mathlib.Core.Path.{_≡_};
@@ -6,17 +6,22 @@ ghost use mathlib.Core.List.{[]};
 ghost use Rattle.memory.specs.Segment.{memories};
 ghost use Rattle.node.specs.Effect.{further, lent};
 ghost use Rattle.node.specs.Calls.{lentReply, lentFlash, lentList};
-ghost use Rattle.logodwen.specs.Entry.{answered, startEntry, requestEntry, replyEntry, pollEntry, eraseEntry, slowEntry};
+ghost use Rattle.logodwen.specs.Entry.{answered, startEntry, requestEntry, replyEntry, pollEntry, eraseEntry, slowEntry, requestsEntry};
 use crate::answers::answer_number;
+use crate::answers::done_number;
 use crate::checks::erase_check;
+use crate::checks::is_bench;
 use crate::checks::poll_check;
 use crate::checks::reply_check;
 use crate::checks::request_check;
 use crate::checks::slow_check;
 use codec::state::encode;
+use codec::state::is_state;
 use codec::state::node_in;
 use node::Verdict;
 use node::refusals::refusal_number;
+use rows::fits;
+use rows::on_requests;
 use touch::erasing::on_erase;
 use touch::lists::on_slow;
 use touch::requests::on_request;
@@ -125,6 +130,35 @@ pub extern "C" fn logodwen4_request(
         }
         Verdict::No(refusal) => refusal_number(refusal) as u64,
     }
+}
+
+// A list of requests.
+#[no_mangle]
+pub extern "C" fn logodwen4_requests(
+    clock: u32,
+    packets: &[u8],
+    state: &mut [u8],
+    flash: &mut [u8],
+    pm: &mut [u8],
+    dm: &mut [u8],
+    io: &mut [u8],
+    area: &mut [u8],
+    list: &mut [u8],
+    replies: &mut [u8],
+) -> u64
+    ensures { λ r. ⌜ answered r (now (state .exit)) (lent (now (flash .exit)) (memories (now (pm .exit)) (now (dm .exit)) (now (io .exit))) (further (now (area .exit)) (now (list .exit))) (now (replies .exit))) ≡ requestsEntry clock (now (packets .entry)) (now (state .entry)) (lent (now (flash .entry)) (memories (now (pm .entry)) (now (dm .entry)) (now (io .entry))) (further (now (area .entry)) (now (list .entry))) (now (replies .entry))) ⌝ }
+{
+    if !fits(packets) {
+        return 10;
+    }
+    if !is_bench(flash.len() / 2, pm.len() / 4, dm.len() / 2) | !is_state(state) {
+        return 0;
+    }
+    let node = node_in(state);
+    let all = on_requests(node, clock, packets, flash, pm, dm, io, area, list, replies);
+    let next = all.node;
+    encode(next, state);
+    done_number(all.done)
 }
 
 // A slave's reply.

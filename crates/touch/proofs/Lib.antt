@@ -3,6 +3,7 @@ pub mod Exchange
 pub mod InSector
 pub mod Touch
 pub mod Taken
+pub mod Beside
 pub mod Settles
 pub mod Waits
 pub mod Blanked

@@ -7,11 +7,14 @@ use native.Mathlib.Omega.{arith}
 use native.Mathlib.Decide.{decLe}
 use lib.ListN.{length, getD}
 use borrow.Author.Tests.{ne-eqb, lt-ltb}
+use Rattle.node.specs.State.{turn}
 use Rattle.node.specs.Effect.{Lent, Outcome, outcome, applied}
 use Rattle.node.specs.Refusals.{requestVerdict}
 use Rattle.node.specs.Route.{routeBy, routeOf}
 use Rattle.node.specs.Calls.{judged, routed, passedBy, requestOf}
+use Rattle.node.specs.declared.Answer.{Answer}
 use Rattle.node.specs.declared.Node.{Node}
+use Rattle.node.specs.declared.Refusal.{Refusal}
 use Rattle.node.specs.declared.Route.{Route}
 use Rattle.node.specs.declared.Turn.{Turn}
 use Rattle.node.specs.declared.Verdict.{Verdict}
@@ -57,6 +60,13 @@ module _ (n : Node) (clock link bc : ℕ) (errors : Bool) (packet : List ℕ) (l
   taken-in b v e =
       judged-in b ∙ ap (λ (x : Verdict). judged x n (runWords l) (routed routeIn n clock link (wordsOf 2 packet) (runWords l))) v
       ∙ ap (λ (x : Route). applied n (runWords l) (routed x n clock link (wordsOf 2 packet) (runWords l))) e
+
+  -- refused: nothing is touched
+  pub refused-left : Lends l → {r : Refusal} → verdictIn ≡ Verdict.No r → outcome (turn n (Answer.Refused r)) l ≡ inBytes asked l
+  refused-left b {r} v =
+      runs-kept (turn n (Answer.Refused r)) l b
+      ∙ ap (λ (o : Outcome). inBytes o l)
+      (sym (judged-in b ∙ ap (λ (x : Verdict). judged x n (runWords l) (routed routeIn n clock link (wordsOf 2 packet) (runWords l))) v))
 
   -- no command of the node's own, and no packet that joins: nothing is touched
   pub passed-left : Lends l → verdictIn ≡ Verdict.Fine → {route r : Route} {t : Turn} → route ≡ routeIn → route ≡ r → isPassed r ≡ true → t ≡ passedBy route n clock link
