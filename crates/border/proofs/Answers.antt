@@ -60,10 +60,10 @@ use Rattle.border.specs.Host.{Entry, numberAfter, isDone}
 use Rattle.border.specs.Answers.{InBits, Says, Bounds, answerIn, NothingCut, endNumber}
 use Rattle.border.proofs.Fine.{records-are}
 use Rattle.border.proofs.Steps.{Made, start-begins, done-made, done-taken}
-use Rattle.border.proofs.Replies.{write-replied, Short, own-replied}
+use Rattle.node.proofs.Replies.{write-replied, Short, own-replied}
 
 -- an answer within bounds stands in the bits of its number
-fields-in : (k w f n : ℕ) → k < 256 → w < 256 → f < 256 → n < 4294967296 → InBits (fields k w f n) k w f n
+pub fields-in : (k w f n : ℕ) → k < 256 → w < 256 → f < 256 → n < 4294967296 → InBits (fields k w f n) k w f n
 fields-in k w f n p q r s =
     record { done = omega arith; kind = omega arith; who = omega arith; from = omega arith; words = omega arith; most = s }
 
@@ -101,8 +101,8 @@ request-bounds : (n : Node) (clock link bc : ℕ) (errors : Bool) (packet : List
 request-bounds n clock link bc errors packet l d most lent =
     route-case (λ r. Bounds (routed r n clock link packet l .answer)) n link bc errors packet (omega arith, omega arith)
     (omega arith, omega arith) (λ _ _. (omega arith, omega arith)) (λ _ _. (omega arith, omega arith)) (λ _ _. (omega arith, omega arith))
-    (λ from at j. (omega arith, omega arith)) (λ at k. write-replied n l packet (joined (l .further .area) at packet))
-    (λ id w c. own-replied n l packet id clock link d most lent) (λ s h. (h, inl refl))
+    (λ from at j. (omega arith, omega arith)) (λ at k. write-replied n l packet (joined (l .further .area) at packet) .0)
+    (λ id w c. own-replied n l packet id clock link d most lent .0) (λ s h. (h, inl refl))
     (λ set from s named e. (next-small set 0 s e, named-from named))
 
 -- a slave's answer, where the reply buffer has at most 12,288 words

@@ -15,11 +15,14 @@ use Rattle.border.proofs.Ends.{each-lowers-or-stores, always-ends, neve
 use Rattle.border.proofs.ClosedRun.{closed-run}
 use Rattle.border.proofs.Listing.{repetitions-conserved, listed-lent, repetitions-at}
 use Rattle.border.proofs.OneSector.{one-sector, no-bit-rises}
+use Rattle.border.proofs.Series.{list-refused}
+use Rattle.border.proofs.OneByOne.{one-by-one}
 
 pub demands : Demands entries
 demands =
     record {
       refused-exactly = refused-exactly;
+      list-refused = list-refused;
       always-state = always-state;
       nothing-cut = nothing-cut;
       writes = writes;
@@ -38,6 +41,7 @@ demands =
       repetitions-conserved = repetitions-conserved;
       listed-lent = listed-lent;
       repetitions-at = repetitions-at;
+      one-by-one = one-by-one;
       closed-run = closed-run;
       no-stale-record = no-stale-record;
       lengths-shown = lengths-shown;

@@ -157,6 +157,7 @@ refusal-low Refusal.Busy = omega arith
 refusal-low Refusal.Unasked = omega arith
 refusal-low Refusal.AreaSize = omega arith
 refusal-low Refusal.ListSize = omega arith
+refusal-low Refusal.Overrun = omega arith
 
 -- an entry whose call is not refused where its own verdict is fine
 entered-exactly : (tests : List Test) (causes : List Cause) (state : List ℕ) (runs : Lent) (o : Outcome)

@@ -22,7 +22,8 @@ use Rattle.codec.specs.StateBytes.{nodeIn}
 use Rattle.logodwen.specs.Causes.{benchCause, memoriesCause, lengthCause, recordsCause, portCause, bytesCause, requestCheck, replyCheck, pollCheck, eraseCheck, slowCheck, startCheck}
 use Rattle.touch.specs.InBytes.{replyWords, runWords}
 use Rattle.codec.proofs.Runs.{length-words-of}
-use Rattle.logodwen.proofs.Fine.{none-refuses, state-no, flash-no, memory-no, records-no, link-no, slow-verdict}
+use Rattle.touch.proofs.Beside.{none-refuses}
+use Rattle.logodwen.proofs.Fine.{state-no, flash-no, memory-no, records-no, link-no, slow-verdict}
 
 -- the lent part of a reply buffer that passes refusal 2 is long enough
 reply-long : (reply : List ℕ) → replyCause (length reply / 2) .holds ≡ false → length (replyWords reply) ≡ 12288

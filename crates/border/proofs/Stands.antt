@@ -1,14 +1,18 @@
 -- The bytes that a host has stand for a state that is reached, with the flash that is reached with it. Assumes nothing.
 use Prim.Native.Nat.{ℕ, _/_}
 use mathlib.Core.Path.{_≡_, refl, sym, ap, _∙_, subst}
-use mathlib.Core.Bool.{true, false, false≢true}
+use mathlib.Core.Bool.{true, false, _&&_, false≢true}
 use mathlib.Core.List.{List}
 use lib.ListN.{length}
 use Rattle.base.specs.Words.{Below}
-use Rattle.base.proofs.Pick.{no}
+use Rattle.base.proofs.Pick.{no, pick-case}
+use Rattle.memory.specs.Segment.{Memories}
+use Rattle.node.specs.Effect.{Further, lent}
 use Rattle.node.specs.Calls.{startOf}
 use Rattle.node.specs.declared.Node.{Node}
 use Rattle.node.proofs.Ranges.{ranges-told}
+use Rattle.series.specs.Packets.{fits, packetsIn}
+use Rattle.series.specs.Requests.{kept as beginning}
 use Rattle.demands.specs.Machine.{logodwen, flashOf, isRefused}
 use Rattle.demands.specs.Reached.{Lends16, stateAfter as nodeAfter, Step as Called, Reached}
 use Rattle.demands.proofs.Sound.{reached-sound}
@@ -16,13 +20,17 @@ use Rattle.codec.specs.Bytes.{wordsOf}
 use Rattle.codec.specs.StateBytes.{encodeOf, nodeIn, areState}
 use Rattle.codec.specs.Kept.{Typed}
 use Rattle.codec.proofs.Runs.{length-words-of}
+use Rattle.rows.specs.Rows.{requestsIn}
 use Rattle.codec.proofs.ThereAndBack.{decoded-encoded}
+use Rattle.logodwen.specs.Causes.{isBench}
+use Rattle.logodwen.specs.Entry.{Answered, requestsEntry}
 use Rattle.border.specs.Exactly.{entries}
-use Rattle.border.specs.Host.{Entry, InC, numberAfter, stateAfter, flashAfter, onWords, isDone, Step as HostStep, Hosted}
+use Rattle.border.specs.Host.{Entry, InC, numberAfter, stateAfter, flashAfter, onWords, isDone, InList, Step as HostStep, Hosted}
 use Rattle.border.proofs.Runs.{words-of-below, stored-words, stored-below}
 use Rattle.border.proofs.Fine.{start-bench}
 use Rattle.border.proofs.Flash.{Areas16, flash-below, flash-size}
 use Rattle.border.proofs.Typed.{Small, Clocked, start-small, call-small, small-typed}
+use Rattle.border.proofs.Lists.{In, row-keeps}
 use Rattle.border.proofs.Steps.{Made, Step, entry-step, start-taken, refusal-undone, undone-left, undone-flash}
 
 pub record Stands (state flash : List ℕ) : Type 0 where
@@ -44,10 +52,10 @@ module _ (n : Node) (words state : List ℕ) (r : Reached logodwen n words) (s :
   encoded : (areState (encodeOf n) ≡ true) × (nodeIn (encodeOf n) ≡ n)
   encoded = decoded-encoded n (ranges-told n (reached-sound r .valid .ranges)) (small-typed n words s (reached-sound r) b)
 
-  encoded-node : nodeIn state ≡ n
+  pub encoded-node : nodeIn state ≡ n
   encoded-node = ap nodeIn e ∙ encoded .1
 
-  encoded-state : areState state ≡ true
+  pub encoded-state : areState state ≡ true
   encoded-state = ap areState e ∙ encoded .0
 
 reached-stands : (n : Node) (words state flash : List ℕ) → Reached logodwen n words → Small n → Below 65536 words
@@ -160,6 +168,20 @@ first-begun kind ports subdetector program version tests clock state flash c b h
           stands = reached-stands node words after flash reached small below encodes refl b (start-bench kind ports subdetector state flash (m .fine));
         }
 
+-- a list of requests hands them on: refused or with no packet done it leaves them
+list-stands : (state flash : List ℕ) (clock : ℕ) (packets : List ℕ) (m : Memories) (x : Further) (replies : List ℕ) → InList clock packets m x replies → Stands state flash
+    → let a : Answered = requestsEntry clock packets state (lent flash m x replies) in
+    Stands (a .state) (a .runs .flash)
+unfolding requestsEntry requestsIn
+list-stands state flash clock packets m x replies c s =
+    let P : Answered → Type 0 = λ (a : Answered). Stands (a .state) (a .runs .flash) in
+    let first : In (beginning (nodeIn state) (lent flash m x replies) 0) = record { keeps = record { reached = s .reached; small = s .small; below = s .below; bench = s .bench }; area = c .5 } in
+    let end = row-keeps clock packets (c .0) (c .1) (packetsIn (wordsOf 2 packets)) (beginning (nodeIn state) (lent flash m x replies) 0) first .keeps in
+    pick-case P (fits (wordsOf 2 packets))
+    (λ _. pick-case P (isBench (length flash / 2) (length (m .pm) / 4) (length (m .dm) / 2) && areState state)
+    (λ _. reached-stands _ _ _ _ (end .reached) (end .small) (words-of-below _ (end .below)) refl refl (end .below) (end .bench)) (λ _. s))
+    (λ _. s)
+
 -- a step of the host hands them on
 pub step-stands : {state flash next after : List ℕ} → HostStep entries state flash next after → Stands state flash → Stands next after
 step-stands {state} {flash} (HostStep.Made e c) s = next-stands e state flash c s
@@ -170,3 +192,4 @@ pub hosted-stands : {state flash : List ℕ} → Hosted entries state flash → 
 hosted-stands (Hosted.First kind ports subdetector program version tests clock state flash c b h) =
     first-begun kind ports subdetector program version tests clock state flash c b h .stands
 hosted-stands (Hosted.Then r step) = step-stands step (hosted-stands r)
+hosted-stands (Hosted.Listed h clock packets m x replies c) = list-stands _ _ clock packets m x replies c (hosted-stands h)

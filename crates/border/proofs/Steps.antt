@@ -178,6 +178,7 @@ refusal-undone Refusal.Busy = refl
 refusal-undone Refusal.Unasked = refl
 refusal-undone Refusal.AreaSize = refl
 refusal-undone Refusal.ListSize = refl
+refusal-undone Refusal.Overrun = refl
 
 pub done-taken : (a : Answer) → isDone (answerNumber a) ≡ true → isRefused a ≡ false
 done-taken (Answer.Refused r) h = absurd (false≢true (sym (refusal-undone r) ∙ h))

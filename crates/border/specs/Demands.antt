@@ -1,7 +1,7 @@
 -- What the house was promised of the C library, on one page: the sentences of the three demands in their order, and beneath each the
 -- statements that stand for it, over the bytes that a host lends and keeps. They are those of the node (demands/specs/Demands), and the
 -- answer's number beside them. That every entry gets an answer, and that it is the node's call on the words of the bytes, is the contract of
--- the six entries, which has no condition. Assumes nothing.
+-- the six entries and of the list of requests, which has no condition. Assumes nothing.
 use Rattle.border.specs.Exactly.{Entries, RefusedExactly}
 use Rattle.border.specs.Kept.{AlwaysState, NoStaleRecord, LengthsShown, SummaryIsTrue}
 use Rattle.border.specs.Answers.{NothingCut}
@@ -13,12 +13,15 @@ use Rattle.border.specs.Groups.{GroupIsAsked, GroupIsItsFragments}
 use Rattle.border.specs.Ends.{EachLowersOrStores, AlwaysEnds, NeverAskedTwice, SettledInTime, DeadEndInTime, AllEndInTime}
 use Rattle.border.specs.Captures.{DataIsAccepted}
 use Rattle.border.specs.Flash.{OneSector, NoBitRises}
+use Rattle.border.specs.Series.{ListRefused, OneByOne}
 use Rattle.border.specs.Listing.{RepetitionsConserved, ListedLent, RepetitionsAt}
 use Rattle.border.specs.ClosedRun.{ClosedRun}
 
 pub record Demands (E : Entries) : Type 0 where
   -- 1 Conduct. Refusals come for their listed causes and no other, and change nothing.
   pub refused-exactly : RefusedExactly E
+  -- A list of requests is refused by 10 where a packet runs past its end, by nothing else, and then leaves every byte.
+  pub list-refused : ListRefused E
   -- No state bytes that a host has after a start are refused by 5.
   pub always-state : AlwaysState E
   -- The number has the node's answer in its bits, whole.
@@ -49,10 +52,13 @@ pub record Demands (E : Entries) : Type 0 where
   pub repetitions-conserved : RepetitionsConserved E
   pub listed-lent : ListedLent E
   pub repetitions-at : RepetitionsAt
+  -- A list of requests in one entry is the host's own request entries of its packets, one by one: all that is said here of entries is said of it too, each
+  -- packet an entry.
+  pub one-by-one : OneByOne E
   -- One run, worked out: start, File Write, File Read.
   pub closed-run : ClosedRun E
-  -- 3 No stale record. After any sequence of entries, refused ones and half-done erasures included, the directory kept in the state bytes is
-  -- the one worked out afresh from the flash's bytes and the erasure in progress, the lengths of the files in it; and so is what Flash
+  -- 3 No stale record. After any sequence of entries, refused ones, half-done erasures and lists of requests included, the directory kept in the state
+  -- bytes is the one worked out afresh from the flash's bytes and the erasure in progress, the lengths of the files in it; and so is what Flash
   -- Summary answers.
   pub no-stale-record : NoStaleRecord E
   pub lengths-shown : LengthsShown E

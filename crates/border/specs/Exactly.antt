@@ -14,9 +14,9 @@ use Rattle.demands.specs.Refusals.{Cause, cause, FirstOf, IsState}
 use Rattle.codec.specs.Bytes.{numberAt}
 use Rattle.codec.specs.StateBytes.{sizeIn, portsIn, listedIn, encodeOf, nodeIn, areState}
 use Rattle.codec.specs.Kept.{Typed}
-use Rattle.logodwen.specs.Entry.{Answered, startEntry, requestEntry, replyEntry, pollEntry, eraseEntry, slowEntry}
+use Rattle.logodwen.specs.Entry.{Answered, startEntry, requestEntry, replyEntry, pollEntry, eraseEntry, slowEntry, requestsEntry}
 
--- Anything that answers the six entries. The statement is of any such six, so that it can be seen to shut out wrong ones.
+-- Anything that answers the six entries, and the list of requests. The statement is of any such, so that it can be seen to shut out wrong ones.
 pub record Entries : Type 0 where
   pub start : (kind ports subdetector program version tests clock : ℕ) (flash state : List ℕ) → Answered
   pub request : (clock link bc errors : ℕ) (packet state : List ℕ) (runs : Lent) → Answered
@@ -24,10 +24,20 @@ pub record Entries : Type 0 where
   pub poll : (clock : ℕ) (state reply : List ℕ) → Answered
   pub erase : (budget : ℕ) (state flash : List ℕ) → Answered
   pub slow : (clock : ℕ) (state list : List ℕ) → Answered
+  pub requests : (clock : ℕ) (packets state : List ℕ) (runs : Lent) → Answered
 
 -- Ours, of the C border.
 abbrev pub entries : Entries
-entries = record { start = startEntry; request = requestEntry; reply = replyEntry; poll = pollEntry; erase = eraseEntry; slow = slowEntry }
+entries =
+    record {
+      start = startEntry;
+      request = requestEntry;
+      reply = replyEntry;
+      poll = pollEntry;
+      erase = eraseEntry;
+      slow = slowEntry;
+      requests = requestsEntry;
+    }
 
 -- A run holds more than so many words of k bytes: an unfinished last word is none.
 abbrev pub Above : ℕ → ℕ → List ℕ → Type 0

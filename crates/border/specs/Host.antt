@@ -51,6 +51,11 @@ InC (Entry.Poll clock reply) = U32 clock × U8s reply
 InC (Entry.Erase budget) = U64 budget
 InC (Entry.Slow clock list) = U32 clock × U8s list
 
+-- And of a list of requests: what it is given and lent but the state bytes and the flash bytes. 02, request 9.
+abbrev pub InList : ℕ → List ℕ → Memories → Further → List ℕ → Type 0
+InList clock packets m x replies =
+    U32 clock × U8s packets × U8s (m .pm) × U8s (m .dm) × U8s (m .io) × U8s (x .area) × U8s (x .list) × U8s replies
+
 -- What an entry answers and leaves, lent these state bytes and these flash bytes.
 abbrev pub answerOf : Entries → Entry → List ℕ → List ℕ → Answered
 answerOf E (Entry.Start kind ports subdetector program version tests clock) state flash =
@@ -106,10 +111,13 @@ pub data Step (E : Entries) (state flash : List ℕ) : List ℕ → List ℕ →
   OtherState : (e : Entry) (other : List ℕ) → isDone (numberAfter E e other flash) ≡ false → Step E state flash state (flashAfter E e other flash)
 
 -- The state bytes and flash bytes that a host can come to have: a start answered 0, on any flash bytes, whatever the state bytes were; then
--- any entries.
+-- any entries, and any lists of requests (02, request 9).
 pub data Hosted (E : Entries) : List ℕ → List ℕ → Type 0 where
   First : (kind ports subdetector program version tests clock : ℕ) (state flash : List ℕ)
       → InC (Entry.Start kind ports subdetector program version tests clock) → U8s flash
       → numberAfter E (Entry.Start kind ports subdetector program version tests clock) state flash ≡ 0
       → Hosted E (stateAfter E (Entry.Start kind ports subdetector program version tests clock) state flash) flash
   Then : {state next flash after : List ℕ} → Hosted E state flash → Step E state flash next after → Hosted E next after
+  Listed : {state flash : List ℕ} → Hosted E state flash
+      → (clock : ℕ) (packets : List ℕ) (m : Memories) (x : Further) (replies : List ℕ) → InList clock packets m x replies
+      → Hosted E (E .requests clock packets state (lent flash m x replies) .state) (E .requests clock packets state (lent flash m x replies) .runs .flash)

@@ -14,6 +14,7 @@ pub mod Groups
 pub mod Ends
 pub mod Captures
 pub mod Listing
+pub mod Series
 pub mod ClosedRun
 pub mod Demands
 pub mod ShutOut

@@ -5,10 +5,11 @@ use Rattle.demands.specs.Settled.{Settles}
 use Rattle.logodwen.proofs as Logodwen
 use Rattle.lines.proofs as Lines
 
--- The six entries, the check sequence, and the reader of captured replies.
+-- The six entries, the list of requests, the check sequence, and the reader of captured replies.
 pub record EntriesSettled : Type 0 where
   pub start : Settles Logodwen.logodwen4_start.Kinds.ps Logodwen.logodwen4_start.Kinds.r Logodwen.logodwen4_start.Reads.Learnt
   pub request : Settles Logodwen.logodwen4_request.Kinds.ps Logodwen.logodwen4_request.Kinds.r Logodwen.logodwen4_request.Reads.Learnt
+  pub requests : Settles Logodwen.logodwen4_requests.Kinds.ps Logodwen.logodwen4_requests.Kinds.r Logodwen.logodwen4_requests.Reads.Learnt
   pub reply : Settles Logodwen.logodwen4_reply.Kinds.ps Logodwen.logodwen4_reply.Kinds.r Logodwen.logodwen4_reply.Reads.Learnt
   pub poll : Settles Logodwen.logodwen4_poll.Kinds.ps Logodwen.logodwen4_poll.Kinds.r Logodwen.logodwen4_poll.Reads.Learnt
   pub erase : Settles Logodwen.logodwen4_erase.Kinds.ps Logodwen.logodwen4_erase.Kinds.r Logodwen.logodwen4_erase.Reads.Learnt

@@ -8,7 +8,7 @@ use Rattle.demands.specs.Requests.{isCommand}
 use Rattle.codec.specs.Bytes.{wordsOf}
 use lib.ListN.{length}
 use Rattle.node.specs.Calls.{lentReply, lentFlash, lentList}
-use Rattle.logodwen.specs.Entry.{Answered, answered, startEntry, requestEntry, replyEntry, pollEntry, eraseEntry, slowEntry}
+use Rattle.logodwen.specs.Entry.{Answered, answered, startEntry, requestEntry, replyEntry, pollEntry, eraseEntry, slowEntry, requestsEntry}
 use Rattle.border.specs.Exactly.{Entries}
 use Rattle.border.specs.Kept.{NoStaleRecord}
 use Rattle.border.specs.Flash.{NoBitRises}
@@ -28,6 +28,7 @@ refusing number =
       poll = λ clock state reply. answered number state (lentReply reply);
       erase = λ budget state flash. answered number state (lentFlash flash);
       slow = λ clock state list. answered number state (lentList list);
+      requests = requestsEntry;
     }
 
 -- Scans at start only: a request does all that it answers, but leaves the state bytes as they were.
@@ -43,6 +44,7 @@ scanning =
       poll = pollEntry;
       erase = eraseEntry;
       slow = slowEntry;
+      requests = requestsEntry;
     }
 
 -- Answers the low 32 bits of a request's number: no reply has words.
@@ -58,6 +60,7 @@ cutting =
       poll = pollEntry;
       erase = eraseEntry;
       slow = slowEntry;
+      requests = requestsEntry;
     }
 
 -- Erases all at the first progress call, whatever it answers.
@@ -73,6 +76,7 @@ hasty says =
       poll = pollEntry;
       erase = λ budget state flash. answering (says budget) (eraseEntry (length flash) state flash);
       slow = slowEntry;
+      requests = requestsEntry;
     }
 
 -- Says END to every File Write, and stores nothing of one that it should answer ABORT.
@@ -89,6 +93,7 @@ lying =
       poll = pollEntry;
       erase = eraseEntry;
       slow = slowEntry;
+      requests = requestsEntry;
     }
 
 -- Has sector 3 being erased after every request.
@@ -102,6 +107,7 @@ rogue =
       poll = pollEntry;
       erase = eraseEntry;
       slow = slowEntry;
+      requests = requestsEntry;
     }
 
 -- Answers as it should, but stores nothing of what slaves reply.
@@ -116,6 +122,7 @@ forgetful =
       poll = pollEntry;
       erase = eraseEntry;
       slow = slowEntry;
+      requests = requestsEntry;
     }
 
 -- Each fails a promise, by its name in `Demands`.
