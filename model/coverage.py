@@ -9,7 +9,7 @@ import sys
 
 from vectors import HERE
 
-PARTS = ("node", "flash", "memory", "qlist", "group", "files", "runs", "fcs")
+PARTS = ("node", "flash", "memory", "qlist", "group", "files", "runs", "fcs", "series")
 
 
 def own_lines(code):

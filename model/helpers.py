@@ -388,6 +388,70 @@ CODES = {
 }
 
 
+def row_of(packets):
+    """A list of requests: each packet behind its link, its BC and its length (02, request 9)."""
+    return [number for link, bc, held in packets for number in (link, bc, len(held), *held)]
+
+
+def added(room, packets):
+    """Which of the packets are added to a list, one after the other: those that have room, and whose numbers a list can have."""
+    told, laid = [], []
+    for packet in packets:
+        link, bc, held = packet
+        told.append(link <= 0xFFFF and bc <= 3 and len(held) <= 0xFFFF and len(row_of([*laid, packet])) <= room)
+        laid += [packet] * told[-1]
+    return [*map(int, told), len(laid), *(row_of(laid) or [0])]
+
+
+def added_file(room, link, held):
+    """A File Write behind a Mode Read of link 1, whole, or none of it."""
+    laid = [(1, 3, own(0x12))] if room >= 4 else []
+    told, at, parts = packets(8192, *held), 0, []
+    while at + 1 < len(told):
+        parts.append((link, told[at], told[at + 2:at + 2 + told[at + 1]]))
+        at += 2 + told[at + 1]
+    is_added = held and link <= 0xFFFF and len(row_of([*laid, *parts])) <= room
+    laid += parts if is_added else []
+    return [1 if is_added else 0, len(laid), *(row_of(laid) or [0])]
+
+
+def walked(row, before):
+    """Packets in a row, each behind so many words, the last two BC and length, up to the first that doesn't stand there; then that place."""
+    at = 0
+    while len(row) - at >= before and row[at + before - 2] <= 3 and len(row) - at - before >= row[at + before - 1]:
+        past = at + before + row[at + before - 1]
+        yield from row[at:past]
+        at = past
+    yield at
+
+
+def row_lines():
+    """Lists that are laid, and the walks over them and over replies, whole, cut short, and with a BC that is none."""
+    def some():
+        return chance.choice((0, 1, 3, 0xFFFF)), chance.randrange(4), words(chance.choice((0, 0, 1, 2, 5, 40)))
+
+    for _ in range(60):
+        made = [some() for _ in range(chance.randrange(6))]
+        row = row_of(made)
+        for room in {len(row), len(row) + 1, max(len(row) - 1, 0), chance.randrange(len(row) + 3), 0}:
+            yield ("packets_add", room, *row), added(room, made)
+        wrong = [*made, (chance.choice((0, 0x10000)), chance.choice((4, 0x103, 3)), words(2)), (0, 3, words(1))]
+        yield ("packets_add", 1000, *row_of(wrong)), added(1000, wrong)
+        for cut in {len(row), chance.randrange(len(row) + 1), max(len(row) - 1, 0)}:
+            yield ("read_packet", *row[:cut]), [*walked(row[:cut], 3)]
+        replies = [number for _, bc, held in made for number in (bc, len(held), *held)]
+        for more in ([], [0], [4, 0], [3], [3, 1], [0x103, 1, 7], [3, 0xFFFF, 1, 2]):
+            yield ("read_reply", *replies, *more), [*walked([*replies, *more], 2)]
+    for count, room in ((0, 50), (1, 9), (1, 8), (1, 0), (40, 48), (40, 47), (8191, 9000), (8192, 9000), (8192, 8200), (20000, 20013),
+                        (20000, 20014)):
+        held = words(count)
+        for link in (0, 3, 0x10000):
+            yield ("packets_add_file", room, link, *held), added_file(room, link, held)
+    for bc, text in enumerate(("NEXT", "ERROR", "ABORT", "END")):
+        yield ("packet_text", bc, 0), [ord(letter) for letter in text]
+        yield ("packet_text", bc, 1 + word()), [ord(letter) for letter in "DATA"]
+
+
 def code_lines():
     """The text of each code, with DAT worth 10 hex, as its letters' numbers; what is none is 'no code'."""
     for code in (*range(33), 0x20, 0x30, 0x116, 0xFFFFFFFF):
@@ -433,7 +497,7 @@ def fcs_lines():
 def main(folder):
     with open(folder + "/helpers.txt", "w") as given, open(folder + "/helpers.stdout", "w") as wanted:
         for lines in (request_lines(), file_lines(), reading_lines(), status_lines(), entry_lines(), named_lines(), list_lines(),
-                      group_lines(), code_lines(), fcs_lines()):
+                      group_lines(), code_lines(), row_lines(), fcs_lines()):
             for (name, *numbers), comes_to in lines:
                 given.write(" ".join([name, *("%X" % number for number in numbers)]) + "\n")
                 wanted.write(" ".join("%X" % number for number in comes_to or [0]) + "\n")

@@ -5,7 +5,7 @@ name(4) for four, the highest first. A word past the end of a line is 0; no line
 line; a line that prints nothing else prints an empty one. Hex digits are lower case in what is printed.
 
 There are seven memories, by number: 0 flash (262,160 words), 1 PM (32,784 words of 32 bits), 2 DM (32,784), 3 IO (4,112), 4 the reply
-buffer (12,304), 5 the area in which the packets of a File Write are joined (32,784) and 6 the Q-List (6,386), seven words a record: header,
+buffer (16,400), 5 the area in which the packets of a File Write are joined (32,784) and 6 the Q-List (6,386), seven words a record: header,
 repetitions, frequency, the two parameters, due time low word first. At first all words are 0, the node is all zeros, and nothing is lent.
 The first words of each memory are lent to a call, as many as the last line 9 said. The node that a call hands back is kept for the next
 line, that of a refused start too.
@@ -24,6 +24,7 @@ line, that of a refused start too.
     A memory at(2) count(2)                             prints the digest of `count` words from `at` on
     B                                                   prints the node's words
     C show clock(2)                                     slow-control step
+    D show clock(2) RUN                                 a list of requests: the words of the run, with the reply buffer for the replies
 
 The node takes kind, ports and sub-detector as one word each: a number above 65,535 is given to it as 65,535.
 
@@ -41,6 +42,7 @@ A call prints the digest of the node's words, then its answer:
 
     refused N       started       erased N       waiting       ask SLAVE FIRST       next SLAVE       handed PLACE       nothing
     reply BC N DIGEST WORD..      N words in the reply buffer, the digest of them, and the words themselves where N is at most 16
+    done N                        of a list of requests: how many of its packets were done
 
 with numbers in decimal, and a digest or a word in four hex digits. Then, for each bit of `show` that is set, a letter and the
 digest of the lent words after the call: bit 0 `f` flash, bit 1 `p` PM, bit 2 `d` DM, bit 3 `i` IO, bit 4 `r` reply buffer, bit 5
@@ -57,11 +59,12 @@ stands or not, link, joined(2); entries listed, the turn. What a case doesn't ha
 from dataclasses import replace
 
 import node as model
+import series
 from files import DM, IO, PM
 from words import digest, run_of
 
-START, REQUEST, REPLY, POLL, ERASE, FILL, POKE, SET, LEND, DIGEST, STATE, SLOW = range(1, 13)
-MEMORY_ROOM = (262160, 32784, 32784, 4112, 12304, 32784, 6386)
+START, REQUEST, REPLY, POLL, ERASE, FILL, POKE, SET, LEND, DIGEST, STATE, SLOW, SERIES = range(1, 14)
+MEMORY_ROOM = (262160, 32784, 32784, 4112, 16400, 32784, 6386)
 FLASH, PROGRAM, DATA, REGISTERS, BUFFER, AREA, QLIST = range(7)
 LETTERS = "fpdiral"
 SCALARS = dict(enumerate((
@@ -147,7 +150,7 @@ class Program:
     def line(self, words):
         items = Items(words)
         does = items.number()
-        if does in (START, REQUEST, REPLY, POLL, ERASE, SLOW):
+        if does in (START, REQUEST, REPLY, POLL, ERASE, SLOW, SERIES):
             return self.call(does, items)
         if does == DIGEST:
             memory, at, count = items.number(), items.number(2), items.number(2)
@@ -199,7 +202,8 @@ class Program:
     def call(self, does, items):
         show = items.number()
         self.node, self.answer = {
-            START: self.start, REQUEST: self.request, REPLY: self.reply, POLL: self.poll, ERASE: self.erase, SLOW: self.slow
+            START: self.start, REQUEST: self.request, REPLY: self.reply, POLL: self.poll, ERASE: self.erase, SLOW: self.slow,
+            SERIES: self.requests,
         }[does](items)
         shown = ["%04x" % digest(words_of_node(self.node)), self.said()]
         for memory, letter in enumerate(LETTERS):
@@ -213,12 +217,17 @@ class Program:
             kind, ports, subdetector, items.number(), items.number(), items.number(), items.number(2), self.lent[FLASH]
         )
 
-    def request(self, items):
+    def lent_to_requests(self):
         memories = {PM: self.lent[PROGRAM], DM: self.lent[DATA], IO: self.lent[REGISTERS]}
-        lent = model.Lent(self.lent[FLASH], memories, self.lent[AREA], self.lent[QLIST], self.lent[BUFFER])
+        return model.Lent(self.lent[FLASH], memories, self.lent[AREA], self.lent[QLIST], self.lent[BUFFER])
+
+    def request(self, items):
         return model.request(
-            self.node, lent, items.number(2), items.number(2), items.number(), items.number(), items.run()
+            self.node, self.lent_to_requests(), items.number(2), items.number(2), items.number(), items.number(), items.run()
         )
+
+    def requests(self, items):
+        return series.requests(self.node, self.lent_to_requests(), items.number(2), items.run())
 
     def reply(self, items):
         return model.reply(

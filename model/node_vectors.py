@@ -12,6 +12,9 @@ from scripts_remains import nothing_behind, remains, remains_come_and_go
 from scripts_replies import between_packets, dropped_between, every_end, everyone_in_packets, kept_replies, leftovers, long_counts
 from scripts_replies import not_of_a_group, packet_errors, packet_room, packet_times, received_ranges, single_words, whole_or_divided
 from scripts_requests import command_numbers, counts, first_bytes, lengths, small_commands, start_masks
+from scripts_series import series_ask, series_empty, series_fill, series_go_on, series_lent, series_numbers, series_of_commands, series_of_each
+from scripts_series import series_of_long_writes, series_of_writes, series_past_the_end, series_room, series_soup, series_while_pending
+from scripts_series import series_without_words
 from scripts_slaves import groups, room, singles, tallies, times
 from scripts_states import refusals, soup, start_refusals, states
 from scripts_writes import areas, divisions, kept_writes, long_reads, many_packets, most_words, others_meanwhile, packet_cases
@@ -34,6 +37,8 @@ SCRIPTS = (
     every_end, single_words, whole_or_divided, packet_room, long_counts, packet_times, packet_errors, leftovers, everyone_in_packets,
     dropped_between, between_packets, kept_replies, received_ranges, not_of_a_group,
     list_writes, list_segments, list_frequencies, list_is_full, list_room, list_deletes, list_turns, list_meanwhile, kept_lists, list_refusals,
+    series_of_commands, series_of_each, series_go_on, series_without_words, series_of_writes, series_of_long_writes, series_ask, series_numbers,
+    series_while_pending, series_room, series_fill, series_lent, series_past_the_end, series_empty, series_soup,
 )
 
 

@@ -8,13 +8,15 @@ from files import DM, IO, PM
 from flash import SIZES
 from node import CDDC
 from node_lines import BUFFER, DATA, DIGEST, ERASE, FILL, FLASH, LEND, MEMORY_ROOM, NO_WRITE, NUMBERS, PENDING_GROUP, PENDING_SLAVE, POKE
-from node_lines import POLL, PROGRAM, REGISTERS, REPLY, REQUEST, SET, SLOW, START, STATE, WRITE, Program, halves
+from node_lines import POLL, PROGRAM, REGISTERS, REPLY, REQUEST, SERIES, SET, SLOW, START, STATE, WRITE, Program, halves
 from runs import check_sequence
 from words import line_of, run_of
 
 BENCH, FULL = SIZES
 OWN = 0x2E
 SHOW_AREA, SHOW_LIST = 32, 64
+ONE_REPLY = 12304  # words of the reply buffer that a call for one reply has to do with; those behind are for lists of requests
+LONGEST_LINE = 200  # words
 CHANGES = {0x45: 1, 0x48: 1, 0x50: 2, 0x51: 4, 0x0F: 8, 0x46: 14, 0x5B: SHOW_LIST, 0x5C: SHOW_LIST}  # the memories that a command can change
 
 
@@ -54,6 +56,7 @@ class Script:
 
     def put(self, *words):
         assert all(0 <= word < 65536 for word in words), words
+        assert len(words) <= LONGEST_LINE, "a line of %d words" % len(words)
         self.lines.append(line_of(words))
         self.program.line(list(words))
         return self.program.answer
@@ -122,6 +125,9 @@ class Script:
         show = int(self.pick.randrange(3 if len(self.program.lent[FLASH]) <= BENCH else 9) == 0) if show is None else show
         return self.call(ERASE, show, *[budget >> 48 - 16 * place & 0xFFFF for place in range(4)])
 
+    def series(self, packets, show):
+        return self.call(SERIES, show, *halves(self.now()), *run(packets).line())
+
     def slow(self, clock=None, show=None):
         show = self.pick.choice((0, 0, SHOW_LIST)) if show is None else show
         return self.call(SLOW, show, *halves(self.now() if clock is None else clock % 2**32))
@@ -153,7 +159,7 @@ class Script:
         return self.start(kind, ports, subdetector, tests)
 
     def fill_memories(self):
-        for memory, count in ((PROGRAM, 32784), (DATA, 32784), (REGISTERS, 4112), (BUFFER, 12304)):
+        for memory, count in ((PROGRAM, 32784), (DATA, 32784), (REGISTERS, 4112), (BUFFER, ONE_REPLY)):
             self.fill(memory, count, self.pick.randrange(65536))
 
     def some_segment(self, memory, most=6, second=None):
@@ -230,9 +236,10 @@ class Script:
         return words
 
     def ends(self):
-        """All words of all memories, and the node's."""
+        """All words of all memories that calls for one reply have to do with, and the node's."""
+        counts = {FLASH: len(self.program.lent[FLASH]), BUFFER: ONE_REPLY}
         for memory, room in enumerate(MEMORY_ROOM):
-            self.digest(memory, 0, len(self.program.lent[FLASH]) if memory == FLASH else room)
+            self.digest(memory, 0, counts.get(memory, room))
         self.state()
 
 

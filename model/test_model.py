@@ -1,7 +1,7 @@
 #!/usr/bin/env python3
 """The model against documents 01 and 02: each example of 01, the lines of the bench, what 01 says of every call, and what 02 says of
 files that come in several packets, of the masks at start, of the lengths in the summary, of remains behind a file, of names that
-several sectors have, of captured group replies, of slaves that answer in packets and of the Q-List."""
+several sectors have, of captured group replies, of slaves that answer in packets, of the Q-List and of lists of requests."""
 
 import random
 import unittest
@@ -20,7 +20,9 @@ from node import CDDC, CDP, ZEROS, Lent, Pending, Write, erase, poll, reply, req
 from node_lines import FLASH, POKE
 from script import Script
 from scripts_flash import flash_step
+from scripts_series import in_a_row, some_list
 from runs import check_sequence
+from series import requests
 from words import digest, words_of
 
 BENCH = 32768
@@ -1091,6 +1093,171 @@ class QList(unittest.TestCase):
                 handed += self.step(now)[0] == "handed"
             self.assertEqual(written, left() + handed + deleted)
         self.assertTrue(handed > 100 and deleted > 100)
+
+
+def row_of(*packets):
+    """A list of packets, each given as link, BC and words."""
+    return [word for link, bc, words in packets for word in (link, bc, len(words), *words)]
+
+
+class Series(unittest.TestCase):
+    """02, request 9."""
+
+    ROOM = 12290
+    MODE = (0, 3, own(0x12))
+    SET = (1, 3, own(0x52, 3))  # changes the state
+    WRITE = (2, 3, own(0x45, *file_of([segment(DM, 0x2000, [1, 2, 3])], name=0x42)))  # changes the flash
+
+    def setUp(self):
+        self.node, self.lent = started()
+        self.lend(2 * self.ROOM)
+
+    def lend(self, words):
+        self.lent.reply = [0xEEEE] * words
+
+    def ask(self, *packets, now=0):
+        return self.ask_words(row_of(*packets), now)
+
+    def ask_words(self, words, now=0):
+        self.node, answer = requests(self.node, self.lent, now, words)
+        return answer
+
+    def replies(self):
+        """The replies in a row, as far as they are filled."""
+        found, at = [], 0
+        while self.lent.reply[at] != 0xEEEE:
+            bc, count = self.lent.reply[at:at + 2]
+            found.append((bc, self.lent.reply[at + 2:at + 2 + count]))
+            at += 2 + count
+        self.assertEqual(set(self.lent.reply[at:]), {0xEEEE})
+        return found
+
+    def all_held(self):
+        """All that a call could change."""
+        lent = self.lent
+        return self.node, lent.flash[:], {name: words[:] for name, words in lent.memories.items()}, lent.area[:], lent.qlist[:], lent.reply[:]
+
+    def stays(self, work):
+        """What some work is answered, and whether it left everything."""
+        held = self.all_held()
+        return work(), self.all_held() == held
+
+    def test_replies_in_a_row(self):
+        answer = self.ask(self.MODE, self.SET, (0, 3, [0x00FF]), (3, 3, own(0x0D, 7, 8)), (0, 3, []), self.MODE)
+        self.assertEqual(answer, ("done", 6))
+        self.assertEqual(self.replies(), [
+            (3, sealed([0, 0x0020])), (END, []), (ERROR, []), (3, sealed([7, 8, 0x00E0])), (ABORT, []), (3, sealed([3, 0x00E0])),
+        ])
+        self.assertEqual((self.node.mode, self.node.amswire), (3, 1))
+
+    def test_none(self):
+        self.assertEqual(self.stays(self.ask), (("done", 0), True))
+        self.lend(0)
+        self.node = ZEROS
+        self.assertEqual(self.stays(self.ask), (("done", 0), True))
+
+    def test_as_the_calls_one_by_one(self):
+        script, total = Script(9), 0
+        for kind in (CDP, CDDC) * 12:
+            script.fresh(kind, 4)
+            self.node, self.lent = started(kind)
+            self.lend(40000)
+            beside, lent_beside = started(kind)
+            for _ in range(3):
+                packets = some_list(script, [0x21, 0x22], 40, 25)
+                _, done = self.ask_words(in_a_row(packets).words(), 77)
+                beside = self.one_by_one(packets[:done], beside, lent_beside)
+                self.assertEqual(self.node, beside)
+                for name in ("flash", "memories", "area", "qlist"):
+                    self.assertEqual(getattr(self.lent, name), getattr(lent_beside, name))
+                total += done
+        self.assertGreater(total, 500)
+
+    def one_by_one(self, packets, node, lent):
+        """The node behind the calls of packets; their replies are those that a list of them left."""
+        at = 0
+        for words in (each.words() for each in packets):
+            node, (_, bc, count) = request(node, lent, 77, words[0], words[1], 0, words[3:])
+            self.assertEqual(self.lent.reply[at:at + 2 + count], [bc, count] + lent.reply[:count])
+            at += 2 + count
+        return node
+
+    def test_a_file_in_packets(self):
+        file = self.WRITE[2][1:]
+        answer = self.ask((1, 2, own(0x45, *file[:2])), self.MODE, (1, 0, file[2:4]), (1, 1, file[4:]), (0, 3, own(0x05, 0x0420)))
+        self.assertEqual(answer, ("done", 5))
+        self.assertEqual([bc for bc, _ in self.replies()], [NEXT, 3, NEXT, END, 3])
+        self.assertEqual(self.replies()[-1][1][:-2], file)
+
+    def test_one_clock_for_all(self):
+        self.assertEqual(self.ask((0, 3, own(0x0C)), (1, 3, own(0x0C)), now=0x54321), ("done", 2))
+        self.assertEqual([words[3:6] for _, words in self.replies()], [[0x4321, 5, 0], [0x4321, 5, 1]])
+
+    def stops(self, packet, before=()):
+        """A list stops before a packet, behind others, and all is left as those before it leave it."""
+        self.setUp()
+        self.assertEqual(self.ask(*before), ("done", len(before)))
+        held = self.all_held()
+        self.setUp()
+        self.assertEqual(self.ask(*before, packet, self.SET, self.WRITE), ("done", len(before)))
+        self.assertEqual(self.all_held(), held)
+
+    def test_it_stops(self):
+        asks = ([0x0400, 1], [0x3F17, 1], [0x0040, 1], [0x0123, 0, 1], [0x002A, 1])
+        others = [(4, 3, own(0x12)), (0xFFFF, 2, []), (0, 4, own(0x12)), (0, 7, own(0x12)), (0, 0x103, [])]
+        for packet in [(0, 3, words) for words in asks] + others:
+            for before in ((), (self.MODE,), ((0, 3, own(0x52, 1)), (0, 3, [0x00FF]), (0, 3, own(0x0C)))):
+                self.stops(packet, before)
+
+    def test_no_slave_to_ask(self):
+        self.assertEqual(self.ask((0, 3, [0x0623, 0]), (0, 3, [0x0140, 1]), (0, 3, [0x0600, 1]), self.SET), ("done", 4))
+        self.assertEqual([bc for bc, _ in self.replies()], [ABORT, ABORT, ABORT, END])
+
+    def test_a_request_pending(self):
+        pending = Pending(2, 5, 0)
+        for front, left in (([], pending), ([(1, 2, []), (2, 3, [])], pending), ([(2, 2, [])], None)):
+            self.setUp()
+            self.node = replace(self.node, pending=pending)
+            self.assertEqual(self.ask(*front, self.SET, self.MODE), ("done", len(front) + (2 if left is None else 0)))
+            self.assertEqual((self.node.pending, self.node.mode), (left, 0 if left else 3))
+
+    def test_room(self):
+        for more, done in ((-self.ROOM, 0), (-1, 0), (0, 1), (4, 1), (5, 2), (6, 2), (7, 3)):
+            self.setUp()
+            self.lend(self.ROOM + more)
+            self.assertEqual(self.ask(self.MODE, self.SET, self.MODE)[1], done)
+            self.assertEqual(self.node.mode, 3 if done > 1 else 0)
+            self.assertEqual(set(self.lent.reply[(0, 5, 7, 12)[done]:]) - {0xEEEE}, set())
+
+    def test_a_reply_that_takes_all_of_it(self):
+        self.lend(self.ROOM)
+        self.assertEqual(self.ask((0, 3, own(0x11, 0x4000 | 12284, 0)), self.SET), ("done", 1))
+        self.assertEqual((self.lent.reply[:2], self.node.mode), ([3, 12288], 0))
+        self.assertEqual(self.lent.reply[-1], check_sequence(self.lent.reply[2:-1]))
+
+    def test_past_the_end(self):
+        good, stopping = row_of(self.SET, self.WRITE), row_of((0, 3, [0x0405, 1]))
+        for front in ([], good, stopping, good + stopping + good, row_of((9, 9, []))):
+            for rest in ([0], [0, 3], [0, 3, 1], [0, 3, 2, 0x122E], [0, 3, 0xFFFF], [0, 3, 0xFFFF, 1, 2], [9, 9, 1]):
+                self.assertEqual(self.stays(lambda: self.ask_words(front + rest)), (("refused", 10), True))
+
+    def test_refused_by_10_before_all_else(self):
+        self.lent.area = []
+        self.lend(0)
+        for node in (self.node, ZEROS, replace(self.node, mode=4)):
+            self.node = node
+            self.assertEqual(self.stays(lambda: self.ask_words([0, 3])), (("refused", 10), True))
+
+    def test_refused_alone(self):
+        self.ask(self.MODE)
+        for name, words in (("flash", []), ("area", [0] * 32767), ("qlist", [0] * 7 * 911), ("reply", [0] * 12289)):
+            held = getattr(self.lent, name)
+            setattr(self.lent, name, words)
+            self.assertEqual(self.stays(lambda: self.ask(self.SET, (0, 2, []))), (("done", 0), True))
+            setattr(self.lent, name, held)
+        for node in (ZEROS, replace(self.node, mode=4), replace(self.node, listed=911), replace(self.node, write=Write(4, 0))):
+            self.node = node
+            self.assertEqual(self.stays(lambda: self.ask(self.SET, (0, 2, []))), (("done", 0), True))
 
 
 class Captures(unittest.TestCase):

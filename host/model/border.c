@@ -138,6 +138,19 @@ uint64_t model_request(uint32_t now, uint32_t link, uint32_t bc, uint32_t receiv
     return kept(&node, model_node_request(&border, &node, now, link, bc, receive_error, packet, packet_len / 2, &lent), state);
 }
 
+/* Where no packet is done the state stays as it is: its bytes may be no state's. */
+uint64_t model_requests(uint32_t now, const uint8_t *packets, size_t packets_len, uint8_t *state, size_t state_len, uint8_t *flash,
+                        size_t flash_len, uint8_t *pm, size_t pm_len, uint8_t *dm, size_t dm_len, uint8_t *io, size_t io_len,
+                        uint8_t *area, size_t area_len, uint8_t *list, size_t list_len, uint8_t *replies, size_t replies_len) {
+    struct lent lent = {words_of(flash, flash_len), {pm, pm_len / 4},         words_of(dm, dm_len),          words_of(io, io_len),
+                        words_of(area, area_len),   words_of(list, list_len), words_of(replies, replies_len)};
+    struct node node = node_for_call(state, state_len, lent.flash.words);
+    uint64_t answer = model_node_requests(&border, &node, now, packets, packets_len / 2, &lent);
+    if (answer >> 32 != 0)
+        encode(&node, state);
+    return answer;
+}
+
 uint64_t model_reply(uint32_t now, uint32_t slave, uint32_t bc, uint32_t receive_error, uint16_t rx_status, uint16_t rx_address,
                      const uint8_t *packet, size_t packet_len, uint8_t *state, size_t state_len, uint8_t *reply, size_t reply_len) {
     struct node node = node_for_call(state, state_len, 0);

@@ -117,13 +117,15 @@ uint16_t model_list_close_up(struct run list, uint16_t listed); /* answers how m
 size_t model_list_read(struct run list, uint16_t listed, uint8_t *reply); /* answers how many words it put there */
 bool model_list_step(struct run list, size_t place, uint32_t now); /* whether the entry is handed out */
 
-/* The six calls (node.c), with the number that they answer. */
+/* The seven calls (node.c), with the number that they answer. */
 
 uint32_t model_node_start(const struct limits *limits, struct node *node, uint32_t kind, uint32_t ports, uint32_t subdetector,
                           uint16_t program_version, uint16_t subdetector_version, uint16_t start_tests, uint32_t clock,
                           struct run flash);
 uint64_t model_node_request(const struct limits *limits, struct node *node, uint32_t now, uint32_t link, uint32_t bc,
                             uint32_t receive_error, const uint8_t *packet, size_t n, const struct lent *lent);
+uint64_t model_node_requests(const struct limits *limits, struct node *node, uint32_t now, const uint8_t *packets, size_t n,
+                             const struct lent *lent); /* lent the run of the replies as its reply buffer */
 uint64_t model_node_reply(const struct limits *limits, struct node *node, uint32_t now, uint32_t slave, uint32_t bc,
                           uint32_t receive_error, uint16_t rx_status, uint16_t rx_address, const uint8_t *packet, size_t n,
                           struct run reply);
@@ -140,6 +142,9 @@ uint64_t model_request(uint32_t now, uint32_t link, uint32_t bc, uint32_t receiv
                        uint8_t *state, size_t state_len, uint8_t *flash, size_t flash_len, uint8_t *pm, size_t pm_len, uint8_t *dm,
                        size_t dm_len, uint8_t *io, size_t io_len, uint8_t *area, size_t area_len, uint8_t *list, size_t list_len,
                        uint8_t *reply, size_t reply_len);
+uint64_t model_requests(uint32_t now, const uint8_t *packets, size_t packets_len, uint8_t *state, size_t state_len, uint8_t *flash,
+                        size_t flash_len, uint8_t *pm, size_t pm_len, uint8_t *dm, size_t dm_len, uint8_t *io, size_t io_len,
+                        uint8_t *area, size_t area_len, uint8_t *list, size_t list_len, uint8_t *replies, size_t replies_len);
 uint64_t model_reply(uint32_t now, uint32_t slave, uint32_t bc, uint32_t receive_error, uint16_t rx_status, uint16_t rx_address,
                      const uint8_t *packet, size_t packet_len, uint8_t *state, size_t state_len, uint8_t *reply, size_t reply_len);
 uint64_t model_poll(uint32_t now, uint8_t *state, size_t state_len, uint8_t *reply, size_t reply_len);

@@ -1,4 +1,5 @@
-/* 01 'Call refusals', 'Requests', 'Group assembly', 'State and status reply', and 02, requests 1, 2, 7 and 8: the node and its six calls. */
+/* 01 'Call refusals', 'Requests', 'Group assembly', 'State and status reply', and 02, requests 1, 2, 7, 8 and 9: the node and its
+   seven calls. */
 #include "model.h"
 
 #include <string.h>
@@ -12,6 +13,11 @@ static uint64_t waiting(void) { return 3u << 8; }
 static uint64_t next_of(unsigned slave) { return 8u << 8 | slave << 16; }
 static uint64_t handed(unsigned place) { return 6u << 8 | (uint64_t)place << 32; }
 static uint64_t nothing(void) { return 7u << 8; }
+
+static bool is_reply(uint64_t answer) { return (answer & 0xFFFF) == 1u << 8; }
+static bool is_ask(uint64_t answer) { return (answer & 0xFFFF) == 2u << 8; }
+static unsigned reply_bc(uint64_t reply) { return reply >> 16 & 0xFF; }
+static size_t reply_words(uint64_t reply) { return (size_t)(reply >> 32); }
 
 static void count_error(uint16_t *count) {
     if (*count != 0xFFFF)
@@ -503,6 +509,53 @@ uint64_t model_node_request(const struct limits *limits, struct node *node, uint
     if (receive_error != 0)
         return error_of(node);
     return n == 0 ? no_words(node, link, bc & 3) : with_words(node, now, link, bc & 3, packet, n, lent);
+}
+
+/* A list of requests (02, request 9). */
+
+enum { BEFORE_PACKET = 3, BEFORE_REPLY = 2, REPLY_ROOM = BEFORE_REPLY + AREA }; /* link, BC, length; BC, length */
+
+/* The words of packets, and of the three words before each, up to the first that runs past the end. */
+static size_t whole_packets(const uint8_t *packets, size_t n) {
+    size_t at = 0;
+    while (n - at >= BEFORE_PACKET && n - at - BEFORE_PACKET >= word_at(packets, at + 2))
+        at += BEFORE_PACKET + word_at(packets, at + 2);
+    return at;
+}
+
+/* The call of the packet whose three words stand there. Its reply, behind two words, is put at the start of what is left of the run; it
+   answers how many words that took, 0 where the list stops before the packet. */
+static size_t next_request(const struct limits *limits, struct node *node, uint32_t now, const uint8_t *packet, const struct lent *lent,
+                           struct run left) {
+    unsigned link = word_at(packet, 0), bc = word_at(packet, 1);
+    if (bc > 3 || left.words < REPLY_ROOM)
+        return 0;
+    struct lent alone = *lent;
+    alone.reply = (struct run){left.bytes + 2 * BEFORE_REPLY, AREA}; /* no reply has more words */
+    uint64_t answer = model_node_request(limits, node, now, link, bc, 0, packet + 2 * BEFORE_PACKET, word_at(packet, 2), &alone);
+    if (is_ask(answer))
+        drop(node); /* nothing was pending before it, or it would have been refused */
+    if (!is_reply(answer))
+        return 0;
+    put_word(left.bytes, 0, reply_bc(answer));
+    put_word(left.bytes, 1, (unsigned)reply_words(answer));
+    return BEFORE_REPLY + reply_words(answer);
+}
+
+uint64_t model_node_requests(const struct limits *limits, struct node *node, uint32_t now, const uint8_t *packets, size_t n,
+                             const struct lent *lent) {
+    struct run left = lent->reply;
+    uint64_t done = 0;
+    if (whole_packets(packets, n) != n)
+        return 10;
+    for (size_t at = 0; at < n; at += BEFORE_PACKET + word_at(packets, at + 2)) {
+        size_t filled = next_request(limits, node, now, packets + 2 * at, lent, left);
+        if (filled == 0)
+            break;
+        left = (struct run){left.bytes + 2 * filled, left.words - filled};
+        done++;
+    }
+    return done << 32;
 }
 
 /* Slave replies. */

@@ -11,18 +11,21 @@
 
 /* What is lent, twice: to the library and to the model. Guard bytes stand behind each run. */
 
-enum { STATE_RUN, FLASH_RUN, PM_RUN, DM_RUN, IO_RUN, AREA_RUN, LIST_RUN, REPLY_RUN, RUNS };
+enum { STATE_RUN, FLASH_RUN, PM_RUN, DM_RUN, IO_RUN, AREA_RUN, LIST_RUN, REPLY_RUN, REPLIES_RUN, RUNS };
 enum { GUARD = 16 };
-static const char *const run_names[RUNS] = {"state", "flash", "pm", "dm", "io", "area", "list", "reply"};
+enum { REPLY_ROOM = 12290, REPLIES_BYTES = 2 * (REPLY_ROOM + 8000) }; /* words that a packet of a list has to find; what is lent */
+static const char *const run_names[RUNS] = {"state", "flash", "pm", "dm", "io", "area", "list", "reply", "replies"};
 static const size_t room[RUNS] = {LOGODWEN_STATE_BYTES + 8, LOGODWEN_FLASH_BYTES + 8,
                                   LOGODWEN_PM_BYTES + 8,    LOGODWEN_DM_BYTES + 8,
                                   LOGODWEN_IO_BYTES + 8,    LOGODWEN_AREA_BYTES + 8,
-                                  LOGODWEN_LIST_BYTES + 2 * LOGODWEN_RECORD_BYTES, LOGODWEN_REPLY_BYTES + 8};
+                                  LOGODWEN_LIST_BYTES + 2 * LOGODWEN_RECORD_BYTES, LOGODWEN_REPLY_BYTES + 8,
+                                  REPLIES_BYTES + 8};
 static uint8_t *library[RUNS], *model[RUNS]; /* two worlds */
 static size_t lent_bytes[RUNS];
 
 static const size_t usual_bytes[RUNS] = {LOGODWEN_STATE_BYTES, LOGODWEN_FLASH_BYTES, 0, 0, 0,
-                                         LOGODWEN_AREA_BYTES,  0,                    LOGODWEN_REPLY_BYTES};
+                                         LOGODWEN_AREA_BYTES,  0,                    LOGODWEN_REPLY_BYTES,
+                                         REPLIES_BYTES};
 
 /* Where a length of 0 is lent, sometimes as NULL. */
 static uint8_t *lend(uint8_t *const *world, int run) { return lent_bytes[run] == 0 ? NULL : world[run]; }
@@ -45,7 +48,7 @@ static uint64_t seed;
 static unsigned long calls;
 static char call_text[256];
 static uint64_t answered;               /* the last one */
-static unsigned long tallies[6][16][9]; /* by call, by refusal, by answer */
+static unsigned long tallies[7][16][9]; /* by call, by refusal, by answer */
 static unsigned long commands[256][3];  /* own commands answered with words, END, ABORT */
 
 static void differs(const char *what, size_t at, uint64_t by_library, uint64_t by_model) {
@@ -77,7 +80,8 @@ static void compare(int call, uint64_t by_library, uint64_t by_model, const int 
 
 static const int start_runs[] = {STATE_RUN, -1}, slave_runs[] = {STATE_RUN, REPLY_RUN, -1},
                  erase_runs[] = {STATE_RUN, FLASH_RUN, -1}, slow_runs[] = {STATE_RUN, LIST_RUN, -1},
-                 all_runs[] = {STATE_RUN, FLASH_RUN, PM_RUN, DM_RUN, IO_RUN, AREA_RUN, LIST_RUN, REPLY_RUN, -1};
+                 request_runs[] = {STATE_RUN, FLASH_RUN, PM_RUN, DM_RUN, IO_RUN, AREA_RUN, LIST_RUN, REPLY_RUN, -1},
+                 series_runs[] = {STATE_RUN, FLASH_RUN, PM_RUN, DM_RUN, IO_RUN, AREA_RUN, LIST_RUN, REPLIES_RUN, -1};
 
 /* A File Write in several packets that stands, as the state says it, and how many requests of each kind acted on one: by 02,
    request 1, and by what came of it. The last two kinds, which leave it alone, count as none. */
@@ -376,6 +380,80 @@ static void count_step(struct logodwen_record was, uint64_t answer) {
         on_list[listed() == 0 ? NONE_LISTED : was.repetitions == 0 ? EXPIRED : NOT_DUE]++;
 }
 
+/* A list of requests (02, request 9): its packets in a row, and how many calls of each kind had one. */
+
+enum { BEFORE_PACKET = 6, BEFORE_REPLY = 4 }; /* bytes: link, BC and length; BC and length */
+
+static uint8_t series[400000]; /* of the call now made */
+static size_t series_bytes, series_last; /* all of it, and where its last packet begins */
+
+enum series_kind {
+    NO_PACKETS,
+    ALL_DONE,
+    STOPS_ASKING,
+    STOPS_AT_LINK,
+    STOPS_AT_BC,
+    STOPS_WITHOUT_ROOM,
+    STOPS_WHILE_PENDING,
+    STOPS_REFUSED,
+    ENDS_IN_FIRST,
+    ENDS_IN_LATER,
+    SERIES_KINDS
+};
+static const char *const series_names[SERIES_KINDS] = {
+    [NO_PACKETS] = "no packets",
+    [ALL_DONE] = "all done",
+    [STOPS_ASKING] = "stops at a packet that would ask a slave",
+    [STOPS_AT_LINK] = "stops at a link that is no port",
+    [STOPS_AT_BC] = "stops at a BC above 3",
+    [STOPS_WITHOUT_ROOM] = "stops without room",
+    [STOPS_WHILE_PENDING] = "stops while a request is pending",
+    [STOPS_REFUSED] = "stops where a size or the state is refused",
+    [ENDS_IN_FIRST] = "its first packet runs past its end",
+    [ENDS_IN_LATER] = "a later packet runs past its end",
+};
+static unsigned long in_series[SERIES_KINDS], packets_done;
+
+/* The packet behind so many others. */
+static const uint8_t *packet_behind(uint32_t packets) {
+    const uint8_t *at = series;
+    for (; packets > 0; packets--)
+        at += BEFORE_PACKET + 2 * (size_t)logodwen_get(at, 2);
+    return at;
+}
+
+/* The bytes that so many replies take. */
+static size_t bytes_of_replies(uint32_t replies) {
+    size_t at = 0;
+    for (; replies > 0; replies--)
+        at += BEFORE_REPLY + 2 * (size_t)logodwen_get(model[REPLIES_RUN] + at, 1);
+    return at;
+}
+
+static enum series_kind why_stopped(uint32_t done) {
+    const uint8_t *at = packet_behind(done);
+    size_t words = logodwen_get(at, 2);
+    if (logodwen_get(at, 1) > 3)
+        return STOPS_AT_BC;
+    if (logodwen_get(at, 0) >= model[STATE_RUN][LOGODWEN_AT_PORTS])
+        return STOPS_AT_LINK;
+    if ((lent_bytes[REPLIES_RUN] - bytes_of_replies(done)) / 2 < REPLY_ROOM)
+        return STOPS_WITHOUT_ROOM;
+    if (model[STATE_RUN][LOGODWEN_AT_PENDING] != 0 && words != 0)
+        return STOPS_WHILE_PENDING;
+    return words == 0 || at[BEFORE_PACKET] == 0x2E ? STOPS_REFUSED : STOPS_ASKING;
+}
+
+static enum series_kind series_kind(uint64_t answer) {
+    size_t bytes = series_bytes - series_bytes % 2;
+    uint32_t done = (uint32_t)(answer >> 32);
+    if (logodwen_refusal(answer) != 0)
+        return bytes < BEFORE_PACKET || bytes - BEFORE_PACKET < 2 * (size_t)logodwen_get(series, 2) ? ENDS_IN_FIRST : ENDS_IN_LATER;
+    if (packet_behind(done) == series + bytes)
+        return bytes == 0 ? NO_PACKETS : ALL_DONE;
+    return why_stopped(done);
+}
+
 /* Calls. */
 
 static uint32_t now;
@@ -414,7 +492,7 @@ static uint64_t call_request(uint32_t link, uint32_t bc, uint32_t receive_error)
                                lend(model, DM_RUN), lent_bytes[DM_RUN], lend(model, IO_RUN), lent_bytes[IO_RUN],
                                lend(model, AREA_RUN), lent_bytes[AREA_RUN], lend(model, LIST_RUN), lent_bytes[LIST_RUN],
                                lend(model, REPLY_RUN), lent_bytes[REPLY_RUN]);
-    compare(1, a, b, all_runs);
+    compare(1, a, b, request_runs);
     count_write(was, link, bc & 3, receive_error != 0, words, packet_bytes / 2, b);
     count_dropped(asked);
     on_list[LIST_REFUSED] += logodwen_refusal(b) == LOGODWEN_REFUSED_LIST_SIZE;
@@ -422,6 +500,32 @@ static uint64_t call_request(uint32_t link, uint32_t bc, uint32_t receive_error)
         commands[packet[1]][logodwen_words(b) != 0 ? 0 : logodwen_bc(b) == LOGODWEN_BC_END ? 1 : 2]++;
         count_command(before, b);
     }
+    return b;
+}
+
+static uint64_t call_requests(void) {
+    snprintf(
+        call_text, sizeof call_text,
+        "requests(now %08x, packets %zu bytes, state %zu, flash %zu, pm %zu, dm %zu, io %zu, area %zu, list %zu, replies %zu)", now,
+        series_bytes, lent_bytes[STATE_RUN], lent_bytes[FLASH_RUN], lent_bytes[PM_RUN], lent_bytes[DM_RUN], lent_bytes[IO_RUN],
+        lent_bytes[AREA_RUN], lent_bytes[LIST_RUN], lent_bytes[REPLIES_RUN]);
+    const uint8_t *packets = series_bytes == 0 ? NULL : series;
+    struct group asked = group();
+    uint64_t a =
+        logodwen_requests(now, packets, series_bytes, lend(library, STATE_RUN), lent_bytes[STATE_RUN], lend(library, FLASH_RUN),
+                          lent_bytes[FLASH_RUN], lend(library, PM_RUN), lent_bytes[PM_RUN], lend(library, DM_RUN),
+                          lent_bytes[DM_RUN], lend(library, IO_RUN), lent_bytes[IO_RUN], lend(library, AREA_RUN),
+                          lent_bytes[AREA_RUN], lend(library, LIST_RUN), lent_bytes[LIST_RUN], lend(library, REPLIES_RUN),
+                          lent_bytes[REPLIES_RUN]);
+    uint64_t b = model_requests(now, packets, series_bytes, lend(model, STATE_RUN), lent_bytes[STATE_RUN], lend(model, FLASH_RUN),
+                                lent_bytes[FLASH_RUN], lend(model, PM_RUN), lent_bytes[PM_RUN], lend(model, DM_RUN),
+                                lent_bytes[DM_RUN], lend(model, IO_RUN), lent_bytes[IO_RUN], lend(model, AREA_RUN),
+                                lent_bytes[AREA_RUN], lend(model, LIST_RUN), lent_bytes[LIST_RUN], lend(model, REPLIES_RUN),
+                                lent_bytes[REPLIES_RUN]);
+    compare(6, a, b, series_runs);
+    count_dropped(asked);
+    in_series[series_kind(b)]++;
+    packets_done += b >> 32;
     return b;
 }
 
@@ -857,6 +961,117 @@ static void step_write(void) {
     }
 }
 
+/* Lists of requests. */
+
+static void put_series_word(unsigned value) {
+    logodwen_put(series + series_bytes, 0, (uint16_t)value);
+    series_bytes += 2;
+}
+
+/* The packet made last joins the list, where it has room. */
+static void add_packet(uint32_t link, uint32_t bc) {
+    size_t words = packet_bytes / 2;
+    if (words > 0xFFFF || series_bytes + BEFORE_PACKET + 2 * words > sizeof series - 8) /* what breaks a list adds a few bytes */
+        return;
+    series_last = series_bytes;
+    put_series_word(link);
+    put_series_word(bc);
+    put_series_word((unsigned)words);
+    memcpy(series + series_bytes, packet, 2 * words);
+    series_bytes += 2 * words;
+}
+
+/* A link, mostly not that of a write that stands, which would break it off. */
+static uint32_t some_link(void) {
+    struct standing was = standing();
+    uint32_t ports = model[STATE_RUN][LOGODWEN_AT_PORTS];
+    return was.stands && ports > 1 && !one_in(10) ? other_link(was.link) : below(ports == 0 ? 1 : ports);
+}
+
+/* A packet of any kind, mostly of an own command. */
+static void add_some(void) {
+    uint32_t link = one_in(60) ? wild() : some_link(), bc = one_in(60) ? wild() : one_in(25) ? below(4) : 3;
+    if (one_in(40))
+        forwarded_request();
+    else if (one_in(25))
+        any_packet();
+    else if (one_in(8))
+        list_command();
+    else
+        own_command();
+    if (one_in(15))
+        damage();
+    if (one_in(pending() != 0 ? 2 : 20)) { /* with a request pending, words stop the list */
+        packet_bytes = 0;
+        bc = one_in(4) ? 3 : 2;
+    }
+    add_packet(link, bc);
+}
+
+/* A file, and commands on it behind. */
+static void add_file(uint32_t link) {
+    unsigned name = below(256);
+    own(0x45);
+    put_file(name);
+    add_packet(link, 3);
+    for (unsigned left = 1 + below(3); left > 0; left--) {
+        file_command(name);
+        add_packet(link, 3);
+    }
+}
+
+/* A file in several packets, mostly all of it, with those of other links between. */
+static void add_file_in_packets(uint32_t link) {
+    new_image();
+    put_first();
+    add_packet(link, 2);
+    for (bool over = false; !over && !one_in(8);) {
+        packet_bytes = 0;
+        over = put_piece();
+        add_packet(link, over);
+        if (one_in(4)) {
+            own_command();
+            add_packet(other_link(link), 3);
+        }
+    }
+}
+
+/* One of the ways in which a list runs past its end: a word or two left over, a length too large, an end that comes too soon. */
+static void break_series(void) {
+    unsigned length = series_bytes == 0 ? 0 : logodwen_get(series + series_last, 2);
+    unsigned way = below(4);
+    if (way == 0 || series_bytes == 0)
+        for (unsigned left = 1 + below(2); left > 0; left--)
+            put_series_word(any() & 0xFFFF);
+    else if (way == 1)
+        logodwen_put(series + series_last, 2, (uint16_t)(length + 1));
+    else if (way == 2)
+        logodwen_put(series + series_last, 2, (uint16_t)(one_in(2) ? 0xFFFF : any()));
+    else
+        series_bytes = below((uint32_t)series_bytes);
+}
+
+/* Just the room that a packet has to find, or a word less or more; for a few replies more; or any. */
+static size_t few_bytes_for_replies(void) {
+    unsigned odd = below(2);
+    return one_in(8) ? below((uint32_t)room[REPLIES_RUN]) : odd + 2 * (one_in(2) ? REPLY_ROOM - 1 + below(3) : REPLY_ROOM + below(300));
+}
+
+static void step_series(void) {
+    size_t before = lent_bytes[REPLIES_RUN];
+    series_bytes = series_last = 0;
+    for (unsigned left = below(one_in(3) ? 21 : 6); left > 0; left--)
+        one_in(12) ? add_file(some_link()) : one_in(12) ? add_file_in_packets(some_link()) : add_some();
+    if (one_in(8))
+        break_series();
+    if (one_in(8))
+        series[series_bytes++] = (uint8_t)any(); /* an unfinished last word */
+    if (one_in(3))
+        lent_bytes[REPLIES_RUN] = few_bytes_for_replies();
+    call_requests();
+    lent_bytes[REPLIES_RUN] = before;
+}
+
 /* What a slave says: nothing, or words that end with their FCS. */
 static void slave_words(void) {
     packet_bytes = 0;
@@ -1074,9 +1289,11 @@ static void step_state(void) {
         break;
     }
     for (int turn = 0; turn < 3; turn++) {
-        int kind = (int)below(8);
+        int kind = (int)below(9);
         if (kind == 0)
             step_request();
+        else if (kind == 8)
+            one_in(2) ? step_series() : step_write();
         else if (kind == 7)
             one_in(2) ? step_slow() : step_list();
         else if (kind >= 5)
@@ -1153,16 +1370,19 @@ static void step_name_twice(void) {
 static void step_lengths(void) {
     size_t before[RUNS];
     memcpy(before, lent_bytes, sizeof before);
-    for (unsigned turn = 1 + below(2); turn > 0; turn--) {
+    for (unsigned turn = 1 + below(3); turn > 0; turn--) {
         int run = (int)below(RUNS);
         static const size_t most[RUNS] = {LOGODWEN_STATE_BYTES, LOGODWEN_FLASH_BYTES, LOGODWEN_PM_BYTES,
                                           LOGODWEN_DM_BYTES,    LOGODWEN_IO_BYTES,    LOGODWEN_AREA_BYTES,
-                                          LOGODWEN_LIST_BYTES + LOGODWEN_RECORD_BYTES, LOGODWEN_REPLY_BYTES};
+                                          LOGODWEN_LIST_BYTES + LOGODWEN_RECORD_BYTES, LOGODWEN_REPLY_BYTES,
+                                          2 * REPLY_ROOM};
         lent_bytes[run] = one_in(5) ? 0 : one_in(4) ? below((uint32_t)room[run]) : most[run] - 4 + below(9);
     }
-    int kind = (int)below(9);
+    int kind = (int)below(10);
     if (kind == 0)
         step_start();
+    else if (kind == 9)
+        step_series();
     else if (kind == 1)
         call_poll();
     else if (kind == 2)
@@ -1200,8 +1420,10 @@ static void step(void) {
     unsigned erasing = model[STATE_RUN][LOGODWEN_AT_ERASING];
     if (logodwen_refusal(answered) == LOGODWEN_REFUSED_STATE && one_in(3))
         step_start();
+    else if (one_in(pending() != 0 ? 60 : standing().stands ? 16 : 5))
+        step_series();
     else if (pending() != 0 && !one_in(10))
-        one_in(20) ? step_all_alike() : step_slave();
+        one_in(20) ? step_all_alike() : one_in(40) ? step_slow() : step_slave();
     else if (erasing != 0 && one_in(3))
         step_erase();
     else if (one_in(50))
@@ -1210,7 +1432,7 @@ static void step(void) {
         one_in(3) ? step_entry() : one_in(2) ? step_remains() : step_name_twice();
     else if (one_in(25))
         step_state();
-    else if (one_in(25))
+    else if (one_in(20))
         step_lengths();
     else if (one_in(60))
         one_in(2) ? (void)call_poll() : step_erase();
@@ -1220,7 +1442,7 @@ static void step(void) {
         step_group();
     else if (pending() == 0 && one_in(6))
         step_list();
-    else if (standing().stands ? one_in(20) : one_in(4))
+    else if (standing().stands ? one_in(40) : one_in(8))
         step_request();
     else
         step_write();
@@ -1236,6 +1458,7 @@ static void fresh(void) {
     lent_bytes[AREA_RUN] += below(4);
     lent_bytes[LIST_RUN] = one_in(4) ? LOGODWEN_LIST_BYTES + below(LOGODWEN_RECORD_BYTES) : below(12 * LOGODWEN_RECORD_BYTES);
     lent_bytes[REPLY_RUN] += below(4);
+    lent_bytes[REPLIES_RUN] += below(4);
     lent_bytes[FLASH_RUN] += below(2);
     if (one_in(2))
         blank();
@@ -1255,17 +1478,17 @@ static void make_worlds(void) {
 }
 
 static void print_tallies(void) {
-    static const char *const names[] = {"start", "request", "reply", "poll", "erase", "slow"};
-    for (int call = 0; call < 6; call++) {
+    static const char *const names[] = {"start", "request", "reply", "poll", "erase", "slow", "requests"};
+    for (int call = 0; call < 7; call++) {
         printf("  %-8s", names[call]);
-        if (call == 0 || call == 4)
+        if (call == 0 || call == 4 || call == 6)
             printf(" done %lu", tallies[call][0][0]);
         else if (call == 5)
             printf(" handed out %lu, nothing %lu", tallies[call][0][LOGODWEN_HANDED], tallies[call][0][LOGODWEN_NOTHING]);
         else
             printf(" reply %lu, ask %lu, send NEXT %lu, waiting %lu", tallies[call][0][LOGODWEN_REPLY], tallies[call][0][LOGODWEN_ASK],
                    tallies[call][0][LOGODWEN_SEND_NEXT], tallies[call][0][LOGODWEN_WAITING]);
-        for (int refusal = 1; refusal < 10; refusal++)
+        for (int refusal = 1; refusal < 11; refusal++)
             if (tallies[call][refusal][0] != 0)
                 printf(", refused by %d %lu", refusal, tallies[call][refusal][0]);
         printf("\n");
@@ -1293,6 +1516,12 @@ static void print_tallies(void) {
     printf("  calls on the list: %lu calls fall on the Q-List\n", of_list);
     for (int kind = 0; kind < LIST_KINDS; kind++)
         printf("  call on the list, %s: %lu\n", list_names[kind], on_list[kind]);
+    unsigned long of_series = 0;
+    for (int kind = 0; kind < SERIES_KINDS; kind++)
+        of_series += in_series[kind];
+    printf("  lists of requests: %lu calls, with %lu packets done\n", of_series, packets_done);
+    for (int kind = 0; kind < SERIES_KINDS; kind++)
+        printf("  list of requests, %s: %lu\n", series_names[kind], in_series[kind]);
 }
 
 int main(int count, char **arguments) {
@@ -1308,8 +1537,8 @@ int main(int count, char **arguments) {
         fresh();
         for (unsigned long until = calls + 50 + below(250); calls < until && calls < wanted;)
             step();
-        for (const int *run = all_runs; *run >= 0; run++)
-            compare_run(*run);
+        for (int run = 0; run < RUNS; run++)
+            compare_run(run);
     }
     printf("differ: seed %" PRIu64 ": %lu calls, no difference between the library and the model\n", seed, calls);
     print_tallies();

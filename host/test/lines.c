@@ -8,7 +8,7 @@
 
 enum { FLASH, PROGRAM, DATA_MEMORY, REGISTERS, BUFFER, JOINING, LISTING, MEMORIES };
 enum { MOST_WORDS = 1024, MOST_RUN = 65552, NODE_WORDS = 101 };
-static const size_t rooms[MEMORIES] = {262160, 32784, 32784, 4112, 12304, 32784, 6386};
+static const size_t rooms[MEMORIES] = {262160, 32784, 32784, 4112, 16400, 32784, 6386};
 static const struct limits wide = {32768, 32768, 4096, SIZE_MAX, true};
 
 static uint8_t *memories[MEMORIES];
@@ -212,11 +212,21 @@ static uint64_t start(void) {
                             (uint32_t)number(2), lent_run(FLASH));
 }
 
+static struct lent lent_to_requests(void) {
+    return (struct lent){lent_run(FLASH),   lent_run(PROGRAM), lent_run(DATA_MEMORY), lent_run(REGISTERS),
+                         lent_run(JOINING), lent_run(LISTING), lent_run(BUFFER)};
+}
+
 static uint64_t request(void) {
     uint32_t now = (uint32_t)number(2), link = (uint32_t)number(2), bc = (uint32_t)number(1), error = (uint32_t)number(1);
-    struct lent lent = {lent_run(FLASH),   lent_run(PROGRAM), lent_run(DATA_MEMORY), lent_run(REGISTERS),
-                        lent_run(JOINING), lent_run(LISTING), lent_run(BUFFER)};
+    struct lent lent = lent_to_requests();
     return model_node_request(&wide, &node, now, link, bc, error, run_bytes, run_of_line(run_bytes), &lent);
+}
+
+static uint64_t requests(void) {
+    uint32_t now = (uint32_t)number(2);
+    struct lent lent = lent_to_requests();
+    return model_node_requests(&wide, &node, now, run_bytes, run_of_line(run_bytes), &lent);
 }
 
 static uint64_t reply(void) {
@@ -241,6 +251,8 @@ static void print_answer(int does, uint64_t answer) {
         printf("started");
     else if (does == 5)
         printf("erased %u", (unsigned)(answer >> 32));
+    else if (does == 13)
+        printf("done %u", (unsigned)(answer >> 32));
     else if (kind == 1)
         print_reply(answer);
     else if (kind == 2)
@@ -257,12 +269,13 @@ static void print_answer(int does, uint64_t answer) {
 
 static void call(int does) {
     unsigned show = (unsigned)number(1);
-    uint64_t answer = does == 1   ? start()
-                      : does == 2 ? request()
-                      : does == 3 ? reply()
-                      : does == 4 ? model_node_poll(&node, (uint32_t)number(2), lent_run(BUFFER))
-                      : does == 5 ? model_node_erase(&wide, &node, number(4), lent_run(FLASH))
-                                  : model_node_slow(&node, (uint32_t)number(2), lent_run(LISTING));
+    uint64_t answer = does == 1    ? start()
+                      : does == 2  ? request()
+                      : does == 3  ? reply()
+                      : does == 4  ? model_node_poll(&node, (uint32_t)number(2), lent_run(BUFFER))
+                      : does == 5  ? model_node_erase(&wide, &node, number(4), lent_run(FLASH))
+                      : does == 13 ? requests()
+                                   : model_node_slow(&node, (uint32_t)number(2), lent_run(LISTING));
     printf("%04x ", digest_of_node());
     print_answer(does, answer);
     for (int memory = 0; memory < MEMORIES; memory++)

@@ -16,6 +16,7 @@ use crate::reading::double;
 use crate::reading::narrow;
 use crate::reading::run_of;
 use crate::saying::say_answer;
+use crate::saying::say_done;
 use crate::saying::say_run;
 use crate::saying::say_word;
 use node::Node;
@@ -63,10 +64,10 @@ fn list_room() -> [u16; 6386]
     [0; 6386]
 }
 
-fn reply_room() -> [u16; 12304]
-    ensures { λ r. ⌜ length r ≡ 12304 ⌝ }
+fn reply_room() -> [u16; 16400]
+    ensures { λ r. ⌜ length r ≡ 16400 ⌝ }
 {
-    [0; 12304]
+    [0; 16400]
 }
 
 // The longest run of a line, and the words of a line themselves.
@@ -172,7 +173,7 @@ fn call(
 }
 
 // A call, and what it prints.
-fn answer(
+fn answer_one(
     line: &[u16],
     run: &[u16],
     node: Node,
@@ -192,6 +193,48 @@ fn answer(
     say_answer(answer, reply);
     show(feed::item(line, 1), flash, pm, dm, io, area, list, reply);
     next
+}
+
+// A list of requests, its packets the run, and what it prints. The reply buffer is lent for the replies.
+fn answer_list(
+    line: &[u16],
+    run: &[u16],
+    node: Node,
+    flash: &mut [u16],
+    pm: &mut [u32],
+    dm: &mut [u16],
+    io: &mut [u16],
+    area: &mut [u16],
+    list: &mut [u16],
+    reply: &mut [u16],
+) -> Node {
+    let clock = double(line, 2);
+    let all = series::requests(node, clock, run, flash, pm, dm, io, area, list, reply);
+    let next = all.node;
+    let done = all.done;
+    let words = words_of(next);
+    say_word(feed::digest(&words));
+    say_done(done);
+    show(feed::item(line, 1), flash, pm, dm, io, area, list, reply);
+    next
+}
+
+fn answer(
+    line: &[u16],
+    run: &[u16],
+    node: Node,
+    flash: &mut [u16],
+    pm: &mut [u32],
+    dm: &mut [u16],
+    io: &mut [u16],
+    area: &mut [u16],
+    list: &mut [u16],
+    reply: &mut [u16],
+) -> Node {
+    match feed::item(line, 0) {
+        13 => answer_list(line, run, node, flash, pm, dm, io, area, list, reply),
+        _ => answer_one(line, run, node, flash, pm, dm, io, area, list, reply),
+    }
 }
 
 // A call on the first words of each memory, as many as are lent.

@@ -80,14 +80,14 @@ fn run_at(line: &[u16], at: usize, run: &mut [u16]) -> usize
     lay_run(&line[from..], front, many, seed, run)
 }
 
-// The run of a line: the packet of a request, the words of a slave's reply, or what is put into a memory. Other lines have none.
+// The run of a line: the packet of a request, the words of a slave's reply, what is put into a memory, or a list of requests. Other lines have none.
 pub fn run_of(line: &[u16], run: &mut [u16]) -> usize
     ensures { λ r. ⌜ r ≤ length (now (run .exit)) ⌝ }
 {
     match feed::item(line, 0) {
         2 => run_at(line, 8, run),
         3 => run_at(line, 10, run),
-        7 => run_at(line, 4, run),
+        7 | 13 => run_at(line, 4, run),
         _ => 0,
     }
 }

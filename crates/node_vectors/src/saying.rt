@@ -2,8 +2,10 @@
 use group::Reply;
 use node::Answer;
 use node::Asking;
+use node::Refusal;
 use node::refusals::refusal_number;
 use qlist::Slow;
+use series::Done;
 
 pub fn say_word(word: u16) {
     io::print_hex(1, word as u64, 4);
@@ -63,13 +65,26 @@ fn say_slow(slow: Slow) {
     }
 }
 
+fn say_refusal(refusal: Refusal) {
+    io::write_all(1, b" refused");
+    say_number(refusal_number(refusal) as u64);
+}
+
+// What a list of requests says: how many of its packets were done.
+pub fn say_done(done: Done) {
+    match done {
+        Done::Refused(refusal) => say_refusal(refusal),
+        Done::Packets(count) => {
+            io::write_all(1, b" done");
+            say_number(count as u64);
+        }
+    }
+}
+
 // The answer, one space before it.
 pub fn say_answer(answer: Answer, buffer: &[u16]) {
     match answer {
-        Answer::Refused(refusal) => {
-            io::write_all(1, b" refused");
-            say_number(refusal_number(refusal) as u64);
-        }
+        Answer::Refused(refusal) => say_refusal(refusal),
         Answer::Started => {
             io::write_all(1, b" started");
         }

@@ -10,7 +10,7 @@ abbrev Inv-loop : tie.InvT-loop
 Inv-loop bytes₀ words₀ flash₀ pm₀ dm₀ io₀ area₀ list₀ reply₀ run₀ node₀ lent₀ line₀ turns₀ bytes words flash pm dm io area list reply run node lent line turns =
     ((length bytes ≡ 65536) × (length words ≡ 200) × (length run ≡ 65552))
     × ((length flash ≡ 262160) × (length pm ≡ 32784) × (length dm ≡ 32784))
-    × ((length io ≡ 4112) × (length area ≡ 32784) × (length list ≡ 6386) × (length reply ≡ 12304))
+    × ((length io ≡ 4112) × (length area ≡ 32784) × (length list ≡ 6386) × (length reply ≡ 16400))
 
 abbrev μ-loop : tie.MeasureT-loop
 μ-loop bytes₀ words₀ flash₀ pm₀ dm₀ io₀ area₀ list₀ reply₀ run₀ node₀ lent₀ line₀ turns₀ bytes words flash pm dm io area list reply run node lent line turns = turns
