@@ -1,10 +1,11 @@
 /* logodwen.h: the reference node for a host in C (liblogodwen.a).
 
    A node is a state machine without memory of its own: the host keeps the node's state as 192 bytes, its flash, its memories and its
-   Q-List as runs of bytes, and lends them to each call. There are six calls, and two entries that need no node:
+   Q-List as runs of bytes, and lends them to each call. There are seven calls, and two entries that need no node:
 
        logodwen_start      a node starts on a flash
        logodwen_request    a packet from a master came in on a link
+       logodwen_requests   a list of such packets, one after the other in one call
        logodwen_reply      a packet from a slave came in
        logodwen_poll       time went by while a slave is being asked
        logodwen_erase      a bit of an erasure that is going on is done
@@ -16,8 +17,8 @@
    bytes that it is lent, and touches no byte outside the lent runs: that is proved, so no input has to be kept away from it.
 
    Around the calls stand helpers in plain C, in the order in which a host needs them: what was answered, taken apart; words in bytes; a
-   node in one struct, with the calls on it; the Q-List, read; files and segments, built and read; requests; replies, read. They are
-   tested, not proved.
+   node in one struct, with the calls on it; the Q-List, read; files and segments, built and read; requests; lists of requests; replies,
+   read. They are tested, not proved.
    None of them reads or writes past the length that it is given, whatever the bytes say.
 
    What the host must see to
@@ -27,7 +28,7 @@
    - While a group is pending (an answer was LOGODWEN_ASK or LOGODWEN_SEND_NEXT), the words from 0 on of the reply buffer hold what was
      gathered so far: the fragments of the slaves that are done and, where the slave now asked answers in packets, those of its packets
      that have come, from one word behind the fragments on. The host leaves the buffer as it is until the answer LOGODWEN_REPLY comes.
-     The reply buffer is zeroed at power-up.
+     The reply buffer is zeroed at power-up. A list of requests is not lent it: its replies go to a run of their own.
    - While a file comes in several packets (an answer was NEXT), the words from 0 on of the area hold what was joined so far, and the host
      leaves the area as it is until the last packet is answered or the file is dropped. Every request is lent the area.
    - The records of the entries listed are the node's: the host reads them and leaves them as they are, and lends the same run to every
@@ -40,7 +41,7 @@
    at the same time in different threads; calls that share a run (the state above all) may not.
 
    Words: a word is two bytes, a word of program memory (PM) four, the low byte first. Of a PM word the low 24 bits count, and a store
-   clears the others. The six calls and logodwen_capture take lengths in bytes (`_len`); bytes that are not a whole word at the end of a
+   clears the others. The seven calls and logodwen_capture take lengths in bytes (`_len`); bytes that are not a whole word at the end of a
    run, or not a whole record of the Q-List, are ignored, and stay as they are. The helpers count in words (`words`, `count`, `room`), or
    in records.
 
@@ -67,6 +68,8 @@ extern "C" {
 #define LOGODWEN_FLASH_BYTES 65536u
 #define LOGODWEN_REPLY_WORDS 12288u       /* of the reply buffer, at least */
 #define LOGODWEN_REPLY_BYTES 24576u
+#define LOGODWEN_REPLIES_WORDS 12290u     /* of room that each packet of a list of requests must find for its reply, at least */
+#define LOGODWEN_REPLIES_BYTES 24580u
 #define LOGODWEN_AREA_WORDS 32768u        /* of the area where the packets of a file join, at least; and of such a file, at most */
 #define LOGODWEN_AREA_BYTES 65536u
 #define LOGODWEN_LIST_RECORDS 910u        /* of the Q-List, at most; as many as are listed at least */
@@ -91,6 +94,7 @@ extern "C" {
    thread with a painted stack (host/test/stack.c), and rounded up; no entry calls itself, so no input makes it more. */
 #define LOGODWEN_STACK_START 73728u
 #define LOGODWEN_STACK_REQUEST 114688u
+#define LOGODWEN_STACK_REQUESTS 114688u
 #define LOGODWEN_STACK_REPLY 98304u
 #define LOGODWEN_STACK_POLL 4096u
 #define LOGODWEN_STACK_ERASE 4096u
@@ -126,6 +130,7 @@ extern "C" {
 #define LOGODWEN_REFUSED_STATE 5u       /* the state bytes are not 192, or not those of a node's state */
 #define LOGODWEN_REFUSED_BUSY 6u        /* a request with words, while a request is pending */
 #define LOGODWEN_REFUSED_UNASKED 7u     /* a reply or a poll with nothing pending, or a reply from a slave that is not being asked */
+#define LOGODWEN_REFUSED_OVERRUN 10u    /* of a list of requests, and its only one: a packet, or its three words, runs past the list's end */
 
 /* What a call that is not refused answers: see logodwen_answer and those below it. */
 #define LOGODWEN_REPLY 1u     /* a reply to the master stands in the reply buffer, or has no words */
@@ -182,6 +187,33 @@ uint64_t logodwen4_request(uint32_t now, uint32_t link, uint32_t bc, uint32_t re
                            uint8_t *list, size_t list_len,
                            uint8_t *reply, size_t reply_len);
 
+/* A list of packets from masters, in one call: what logodwen_request does with each, in their order, at one time and without receive errors;
+   each reply goes behind the one before. Refused: 10 alone, where a packet, or the three words before one, runs past the end of the list,
+   wherever that is: the list is walked to its end first, and nothing is done. Else it stops before the first packet that
+     - would ask a slave, or
+     - would be refused by itself, by 1, 2, 3, 8, 9, 4, 5 or 6, or
+     - has a BC above 3, or
+     - finds fewer than 12,290 words of room behind the replies before it,
+   and answers how many were done (logodwen_done): all of them, or those before that one. State, runs and replies are as the calls one by one
+   leave them, and none is changed by the packet at which it stops. So a state, or a run, that refuses every packet gives 0 done and no
+   refusal; what it is, logodwen_request says of that packet. An empty list is done, with 0.
+     now                   the time now, of all packets
+     packets               the packets in a row, each behind three words: its link, its BC, and how many words it has (logodwen_packets_add)
+     state, flash, pm, dm, io, area, list
+                           the node's own, as above
+     replies               the replies in a row, each behind two words: its BC, and how many words it has (logodwen_read_reply). Words past
+                           the last one stay as they are */
+uint64_t logodwen4_requests(uint32_t now,
+                            const uint8_t *packets, size_t packets_len,
+                            uint8_t *state, size_t state_len,
+                            uint8_t *flash, size_t flash_len,
+                            uint8_t *pm, size_t pm_len,
+                            uint8_t *dm, size_t dm_len,
+                            uint8_t *io, size_t io_len,
+                            uint8_t *area, size_t area_len,
+                            uint8_t *list, size_t list_len,
+                            uint8_t *replies, size_t replies_len);
+
 /* A packet from the slave that is being asked. Refused: 2, 3, 4, 5 or 7. Answers a reply, asks the next slave, or has this one sent NEXT.
      slave                 the slave it came from, 0 to 23
      bc, receive_error     as above
@@ -236,6 +268,7 @@ uint64_t logodwen4_capture(uint32_t mask, const uint8_t *words, size_t words_len
 
 #define logodwen_start logodwen4_start
 #define logodwen_request logodwen4_request
+#define logodwen_requests logodwen4_requests
 #define logodwen_reply logodwen4_reply
 #define logodwen_poll logodwen4_poll
 #define logodwen_erase logodwen4_erase
@@ -254,7 +287,7 @@ static inline uint16_t logodwen_fcs(const uint8_t *bytes, size_t words) { return
 static inline unsigned logodwen_refusal(uint64_t answered) { return (unsigned)(answered & 0xFFu); }
 
 /* LOGODWEN_REPLY, LOGODWEN_ASK, LOGODWEN_SEND_NEXT or LOGODWEN_WAITING, of logodwen_slow LOGODWEN_HANDED or LOGODWEN_NOTHING, of
-   logodwen_capture LOGODWEN_ACCEPTED or LOGODWEN_BROKEN; 0 of a call that was refused, and of logodwen_erase. */
+   logodwen_capture LOGODWEN_ACCEPTED or LOGODWEN_BROKEN; 0 of a call that was refused, of logodwen_requests and of logodwen_erase. */
 static inline unsigned logodwen_answer(uint64_t answered) { return (unsigned)(answered >> 8 & 0xFFu); }
 
 /* Of LOGODWEN_REPLY: its BC. Else LOGODWEN_NONE. */
@@ -267,8 +300,12 @@ static inline bool logodwen_has_place(uint64_t answered) {
     return logodwen_answer(answered) == LOGODWEN_BROKEN || logodwen_answer(answered) == LOGODWEN_HANDED;
 }
 
-/* Of LOGODWEN_REPLY: how many words of the reply buffer it has, from word 0 on. Of logodwen_erase: how many words were set. Else 0. */
+/* Of LOGODWEN_REPLY: how many words of the reply buffer it has, from word 0 on. Of logodwen_erase: how many words were set. Else 0, but for
+   logodwen_requests, whose number is logodwen_done. */
 static inline uint32_t logodwen_words(uint64_t answered) { return logodwen_has_place(answered) ? 0 : (uint32_t)(answered >> 32); }
+
+/* Of logodwen_requests: how many packets of the list were done; 0 where it was refused. */
+static inline uint32_t logodwen_done(uint64_t answered) { return (uint32_t)(answered >> 32); }
 
 /* Of LOGODWEN_BROKEN: the place of the first word that breaks the rules. Of LOGODWEN_HANDED: the place of the entry in the Q-List, which
    logodwen_read_record reads. Counted from 0. Else LOGODWEN_NONE. */
@@ -285,7 +322,7 @@ static inline unsigned logodwen_from(uint64_t answered) {
     return logodwen_answer(answered) == LOGODWEN_ASK ? (unsigned)(answered >> 24 & 0xFFu) : LOGODWEN_NONE;
 }
 
-/* A packet to be sent: its words and its BC. */
+/* A packet to be sent, or a reply of a list: its words and its BC. */
 struct logodwen_packet {
     const uint8_t *bytes; /* NULL where it has no words */
     size_t words;
@@ -327,6 +364,7 @@ static inline const char *logodwen_refusal_text(unsigned refusal) {
     case LOGODWEN_REFUSED_UNASKED: return "7: nothing is pending, or another slave is being asked";
     case LOGODWEN_REFUSED_AREA_SIZE: return "8: the area is below 32,768 words";
     case LOGODWEN_REFUSED_LIST_SIZE: return "9: the Q-List is above 910 records, or has fewer than are listed";
+    case LOGODWEN_REFUSED_OVERRUN: return "10: a packet, or its three words, runs past the end of the list";
     default: return "not a refusal";
     }
 }
@@ -336,16 +374,21 @@ static inline bool logodwen_is_next(uint64_t answered) {
     return logodwen_bc(answered) == LOGODWEN_BC_NEXT && logodwen_words(answered) == 0;
 }
 
-/* A reply's name, of an answer that is LOGODWEN_REPLY: "DATA" where it has words. */
-static inline const char *logodwen_reply_text(uint64_t answered) {
-    if (logodwen_answer(answered) != LOGODWEN_REPLY) return "not a reply";
-    if (logodwen_words(answered) != 0) return "DATA";
-    switch (logodwen_bc(answered)) {
+/* A packet's name: "DATA" where it has words, else what it says by its BC. */
+static inline const char *logodwen_packet_text(const struct logodwen_packet *packet) {
+    if (packet->words != 0) return "DATA";
+    switch (packet->bc) {
     case LOGODWEN_BC_NEXT: return "NEXT";
     case LOGODWEN_BC_ERROR: return "ERROR";
     case LOGODWEN_BC_ABORT: return "ABORT";
     default: return "END";
     }
+}
+
+/* A reply's name, of an answer that is LOGODWEN_REPLY. */
+static inline const char *logodwen_reply_text(uint64_t answered) {
+    const struct logodwen_packet reply = {NULL, logodwen_words(answered), logodwen_bc(answered)};
+    return logodwen_answer(answered) == LOGODWEN_REPLY ? logodwen_packet_text(&reply) : "not a reply";
 }
 
 /* ---- Words in bytes. ---- */
@@ -943,6 +986,122 @@ static inline size_t logodwen_make_to_slaves(uint8_t *packet, uint32_t slaves) {
 static inline size_t logodwen_make_to_all(uint8_t *packet) {
     logodwen_put(packet, 0, (uint16_t)LOGODWEN_TO_ALL);
     return 1;
+}
+
+/* ---- Lists of requests: packets in a row, done in one call, and their replies in a row.
+
+   Three packets, of which the second changes what the third answers (examples/requests.c):
+
+       uint8_t row[64], packet[LOGODWEN_COMMAND_BYTES];
+       static uint8_t replies[2 * LOGODWEN_REPLIES_BYTES];
+       struct logodwen_packets list;
+       struct logodwen_packet reply;
+
+       logodwen_packets_begin(&list, row, sizeof row / 2);
+       logodwen_packets_add(&list, 0, LOGODWEN_BC_WHOLE, packet, logodwen_make_mode_read(packet));
+       logodwen_packets_add(&list, 0, LOGODWEN_BC_WHOLE, packet, logodwen_make_mode_write(packet, 1));
+       logodwen_packets_add(&list, 0, LOGODWEN_BC_WHOLE, packet, logodwen_make_mode_read(packet));
+       uint64_t answered = logodwen_node_requests(&node, now, &list, replies, sizeof replies / 2);
+       for (size_t i = 0, at = 0; i < logodwen_done(answered); i++) {
+           at = logodwen_read_reply(replies, sizeof replies / 2, at, &reply);
+           if (at == 0) break; // not what the call has left there
+           .. logodwen_packet_text(&reply), and its words as those of any other reply
+       }
+
+   Where fewer were done than the list has, packet logodwen_done(answered) is the one at which it stopped (logodwen_read_packet): by itself
+   it is given to logodwen_request, which asks the slave or says why it is refused; the others go into the next list. ---- */
+
+/* A list that is being laid. It is the first `words` words at `bytes`. */
+struct logodwen_packets {
+    uint8_t *bytes;
+    size_t room;  /* for words, at `bytes` */
+    size_t words; /* laid so far */
+    size_t count; /* packets laid so far */
+};
+
+#define LOGODWEN_BEFORE_PACKET 3u /* words that stand before each packet: link, BC and length */
+#define LOGODWEN_BEFORE_REPLY 2u  /* .. and before each reply: BC and length */
+
+/* Begins a list without packets. */
+static inline void logodwen_packets_begin(struct logodwen_packets *list, uint8_t *bytes, size_t room) {
+    list->bytes = bytes;
+    list->room = room;
+    list->words = list->count = 0;
+}
+
+/* How many words the next packet has room for, and where they stand: a request can be laid there at once, and then be added. */
+static inline size_t logodwen_packets_left(const struct logodwen_packets *list) {
+    size_t left = list->room - list->words;
+    return left < LOGODWEN_BEFORE_PACKET ? 0 : left - LOGODWEN_BEFORE_PACKET;
+}
+
+static inline uint8_t *logodwen_packets_next(const struct logodwen_packets *list) {
+    return list->bytes + 2 * (list->room - logodwen_packets_left(list));
+}
+
+/* Adds a packet behind the others: so many words, of a link, with a BC. Answers false where it has no room, or a number is none: a BC above 3,
+   a link or a length above FFFF; the list then is as it was, and can be sent so. */
+static inline bool logodwen_packets_add(struct logodwen_packets *list, uint32_t link, uint32_t bc, const uint8_t *bytes, size_t words) {
+    if (list->room - list->words < LOGODWEN_BEFORE_PACKET || words > logodwen_packets_left(list)) return false;
+    if (link > 0xFFFFu || bc > LOGODWEN_BC_WHOLE || words > 0xFFFFu) return false;
+    uint8_t *before = list->bytes + 2 * list->words;
+    if (words != 0) memmove(logodwen_packets_next(list), bytes, 2 * words);
+    logodwen_put(before, 0, (uint16_t)link);
+    logodwen_put(before, 1, (uint16_t)bc);
+    logodwen_put(before, 2, (uint16_t)words);
+    list->words += LOGODWEN_BEFORE_PACKET + words;
+    list->count++;
+    return true;
+}
+
+/* Adds a File Write of any length, by one packet or as many as it takes: see logodwen_make_file_packet. Answers false where they have no room,
+   or the file has no words; the list then is as it was. */
+static inline bool logodwen_packets_add_file(struct logodwen_packets *list, uint32_t link, const uint8_t *bytes, size_t words) {
+    struct logodwen_packets longer = *list;
+    uint32_t bc;
+    size_t at = 0;
+    do {
+        uint8_t *next = logodwen_packets_next(&longer);
+        size_t laid = logodwen_make_file_packet(next, logodwen_packets_left(&longer), bytes, words, &at, &bc);
+        if (laid == 0 || !logodwen_packets_add(&longer, link, bc, next, laid)) return false;
+    } while (at < words);
+    *list = longer;
+    return true;
+}
+
+/* Does the list's packets on a node in one struct. The replies have a run of their own, of so many words: as many as the replies take, two
+   before each, and 12,288 and two for the last one, however short it is. */
+static inline uint64_t logodwen_node_requests(struct logodwen_node *node, uint32_t now, const struct logodwen_packets *list, uint8_t *replies,
+                                              size_t room) {
+    return logodwen_requests(now, list->bytes, 2 * list->words, node->state, sizeof node->state, node->flash, sizeof node->flash,
+                             node->pm, node->pm_len, node->dm, node->dm_len, node->io, node->io_len, node->area, sizeof node->area,
+                             node->list, sizeof node->list, replies, 2 * room);
+}
+
+/* Reads the packet with a length and a BC before it, in so many words from a place on. For those below. */
+static inline size_t logodwen_read_row(const uint8_t *row, size_t words, size_t at, size_t before, struct logodwen_packet *packet) {
+    if (words < before || at > words - before) return 0;
+    uint32_t bc = logodwen_get(row, at + before - 2);
+    size_t length = logodwen_get(row, at + before - 1);
+    if (bc > LOGODWEN_BC_WHOLE || length > words - before - at) return 0;
+    packet->bytes = length == 0 ? NULL : row + 2 * (at + before);
+    packet->words = length;
+    packet->bc = bc;
+    return at + before + length;
+}
+
+/* Reads the packet at a place of a list of so many words, with its link: answers the place past it, or 0 where none stands there whole, with a
+   BC up to 3; then leaves `link` and `packet`. */
+static inline size_t logodwen_read_packet(const uint8_t *packets, size_t words, size_t at, uint32_t *link, struct logodwen_packet *packet) {
+    size_t past = logodwen_read_row(packets, words, at, LOGODWEN_BEFORE_PACKET, packet);
+    if (past != 0) *link = logodwen_get(packets, at);
+    return past;
+}
+
+/* Reads the reply at a place of a list's replies: answers the place past it, or 0 where none stands there, and then leaves `reply`. The words
+   behind the last reply are the host's own: how many replies there are logodwen_done says. */
+static inline size_t logodwen_read_reply(const uint8_t *replies, size_t words, size_t at, struct logodwen_packet *reply) {
+    return logodwen_read_row(replies, words, at, LOGODWEN_BEFORE_REPLY, reply);
 }
 
 /* ---- Replies. A reply that has words ends with two that are not data: its status word, and the FCS of all words before it. ---- */

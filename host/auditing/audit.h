@@ -51,14 +51,23 @@ struct entry {
     unsigned first, status, words;
 };
 
+/* What became of a file that was written and read back. What a reply has stands until the next one is; one that did not come has BC
+   LOGODWEN_NONE. */
+struct course {
+    struct logodwen_packet written; /* the reply to the first packet of File Write that was not NEXT */
+    size_t sent;                    /* words of the file up to there */
+    struct logodwen_packet summary, read;
+};
+
 void node_blank(struct logodwen_node *node);
 uint32_t node_start(struct logodwen_node *node);
-uint64_t node_write(struct logodwen_node *node, const uint8_t *words, size_t count, size_t *sent); /* in packets until one isn't NEXT */
-uint64_t node_read(struct logodwen_node *node, unsigned name);
+void node_write_and_read(struct logodwen_node *node, const uint8_t *words, size_t count, unsigned name, struct course *course);
 uint64_t node_erase(struct logodwen_node *node, struct erasure erasure);
 uint32_t node_erase_on(struct logodwen_node *node); /* goes on to the end; how many words were set */
 bool node_directory(struct logodwen_node *node, struct entry *directory);
+bool directory_of(const uint8_t *reply, size_t words, struct entry *directory); /* a reply to Flash Summary */
 void node_answer_text(uint64_t answered, char *text);
+const char *reply_text(const struct logodwen_packet *reply);
 
 bool entry_is_empty(struct entry entry);
 const char *entry_status(struct entry entry);

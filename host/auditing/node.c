@@ -15,17 +15,50 @@ static uint64_t request(struct logodwen_node *node, const uint8_t *packet, size_
     return logodwen_node_send(node, 0, 0, packet, words);
 }
 
-uint64_t node_write(struct logodwen_node *node, const uint8_t *words, size_t count, size_t *sent) {
-    static uint8_t packet[LOGODWEN_REQUEST_BYTES];
-    *sent = 0;
-    if (count == 0)
-        return request(node, packet, logodwen_make_command(packet, LOGODWEN_ID_FILE_WRITE));
-    return logodwen_node_write(node, 0, 0, packet, LOGODWEN_REQUEST_WORDS, words, count, sent);
+/* A file is written and read back by one list of requests (02, request 9): File Write in as many packets as it takes, Flash Summary and File
+   Read. Each finds the room that a reply can need, whatever those before it were answered. */
+enum {
+    WRITE_PACKETS = 5, /* of the longest file that is sent */
+    REQUESTS = WRITE_PACKETS + 2,
+    LIST_WORDS = REQUESTS * (LOGODWEN_BEFORE_PACKET + LOGODWEN_REQUEST_WORDS),
+    REPLIES_WORDS = REQUESTS * LOGODWEN_REPLIES_WORDS
+};
+
+static uint8_t replies[2 * REPLIES_WORDS];
+
+static void add_request(struct logodwen_packets *list, const uint8_t *packet, size_t words) {
+    logodwen_packets_add(list, 0, LOGODWEN_BC_WHOLE, packet, words);
 }
 
-uint64_t node_read(struct logodwen_node *node, unsigned name) {
+static void lay_list(struct logodwen_packets *list, const uint8_t *words, size_t count, unsigned name) {
+    static uint8_t row[2 * LIST_WORDS];
     uint8_t packet[LOGODWEN_COMMAND_BYTES];
-    return request(node, packet, logodwen_make_file_read(packet, name));
+    logodwen_packets_begin(list, row, LIST_WORDS);
+    if (count == 0)
+        add_request(list, packet, logodwen_make_command(packet, LOGODWEN_ID_FILE_WRITE));
+    else
+        logodwen_packets_add_file(list, 0, words, count);
+    add_request(list, packet, logodwen_make_summary(packet));
+    add_request(list, packet, logodwen_make_file_read(packet, name));
+}
+
+static bool is_next(const struct logodwen_packet *reply) { return reply->bc == LOGODWEN_BC_NEXT && reply->words == 0; }
+
+void node_write_and_read(struct logodwen_node *node, const uint8_t *words, size_t count, unsigned name, struct course *course) {
+    struct logodwen_packets list;
+    struct logodwen_packet replied[REQUESTS];
+    lay_list(&list, words, count, name);
+    uint32_t done = logodwen_done(logodwen_node_requests(node, 0, &list, replies, REPLIES_WORDS));
+    for (size_t i = 0, at = 0; i < REQUESTS; i++) {
+        replied[i] = (struct logodwen_packet){NULL, 0, LOGODWEN_NONE};
+        if (i < done)
+            at = logodwen_read_reply(replies, REPLIES_WORDS, at, &replied[i]);
+    }
+    size_t last = list.count - 3, write = 0; /* packets of File Write: the last, and the first that was not answered NEXT */
+    while (write < last && is_next(&replied[write]))
+        write++;
+    size_t sent = (write + 1) * LOGODWEN_REQUEST_WORDS - 1; /* the first packet begins with a word that is not the file's */
+    *course = (struct course){replied[write], sent < count ? sent : count, replied[last + 1], replied[last + 2]};
 }
 
 uint64_t node_erase(struct logodwen_node *node, struct erasure erasure) {
@@ -46,16 +79,20 @@ uint32_t node_erase_on(struct logodwen_node *node) {
     return all;
 }
 
-bool node_directory(struct logodwen_node *node, struct entry *directory) {
-    uint8_t packet[LOGODWEN_COMMAND_BYTES];
-    uint64_t answered = request(node, packet, logodwen_make_summary(packet));
+bool directory_of(const uint8_t *reply, size_t words, struct entry *directory) {
     for (unsigned sector = SECTOR_FIRST; sector <= SECTOR_LAST; sector++) {
         struct logodwen_entry entry;
-        if (!logodwen_read_entry(node->reply, logodwen_words(answered), sector, &entry))
+        if (!logodwen_read_entry(reply, words, sector, &entry))
             return false;
         directory[sector - SECTOR_FIRST] = (struct entry){entry.first, entry.status, entry.words};
     }
     return true;
+}
+
+bool node_directory(struct logodwen_node *node, struct entry *directory) {
+    uint8_t packet[LOGODWEN_COMMAND_BYTES];
+    uint64_t answered = request(node, packet, logodwen_make_summary(packet));
+    return directory_of(node->reply, logodwen_words(answered), directory);
 }
 
 void node_answer_text(uint64_t answered, char *text) {
@@ -63,6 +100,10 @@ void node_answer_text(uint64_t answered, char *text) {
         say(text, "refusal %s", logodwen_refusal_text(logodwen_refusal(answered)));
     else
         say(text, "%s", logodwen_reply_text(answered));
+}
+
+const char *reply_text(const struct logodwen_packet *reply) {
+    return reply->bc == LOGODWEN_NONE ? "nothing" : logodwen_packet_text(reply);
 }
 
 bool entry_is_empty(struct entry entry) { return entry.status == LOGODWEN_SECTOR_EMPTY; }

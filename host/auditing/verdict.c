@@ -81,14 +81,10 @@ static bool is_same(const struct contents *image, const uint8_t *reply, size_t c
     return said == is || say(detail, "the words agree, but the reply has the FCS %04X and should have %04X", said, is);
 }
 
-static bool is_read_back(struct logodwen_node *node, const struct contents *image, char *detail) {
-    unsigned header = logodwen_get(image->bytes, 0);
-    uint64_t answered = node_read(node, name_of(header));
-    if (logodwen_answer(answered) == LOGODWEN_REPLY && logodwen_words(answered) >= 2)
-        return is_same(image, node->reply, logodwen_words(answered) - 2, detail);
-    char text[TEXT];
-    node_answer_text(answered, text);
-    return say(detail, "word 0: signed %04X, read nothing; File Read was answered %s", header, text);
+static bool is_read_back(const struct contents *image, const struct logodwen_packet *read, char *detail) {
+    if (read->words >= 2)
+        return is_same(image, read->bytes, read->words - 2, detail);
+    return say(detail, "word 0: signed %04X, read nothing; File Read was answered %s", logodwen_get(image->bytes, 0), reply_text(read));
 }
 
 /* Whether the directory has the file where it went by the rules, and nowhere else, as good and with its length. */
@@ -102,11 +98,13 @@ static bool is_listed(struct logodwen_node *node, unsigned holders, unsigned pla
 }
 
 /* After a File Write that was answered END: where the directory has the file, and whether it is read back as it was signed. */
-static enum verdict read_back(struct logodwen_node *node, const struct contents *image, unsigned place, struct finding *finding) {
+static enum verdict read_back(struct logodwen_node *node, const struct contents *image, const struct course *course, unsigned place,
+                              struct finding *finding) {
     struct entry directory[SECTORS];
-    unsigned holders = node_directory(node, directory) ? directory_named(directory, name_of(finding->header)) : 0;
+    bool is_there = directory_of(course->summary.bytes, course->summary.words, directory);
+    unsigned holders = is_there ? directory_named(directory, name_of(finding->header)) : 0;
     finding->sector = set_lowest(holders);
-    if (!is_read_back(node, image, finding->detail))
+    if (!is_read_back(image, &course->read, finding->detail))
         return DIFFERS;
     return is_listed(node, holders, place, directory, finding->detail) ? AGREES : DISPUTED;
 }
@@ -119,22 +117,22 @@ static enum verdict write_and_read_back(struct logodwen_node *node, const struct
         return DISPUTED;
     }
     struct forecast forecast = foretell(node, directory, image);
-    char answer[TEXT];
-    size_t sent, to_send = words_to_send(image);
-    uint64_t answered = node_write(node, image->bytes, image->words, &sent);
-    node_answer_text(answered, answer);
-    if (sent != to_send) {
-        say(finding->detail, "File Write in packets was answered %s after %zu words; by the rules it is NEXT, up to %zu", answer, sent,
+    struct course course;
+    size_t to_send = words_to_send(image);
+    node_write_and_read(node, image->bytes, to_send, name_of(finding->header), &course);
+    const char *answer = reply_text(&course.written);
+    if (course.sent != to_send) {
+        say(finding->detail, "File Write in packets was answered %s after %zu words; by the rules it is NEXT, up to %zu", answer, course.sent,
             to_send);
         return DISPUTED;
     }
-    if (logodwen_answer(answered) != LOGODWEN_REPLY || logodwen_words(answered) != 0 || logodwen_bc(answered) != forecast.bc) {
+    if (course.written.words != 0 || course.written.bc != forecast.bc) {
         say(finding->detail, "File Write was answered %s; by the rules it is %s; %s", answer, bare[forecast.bc],
             forecast.verdict == AGREES ? "the image is valid and has room" : forecast.why);
         return DISPUTED;
     }
     if (forecast.verdict == AGREES)
-        return read_back(node, image, forecast.sector, finding);
+        return read_back(node, image, &course, forecast.sector, finding);
     say(finding->detail, "%s", forecast.why);
     return forecast.verdict;
 }

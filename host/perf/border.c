@@ -10,27 +10,33 @@
 
 enum { TIMES = 200, LARGE = 4000, PING = 8000, DM_RUN = 8000, PM_READ = 7998, PM_WRITE = 5400, REPLIED = 500, PACKETS = 5, ERASED = 4096 };
 enum { ENTRIES = 900, NOW = 1000 }; /* of the Q-List, and the time of a step: all are due */
+enum { LISTED = 100, LONG_LISTED = 24, PINGED = 500, REPLIES = LONG_LISTED * (LARGE + 4) + LOGODWEN_REPLIES_WORDS }; /* of lists of requests */
 
-/* Above what plain C does in under a microsecond, above what takes longer, and above what looks at a whole sector for a short file. */
-static const double SHORT = 4.00, LONG = 1.30, SECTOR = 1.50;
+/* Above what plain C does in under a microsecond, above what takes longer, above what looks at a whole sector for a short file, and above a
+   list of what is short. */
+static const double SHORT = 4.00, LONG = 1.30, SECTOR = 1.50, LIST = 2.00;
 
 /* Everything that a call is lent. */
 static struct {
     uint8_t state[LOGODWEN_STATE_BYTES], flash[LOGODWEN_FLASH_BYTES], pm[LOGODWEN_PM_BYTES], dm[LOGODWEN_DM_BYTES],
-        io[LOGODWEN_IO_BYTES], area[LOGODWEN_AREA_BYTES], list[LOGODWEN_LIST_BYTES], reply[LOGODWEN_REPLY_BYTES];
+        io[LOGODWEN_IO_BYTES], area[LOGODWEN_AREA_BYTES], list[LOGODWEN_LIST_BYTES], reply[LOGODWEN_REPLY_BYTES], replies[2 * REPLIES];
 } lent, first, after; /* as it stands, as a turn begins, and as the proved call left it */
 
 static uint64_t answered;
 
 static uint8_t *state = lent.state; /* the state that is lent: that one, or one of many */
 
-static void packet_with(bool plain, uint32_t bc, const uint8_t *packet, size_t words) {
+static void packet_into(bool plain, uint32_t bc, const uint8_t *packet, size_t words, uint8_t *reply, size_t reply_len) {
     answered = plain ? model_request(0, 0, bc, 0, packet, 2 * words, state, sizeof lent.state, lent.flash,
                                      sizeof lent.flash, lent.pm, sizeof lent.pm, lent.dm, sizeof lent.dm, lent.io, sizeof lent.io,
-                                     lent.area, sizeof lent.area, lent.list, sizeof lent.list, lent.reply, sizeof lent.reply)
+                                     lent.area, sizeof lent.area, lent.list, sizeof lent.list, reply, reply_len)
                      : logodwen_request(0, 0, bc, 0, packet, 2 * words, state, sizeof lent.state, lent.flash,
                                         sizeof lent.flash, lent.pm, sizeof lent.pm, lent.dm, sizeof lent.dm, lent.io, sizeof lent.io,
-                                        lent.area, sizeof lent.area, lent.list, sizeof lent.list, lent.reply, sizeof lent.reply);
+                                        lent.area, sizeof lent.area, lent.list, sizeof lent.list, reply, reply_len);
+}
+
+static void packet_with(bool plain, uint32_t bc, const uint8_t *packet, size_t words) {
+    packet_into(plain, bc, packet, words, lent.reply, sizeof lent.reply);
 }
 
 static void request(bool plain, const uint8_t *packet, size_t words) { packet_with(plain, LOGODWEN_BC_WHOLE, packet, words); }
@@ -58,6 +64,30 @@ static void erase(bool plain, uint64_t budget) {
 static void slow(bool plain) {
     answered = plain ? model_slow(NOW, state, sizeof lent.state, lent.list, sizeof lent.list)
                      : logodwen_slow(NOW, state, sizeof lent.state, lent.list, sizeof lent.list);
+}
+
+/* A list by the calls one by one, with each reply in a row behind its BC and its length. */
+static void list_singly(bool plain, const struct logodwen_packets *list) {
+    struct logodwen_packet packet;
+    uint32_t link;
+    size_t laid = 0;
+    for (size_t at = 0; (at = logodwen_read_packet(list->bytes, list->words, at, &link, &packet)) != 0;) {
+        uint8_t *to = lent.replies + 2 * laid;
+        packet_into(plain, packet.bc, packet.bytes, packet.words, to + 4, sizeof lent.replies - 2 * laid - 4);
+        logodwen_put(to, 0, (uint16_t)logodwen_bc(answered));
+        logodwen_put(to, 1, (uint16_t)logodwen_words(answered));
+        laid += 2 + logodwen_words(answered);
+    }
+    answered = (uint64_t)list->count << 32;
+}
+
+static void list_at_once(bool plain, const struct logodwen_packets *list) {
+    if (plain)
+        list_singly(true, list);
+    else
+        answered = logodwen_requests(0, list->bytes, 2 * list->words, state, sizeof lent.state, lent.flash, sizeof lent.flash, lent.pm,
+                                     sizeof lent.pm, lent.dm, sizeof lent.dm, lent.io, sizeof lent.io, lent.area, sizeof lent.area,
+                                     lent.list, sizeof lent.list, lent.replies, sizeof lent.replies);
 }
 
 static void start(bool plain) {
@@ -174,6 +204,23 @@ static void lay_packets(void) {
     word(&fivehundred, logodwen_fcs(fivehundred.bytes, REPLIED - 1));
 }
 
+/* Lists of one packet again and again. */
+
+static struct logodwen_packets mode_reads, large_reads, short_pings;
+
+static void lay_list(struct logodwen_packets *list, uint8_t *bytes, size_t room, const struct packet *packet, size_t words, int times) {
+    logodwen_packets_begin(list, bytes, room);
+    for (int i = 0; i < times; i++)
+        logodwen_packets_add(list, 0, LOGODWEN_BC_WHOLE, packet->bytes, words);
+}
+
+static void lay_lists(void) {
+    static uint8_t rows[3][2 * LONG_LISTED * (PINGED + 4)];
+    lay_list(&mode_reads, rows[0], sizeof rows[0] / 2, &mode_read, mode_read.words, LISTED);
+    lay_list(&large_reads, rows[1], sizeof rows[1] / 2, &large_read, large_read.words, LONG_LISTED);
+    lay_list(&short_pings, rows[2], sizeof rows[2] / 2, &ping, 1 + PINGED, LONG_LISTED);
+}
+
 /* How a turn begins. */
 
 static void as_first(void) {
@@ -264,6 +311,11 @@ static void erases_all(bool plain) { erase(plain, ERASED); }
 static void steps(bool plain) { slow(plain); }
 static void reads_list(bool plain) { request(plain, list_read.bytes, list_read.words); }
 static void removes_expired(bool plain) { request(plain, delete_expired.bytes, delete_expired.words); }
+
+static void lists_mode_reads(bool plain) { list_at_once(plain, &mode_reads); }
+static void calls_mode_reads(bool plain) { list_singly(plain, &mode_reads); }
+static void lists_reads(bool plain) { list_at_once(plain, &large_reads); }
+static void lists_pings(bool plain) { list_at_once(plain, &short_pings); }
 
 static void writes_list(bool plain) {
     next_state();
@@ -389,9 +441,14 @@ int perf_border_runs(void) {
         {"Q-List Write of 900 entries", many_states, writes_list, 2, LONG},
         {"Q-List Read of 900 entries", some_listed, reads_list, 2, LONG},
         {"Entry Delete of those expired of 910", some_are_expired, removes_expired, 1, SHORT},
+        {"a list of 100 Mode Reads", as_first, lists_mode_reads, 2, LIST},
+        {"100 Mode Reads, a call each", as_first, calls_mode_reads, 2, SHORT},
+        {"a list of 24 Reads of 4,000 words", as_first, lists_reads, 1, LONG},
+        {"a list of 24 Pings of 500 words", as_first, lists_pings, 2, LONG},
     };
     const size_t count = sizeof rows / sizeof *rows;
     lay_packets();
+    lay_lists();
     memset(lent.flash, 0xFF, sizeof lent.flash);
     start(true);
     for (size_t i = 0; i < sizeof lent.dm; i++)

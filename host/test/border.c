@@ -1,7 +1,7 @@
 /* Tests of the border: each refusal and their order, odd lengths, NULL with length 0, guard bytes round every run, alignment, files
    in several packets, lengths in the directory, remains behind a file, names that several sectors have, slaves that answer in
-   packets, the Q-List, captured group replies, the parts of what is answered, and the layout of the state. Every run stands between
-   guard bytes; after each call they are looked at, and after a refused one every byte of every run too. */
+   packets, the Q-List, captured group replies, lists of requests, the parts of what is answered, and the layout of the state. Every run
+   stands between guard bytes; after each call they are looked at, and after a refused one every byte of every run too. */
 #include "../../include/logodwen.h"
 
 #include <stdio.h>
@@ -21,12 +21,13 @@ static void check(int holds, const char *text, int line) {
 
 /* Runs. */
 
-enum { STATE, FLASH, PM, DM, IO, AREA, LIST, REPLY, PACKET, RUNS };
+enum { STATE, FLASH, PM, DM, IO, AREA, LIST, REPLY, PACKET, REPLIES, RUNS }; /* of a list of requests PACKET has its packets */
 enum { GUARD = 64 };
-static const char *const names[RUNS] = {"state", "flash", "pm", "dm", "io", "area", "list", "reply", "packet"};
-static const size_t rooms[RUNS] = {LOGODWEN_STATE_BYTES + 8, LOGODWEN_FLASH_BYTES + 8, LOGODWEN_PM_BYTES + 16,
-                                   LOGODWEN_DM_BYTES + 8,    LOGODWEN_IO_BYTES + 8,    LOGODWEN_AREA_BYTES + 8,
-                                   LOGODWEN_LIST_BYTES + 28, LOGODWEN_REPLY_BYTES + 8, LOGODWEN_SLAVE_REPLY_BYTES + 8};
+static const char *const names[RUNS] = {"state", "flash", "pm", "dm", "io", "area", "list", "reply", "packet", "replies"};
+static const size_t rooms[RUNS] = {LOGODWEN_STATE_BYTES + 8,       LOGODWEN_FLASH_BYTES + 8, LOGODWEN_PM_BYTES + 16,
+                                   LOGODWEN_DM_BYTES + 8,          LOGODWEN_IO_BYTES + 8,    LOGODWEN_AREA_BYTES + 8,
+                                   LOGODWEN_LIST_BYTES + 28,       LOGODWEN_REPLY_BYTES + 8, LOGODWEN_SLAVE_REPLY_BYTES + 8,
+                                   2 * LOGODWEN_REPLIES_BYTES + 8};
 static uint8_t *blocks[RUNS], *runs[RUNS], *copies[RUNS]; /* a block holds guard bytes, a run, guard bytes */
 static size_t lengths[RUNS];
 
@@ -51,7 +52,7 @@ static void lay_out(size_t shift) {
     memset(runs[STATE], 0, rooms[STATE]);
     memset(runs[FLASH], 0xFF, rooms[FLASH]);
     static const size_t usual[RUNS] = {LOGODWEN_STATE_BYTES, LOGODWEN_FLASH_BYTES, 256, 128, 128, LOGODWEN_AREA_BYTES,
-                                       LOGODWEN_LIST_BYTES,  LOGODWEN_REPLY_BYTES, 0};
+                                       LOGODWEN_LIST_BYTES,  LOGODWEN_REPLY_BYTES, 0,   2 * LOGODWEN_REPLIES_BYTES};
     memcpy(lengths, usual, sizeof lengths);
 }
 
@@ -109,6 +110,15 @@ static uint64_t request_at(uint32_t now, uint32_t link, uint32_t bc, uint32_t er
     return answered;
 }
 
+static uint64_t requests_at(uint32_t now, int line) {
+    remember();
+    uint64_t answered = logodwen_requests(now, lent(PACKET), lengths[PACKET], lent(STATE), lengths[STATE], lent(FLASH),
+                                          lengths[FLASH], lent(PM), lengths[PM], lent(DM), lengths[DM], lent(IO), lengths[IO],
+                                          lent(AREA), lengths[AREA], lent(LIST), lengths[LIST], lent(REPLIES), lengths[REPLIES]);
+    look_round(logodwen_refusal(answered), line);
+    return answered;
+}
+
 static uint16_t rx_status = 0x00AA; /* of what a slave sends */
 
 static uint64_t reply_at(uint32_t now, uint32_t slave, uint32_t bc, uint32_t error, int line) {
@@ -142,6 +152,7 @@ static uint64_t slow_at(uint32_t now, int line) {
 
 #define START(kind, ports, subdetector) start_as(kind, ports, subdetector, __LINE__)
 #define REQUEST(now, link, bc, error) request_at(now, link, bc, error, __LINE__)
+#define REQUESTS(now) requests_at(now, __LINE__)
 #define SLAVE_REPLY(now, slave, bc, error) reply_at(now, slave, bc, error, __LINE__)
 #define POLL(now) poll_at(now, __LINE__)
 #define ERASE(budget) erase_by(budget, __LINE__)
@@ -166,6 +177,7 @@ static uint64_t ask(uint64_t slave, uint64_t from) { return (uint64_t)LOGODWEN_A
 static uint64_t send_next(uint64_t slave) { return (uint64_t)LOGODWEN_SEND_NEXT << 8 | slave << 16; }
 static uint64_t handed(uint64_t place) { return (uint64_t)LOGODWEN_HANDED << 8 | place << 32; }
 static uint64_t nothing(void) { return (uint64_t)LOGODWEN_NOTHING << 8; }
+static uint64_t done(uint64_t packets) { return packets << 32; }
 
 /* File 21: one DM segment of two words, with its File Write. */
 static void file_write(uint16_t header) {
@@ -1527,6 +1539,309 @@ static void test_repetitions(void) {
     CHECK(written > 500 && handed_out > 200 && gone > 50);
 }
 
+/* Lists of requests (02, request 9). */
+
+/* Whether the replies are these in a row, from word 0 on, each BC, length and words, and every word behind them is as it was. The FCS that
+   ends a reply stands as 0 here. */
+static int are_replies(size_t count, const uint16_t *words) {
+    for (size_t at = 0; at < count; at += 2 + words[at + 1]) {
+        const uint8_t *row = runs[REPLIES] + 2 * at;
+        size_t length = words[at + 1], last = 1 + length;
+        for (size_t i = 0; i < 2 + length; i++)
+            if (logodwen_get(row, i) != (i == last && length != 0 ? logodwen_fcs(row + 4, length - 1) : words[at + i]))
+                return 0;
+    }
+    return is_same(REPLIES, 2 * count, rooms[REPLIES]);
+}
+#define ARE_REPLIES(...) are_replies(sizeof((uint16_t[]){__VA_ARGS__}) / 2, (uint16_t[]){__VA_ARGS__})
+
+static int is_all_same_but_replies(void) {
+    for (int run = 0; run < REPLIES; run++)
+        if (!is_same(run, 0, rooms[run]))
+            return 0;
+    return 1;
+}
+
+/* Three packets of two links, of which the second answers what the first has set. An odd byte behind them is ignored; so is one behind the
+   replies' words, and none but those of the replies is written, the assembly area's neither. */
+static void test_series(void) {
+    for (size_t odd = 0; odd < 2; odd++) {
+        lend_with(0);
+        lengths[PACKET] = odd;
+        CHECK(REQUESTS(1000) == done(0) && is_all_same());
+        PACKET_OF(0, 3, 2, 0x522E, 0x0001, 1, 3, 1, 0x122E, 0, 3, 3, 0x0D2E, 0x1111, 0x2222);
+        lengths[PACKET] += odd;
+        lengths[REPLIES] -= odd;
+        CHECK(REQUESTS(1000) == done(3) && ARE_REPLIES(3, 0, 3, 3, 0x0001, 0x0160, 0, 3, 4, 0x1111, 0x2222, 0x0160, 0));
+        CHECK(runs[STATE][LOGODWEN_AT_MODE] == 1 && is_same(STATE, LOGODWEN_AT_MODE + 1, rooms[STATE]));
+        for (int run = FLASH; run < REPLIES; run++)
+            CHECK(is_same(run, 0, rooms[run]));
+        PACKET_OF(0, 2, 0, 1, 3, 1, 0x00FF, 0, 3, 1, 0x052E); /* ABORT, ERROR, which counts, ABORT */
+        lengths[PACKET] += odd;
+        CHECK(REQUESTS(1000) == done(3) && ARE_REPLIES(2, 0, 1, 0, 2, 0) && state_word(LOGODWEN_AT_AMSWIRE_ERRORS) == 1);
+    }
+}
+
+/* A packet at which a list stops, alone, in front of a Mode Read, behind one, and between two: what stands before it is done, and it changes
+   nothing. */
+static void check_stop(const uint16_t *stop, int line) {
+    static const uint16_t mode_read[4] = {0, 3, 1, 0x122E};
+    size_t words = 3 + (size_t)stop[2];
+    for (size_t before = 0; before < 2; before++)
+        for (size_t behind = 0; behind < 2; behind++) {
+            uint16_t row[16];
+            memcpy(row, mode_read, sizeof mode_read);
+            memcpy(row + 4 * before, stop, 2 * words);
+            memcpy(row + 4 * before + words, mode_read, sizeof mode_read);
+            lend_with(0);
+            packet(4 * before + words + 4 * behind, row);
+            check(requests_at(1000, line) == done(before) && is_all_same_but_replies(), "a list stops there", line);
+            check(before == 0 ? is_all_same() : ARE_REPLIES(3, 3, 0x0000, 0x0120, 0), "what stands before it is answered", line);
+        }
+}
+#define CHECK_STOP(...) check_stop((uint16_t[]){__VA_ARGS__}, __LINE__)
+
+static void test_series_stops(void) {
+    CHECK_STOP(0, 3, 2, 0x0405, 0x122E); /* would ask a slave, or a group */
+    CHECK_STOP(1, 3, 2, 0x0040, 0x122E);
+    CHECK_STOP(1, 3, 2, 0x002A, 0x122E);
+    CHECK_STOP(0, 3, 3, 0x2023, 0x0000, 0x122E);
+    CHECK_STOP(2, 3, 1, 0x122E); /* alone is refused by 4: numbers are compared whole */
+    CHECK_STOP(0x0100, 3, 1, 0x122E);
+    CHECK_STOP(0xFFFF, 2, 0);
+    CHECK_STOP(0, 4, 1, 0x122E); /* has a BC above 3 */
+    CHECK_STOP(0, 7, 1, 0x122E);
+    CHECK_STOP(1, 0x0103, 1, 0x122E);
+    CHECK_STOP(0, 0xFFFF, 0);
+}
+
+/* While a request is pending a list stops before the first packet with words, unless one of no words has dropped what is pending. */
+static void test_series_pending(void) {
+    lend_with(0x20);
+    PACKET_OF(0, 3, 1, 0x122E);
+    CHECK(REQUESTS(1000) == done(0) && is_all_same());
+    PACKET_OF(1, 2, 0, 0, 3, 0, 1, 3, 1, 0x122E); /* of a link that has nothing pending, and not BC 10: ABORT */
+    CHECK(REQUESTS(1000) == done(2) && is_all_same_but_replies() && ARE_REPLIES(2, 0, 2, 0));
+    PACKET_OF(0, 2, 0, 1, 3, 1, 0x122E);
+    CHECK(REQUESTS(1000) == done(2) && ARE_REPLIES(3, 0, 3, 3, 0x0000, 0x0120, 0) && runs[STATE][LOGODWEN_AT_PENDING] == 0);
+}
+
+/* Each packet finds 12,290 words of room behind the replies before it, or isn't done, however short its reply is. */
+static void test_series_room(void) {
+    static const size_t rows[][2] = {{0, 0},     {1, 0},     {24578, 0}, {24579, 0}, {24580, 1}, /* bytes, and packets done */
+                                     {24589, 1}, {24590, 2}, {24599, 2}, {24600, 3}, {24603, 3}};
+    for (size_t i = 0; i < sizeof rows / sizeof *rows; i++) {
+        lend_with(0);
+        lengths[REPLIES] = rows[i][0];
+        PACKET_OF(0, 3, 1, 0x122E, 0, 3, 1, 0x122E, 0, 3, 2, 0x522E, 0x0003);
+        CHECK(REQUESTS(1000) == done(rows[i][1]) && runs[STATE][LOGODWEN_AT_MODE] == (rows[i][1] == 3 ? 3 : 0));
+        CHECK(is_same(REPLIES, 2 * (rows[i][1] == 3 ? 12 : 5 * rows[i][1]), rooms[REPLIES]));
+    }
+    lend_with(0); /* the longest reply of a bench node, and a Ping behind it that finds just its room */
+    lengths[PM] = LOGODWEN_PM_BYTES;
+    lengths[REPLIES] = 2 * (12290 + 12288);
+    PACKET_OF(0, 3, 3, 0x102E, 0x1FFC, 0x0000, 1, 3, 1, 0x0D2E);
+    CHECK(REQUESTS(1000) == done(2) && logodwen_get(runs[REPLIES], 1) == 12286 && is_same(REPLIES, 2 * (12288 + 4), rooms[REPLIES]));
+    lengths[REPLIES] -= 1;
+    CHECK(REQUESTS(1000) == done(1) && is_same(REPLIES, 2 * 12288, rooms[REPLIES]));
+}
+
+/* As many packets as find room: 3,000 Mode Reads, of which each leaves five words less of 24,580. */
+static void test_series_long(void) {
+    enum { PACKETS = 3000, DONE = 1 + 12290 / 5 };
+    static uint16_t row[4 * PACKETS];
+    for (size_t i = 0; i < PACKETS; i++) {
+        row[4 * i + 1] = 3;
+        row[4 * i + 2] = 1;
+        row[4 * i + 3] = 0x122E;
+    }
+    lend_with(0);
+    packet(4 * PACKETS, row);
+    CHECK(REQUESTS(1000) == done(DONE) && is_all_same_but_replies() && is_same(REPLIES, 2 * 5 * (size_t)DONE, rooms[REPLIES]));
+    CHECK(memcmp(runs[REPLIES], runs[REPLIES] + 2 * 5 * ((size_t)DONE - 1), 10) == 0);
+}
+
+/* A file that comes in packets is written by a list, also by two; what a packet does, the next one finds: an erasure, entries of the Q-List,
+   which are due from the list's one clock on. */
+static void test_series_effects(void) {
+    lend_with(0);
+    PACKET_OF(1, 2, 4, 0x452E, 0x7211, 0x4003, 0x2000, 0, 3, 1, 0x122E, 1, 1, 3, 0xCAFE, 0xF00D, 0x65F0, 0, 3, 2, 0x052E, 0x0211);
+    CHECK(REQUESTS(1000) == done(4) && is_none_standing());
+    CHECK(ARE_REPLIES(0, 0, 3, 3, 0x0000, 0x0120, 0, 3, 0, 3, 8, 0x7211, 0x4003, 0x2000, 0xCAFE, 0xF00D, 0x65F0, 0x0120, 0));
+    PACKET_OF(0, 3, 2, 0x472E, 0x0211, 0, 3, 2, 0x052E, 0x0211, 1, 2, 4, 0x452E, 0x7221, 0x4003, 0x2000);
+    CHECK(REQUESTS(1000) == done(3) && ARE_REPLIES(3, 0, 2, 0, 0, 0) && is_standing(1, 3) && runs[STATE][LOGODWEN_AT_ERASING] == 3);
+    CHECK(ERASE(UINT64_MAX) == (uint64_t)2048 << 32);
+    PACKET_OF(1, 1, 3, 0xCAFE, 0xF00D, 0x65F0, 1, 3, 2, 0x062E, 0x0221);
+    CHECK(REQUESTS(1000) == done(2) && ARE_REPLIES(3, 0, 3, 3, 0x0000, 0x0120, 0) && is_none_standing());
+    PACKET_OF(0, 3, 10, 0x5C2E, 0x4007, 0x2000, 1, 8, 2, 10, 0x1234, 0x5678, 0xE72E,
+              0, 3, 10, 0x5C2E, 0x4007, 0x2000, 1, 8, 2, 10, 0x1234, 0x5678, 0xE72E);
+    CHECK(REQUESTS(7000) == done(2) && ARE_REPLIES(3, 0, 3, 0) && is_listing(2, 0) && due_at(0) == 7010 && due_at(1) == 7010);
+}
+
+/* A packet, or its three words, past the end: refused by 10, with nothing done (look_round), whatever else is lent, and wherever it is. */
+static void check_overrun(size_t words, const uint16_t *row, size_t odd, int line) {
+    for (unsigned way = 0; way < 3; way++) { /* nothing else is wrong, all that can be, or no other run is lent */
+        lend_with(way == 1 ? 0x1B7 : 0);
+        packet(words, row);
+        lengths[PACKET] += odd;
+        for (int run = 0; way == 2 && run < RUNS; run++)
+            lengths[run] = run == PACKET ? lengths[run] : 0;
+        check(requests_at(1000, line) == LOGODWEN_REFUSED_OVERRUN, "a packet past the end is refused by 10", line);
+    }
+}
+#define CHECK_OVERRUN(odd, ...) check_overrun(sizeof((uint16_t[]){__VA_ARGS__}) / 2, (uint16_t[]){__VA_ARGS__}, odd, __LINE__)
+
+static void test_series_overrun(void) {
+    CHECK_OVERRUN(0, 0);
+    CHECK_OVERRUN(1, 0, 3);
+    CHECK_OVERRUN(0, 0, 3, 1);
+    CHECK_OVERRUN(1, 0, 3, 1); /* half a word */
+    CHECK_OVERRUN(0, 0, 3, 0xFFFF, 0x122E);
+    CHECK_OVERRUN(0, 0, 3, 2, 0x522E, 0x0003, 0);
+    CHECK_OVERRUN(0, 0, 3, 2, 0x522E, 0x0003, 0, 3);
+    CHECK_OVERRUN(0, 0, 3, 2, 0x522E, 0x0003, 0, 3, 2, 0x0D2E);
+    CHECK_OVERRUN(0, 0, 3, 2, 0x522E, 0x0003, 0, 3, 0xFFFF, 0x0D2E);
+    CHECK_OVERRUN(0, 0, 3, 2, 0x522E, 0x0003, 0, 3, 0, 0); /* behind one of no words */
+    CHECK_OVERRUN(0, 0, 3, 2, 0x0405, 0x122E, 0, 3, 2, 0x0D2E); /* behind one at which it would stop */
+    CHECK_OVERRUN(0, 0, 4, 1, 0x122E, 0);
+    CHECK_OVERRUN(0, 9, 3, 1, 0x122E, 0, 3);
+}
+
+/* What refuses each of the packets refuses no list: none is done. */
+static void test_series_refused(void) {
+    static const uint16_t row[] = {0, 3, 1, 0x122E, 0, 3, 1, 0x122E};
+    for (unsigned causes = 0; causes < 0x200; causes++) {
+        if (causes & 0x4A) /* 2 and 4 are not of what is lent here, 7 not of a request */
+            continue;
+        lend_with(causes);
+        packet(8, row);
+        CHECK(REQUESTS(1000) == done(causes == 0 ? 2 : 0) && (causes == 0 || is_all_same()));
+    }
+    for (size_t length = LOGODWEN_STATE_BYTES - 2; length <= LOGODWEN_STATE_BYTES + 2; length++) {
+        lend_with(0);
+        packet(8, row);
+        lengths[STATE] = length;
+        CHECK(REQUESTS(1000) == done(length == LOGODWEN_STATE_BYTES ? 2 : 0) && is_all_same_but_replies());
+    }
+    lend_with(0);
+    packet(8, row);
+    memset(runs[STATE], 0, LOGODWEN_STATE_BYTES);
+    CHECK(REQUESTS(1000) == done(0) && is_all_same());
+}
+
+static void test_series_null(void) {
+    lend_with(0);
+    PACKET_OF(0, 3, 1, 0x122E, 0, 3, 3, 0x112E, 0x4003, 0x2000);
+    lengths[PM] = lengths[DM] = lengths[IO] = lengths[LIST] = 0;
+    CHECK(REQUESTS(1000) == done(2) && ARE_REPLIES(3, 3, 0x0000, 0x0120, 0, 2, 0)); /* no DM to read */
+    static const int needed[] = {REPLIES, AREA, FLASH, STATE};
+    for (size_t i = 0; i < sizeof needed / sizeof *needed; i++) {
+        lengths[needed[i]] = 0;
+        CHECK(REQUESTS(1000) == done(0) && is_all_same());
+    }
+    lengths[PACKET] = 0;
+    CHECK(REQUESTS(1000) == done(0) && is_all_same());
+}
+
+/* Lists by chance: all runs, and the replies in a row, are those of the calls one by one, up to the packet at which a list stops. */
+
+static uint32_t drawn = 1;
+
+static uint32_t draw(uint32_t below) {
+    drawn = drawn * 1664525u + 1013904223u;
+    return (drawn >> 8) % below;
+}
+
+/* A packet of a list by chance: it lays link, BC, length and words, and answers how many these are. */
+static size_t lay_by_chance(uint16_t *to) {
+    static const uint16_t kinds[][11] = {{1, 0x122E},
+                                         {2, 0x522E, 0x0001},
+                                         {2, 0x522E, 0x0002},
+                                         {3, 0x0D2E, 0x1234, 0x5678},
+                                         {1, 0x0C2E},
+                                         {1, 0x072E},
+                                         {1, 0x00FF},
+                                         {7, 0x452E, 0x7211, 0x4003, 0x2000, 0xCAFE, 0xF00D, 0x65F0},
+                                         {3, 0x452E, 0x7221, 0x4003},
+                                         {4, 0x2000, 0xCAFE, 0xF00D, 0x65F0},
+                                         {2, 0x052E, 0x0211},
+                                         {2, 0x062E, 0x0221},
+                                         {2, 0x462E, 0x0211},
+                                         {3, 0x482E, 0x0211, 0x0001},
+                                         {2, 0x472E, 0x0211},
+                                         {3, 0x112E, 0x4003, 0x2000},
+                                         {6, 0x512E, 0x4003, 0x2000, 0xCAFE, 0xF00D, 0x65F0},
+                                         {3, 0x102E, 0x0002, 0x0000},
+                                         {10, 0x5C2E, 0x4007, 0x2000, 0x0001, 0x0008, 0x0002, 0x000A, 0x1234, 0x5678, 0xE72E},
+                                         {1, 0x1C2E},
+                                         {2, 0x5B2E, 0x0000},
+                                         {1, 0x5B2E},
+                                         {0}};
+    const uint16_t *kind = kinds[draw(sizeof kinds / sizeof *kinds)];
+    to[0] = (uint16_t)draw(2);
+    to[1] = (uint16_t)(kind[0] == 3 && kind[1] == 0x452E ? 2 : kind[0] == 4 ? draw(2) : draw(20) == 0 ? draw(5) : 3);
+    memcpy(to + 2, kind, 2 * (1 + (size_t)kind[0]));
+    if (draw(30) == 0) { /* to a slave */
+        to[2] = 2;
+        to[3] = 0x0405;
+        to[4] = 0x122E;
+    }
+    return 3 + (size_t)to[2];
+}
+
+static uint8_t kept_runs[RUNS][LOGODWEN_SLAVE_REPLY_BYTES + 8]; /* what a list has left */
+
+/* The calls one by one on what was lent to the list, whose packets are given: how many are done, their replies laid in a row. */
+static size_t by_singles(const uint16_t *row, size_t words) {
+    uint8_t state[LOGODWEN_STATE_BYTES];
+    size_t singles = 0, laid = 0;
+    for (size_t at = 0; at < words; at += 3 + (size_t)row[at + 2], singles++) {
+        memcpy(state, runs[STATE], sizeof state);
+        packet(row[at + 2], row + at + 3);
+        if (row[at + 1] > 3 || lengths[REPLIES] / 2 - laid < LOGODWEN_REPLIES_WORDS)
+            return singles;
+        uint64_t answered = REQUEST(5000, row[at], row[at + 1], 0);
+        if (logodwen_answer(answered) == LOGODWEN_ASK)
+            memcpy(runs[STATE], state, sizeof state);
+        if (logodwen_answer(answered) != LOGODWEN_REPLY)
+            return singles;
+        logodwen_put(runs[REPLIES], laid, (uint16_t)logodwen_bc(answered));
+        logodwen_put(runs[REPLIES], laid + 1, (uint16_t)logodwen_words(answered));
+        memcpy(runs[REPLIES] + 2 * (laid + 2), runs[REPLY], 2 * (size_t)logodwen_words(answered));
+        laid += 2 + logodwen_words(answered);
+    }
+    return singles;
+}
+
+static void test_series_by_chance(void) {
+    enum { PACKETS = 12, TURNS = 120 };
+    size_t stopped = 0, all = 0;
+    for (unsigned turn = 0; turn < TURNS; turn++) {
+        uint16_t row[PACKETS * 13];
+        size_t words = 0, packets = 1 + draw(PACKETS);
+        if (turn % 20 == 0)
+            lend_with(0);
+        if (draw(10) == 0)
+            ERASE(UINT64_MAX);
+        lengths[REPLIES] = draw(6) == 0 ? LOGODWEN_REPLIES_BYTES + draw(60) : 2 * LOGODWEN_REPLIES_BYTES;
+        for (size_t i = 0; i < packets; i++)
+            words += lay_by_chance(row + words);
+        packet(words, row);
+        uint64_t answered = REQUESTS(5000);
+        for (int run = 0; run < RUNS; run++) {
+            memcpy(kept_runs[run], runs[run], rooms[run]);
+            memcpy(runs[run], copies[run], rooms[run]);
+        }
+        size_t singles = by_singles(row, words);
+        CHECK(answered == done(singles));
+        for (int run = 0; run < RUNS; run++)
+            CHECK(run == REPLY || run == PACKET || memcmp(kept_runs[run], runs[run], rooms[run]) == 0);
+        stopped += singles < packets;
+        all += singles;
+    }
+    CHECK(stopped > TURNS / 10 && all > 3 * TURNS);
+}
+
 static void test_texts(void) {
     CHECK(strcmp(logodwen_reply_text(zero_length(0)), "NEXT") == 0 && strcmp(logodwen_reply_text(zero_length(1)), "ERROR") == 0);
     CHECK(strcmp(logodwen_reply_text(zero_length(2)), "ABORT") == 0 && strcmp(logodwen_reply_text(zero_length(3)), "END") == 0);
@@ -1534,9 +1849,12 @@ static void test_texts(void) {
     CHECK(logodwen_is_next(zero_length(0)) && !logodwen_is_next(zero_length(3)) && !logodwen_is_next(LOGODWEN_REFUSED_BUSY));
     CHECK(!logodwen_is_next((uint64_t)LOGODWEN_REPLY << 8 | (uint64_t)1 << 32)
           && !logodwen_is_next((uint64_t)LOGODWEN_WAITING << 8));
-    for (unsigned refusal = 1; refusal <= 9; refusal++)
-        CHECK((unsigned)(logodwen_refusal_text(refusal)[0] - '0') == refusal);
-    CHECK(strcmp(logodwen_refusal_text(0), "done") == 0 && strcmp(logodwen_refusal_text(10), "not a refusal") == 0);
+    for (unsigned refusal = 1; refusal <= 10; refusal++)
+        CHECK(strtoul(logodwen_refusal_text(refusal), NULL, 10) == refusal);
+    CHECK(strcmp(logodwen_refusal_text(0), "done") == 0 && strcmp(logodwen_refusal_text(11), "not a refusal") == 0);
+    CHECK(logodwen_done(done(0xFFFFFFFF)) == 0xFFFFFFFF && logodwen_done(LOGODWEN_REFUSED_OVERRUN) == 0);
+    CHECK(logodwen_refusal(done(3)) == LOGODWEN_DONE && logodwen_answer(done(3)) == 0 && logodwen_bc(done(3)) == LOGODWEN_NONE);
+    CHECK(logodwen_place(done(3)) == LOGODWEN_NONE && !logodwen_is_next(done(3)) && logodwen_slave(done(3)) == LOGODWEN_NONE);
     CHECK(logodwen_slave(ask(23, 2)) == 23 && logodwen_from(ask(23, 2)) == 2 && logodwen_answer(ask(23, 2)) == LOGODWEN_ASK);
     CHECK(logodwen_bc(ask(2, 1)) == LOGODWEN_NONE && logodwen_words(ask(2, 1)) == 0);
     CHECK(logodwen_slave(send_next(23)) == 23 && logodwen_slave(send_next(0)) == 0 && logodwen_from(send_next(23)) == LOGODWEN_NONE);
@@ -1566,7 +1884,7 @@ static void test_to_send(void) {
     CHECK(!logodwen_to_send(zero_length(0), request, 3, &sent) && !logodwen_to_send(with_words(3), request, 3, &sent));
     CHECK(!logodwen_to_send((uint64_t)LOGODWEN_WAITING << 8, request, 3, &sent) && !logodwen_to_send(broken(0), request, 3, &sent));
     CHECK(!logodwen_to_send(handed(1), request, 3, &sent) && !logodwen_to_send(nothing(), request, 3, &sent));
-    for (uint64_t refusal = 0; refusal < 10; refusal++)
+    for (uint64_t refusal = 0; refusal < 11; refusal++)
         CHECK(!logodwen_to_send(refusal, request, 3, &sent) && sent.bc == 9);
 }
 
@@ -1617,6 +1935,16 @@ int main(void) {
     test_slow_record();
     test_slow_meanwhile();
     test_repetitions();
+    test_series();
+    test_series_stops();
+    test_series_pending();
+    test_series_room();
+    test_series_long();
+    test_series_effects();
+    test_series_overrun();
+    test_series_refused();
+    test_series_null();
+    test_series_by_chance();
     test_texts();
     test_to_send();
     for (int run = 0; run < RUNS; run++) {

@@ -148,6 +148,58 @@ static void make_packets(void) {
     free(file);
 }
 
+/* Lists of requests. */
+
+/* What was laid of a list: how many packets, and all its words. */
+static void print_row(const struct logodwen_packets *list) {
+    printf("%X ", (unsigned)list->count);
+    print_words(list->bytes, list->words);
+}
+
+/* A list of packets, each given as link, BC, length and words: the first number is the room, and of each it is told whether it was added. */
+static void add_packets(void) {
+    struct logodwen_packets list;
+    logodwen_packets_begin(&list, block_of(given[0]), given[0]);
+    for (size_t at = 1; at < count; at += 3 + given[at + 2]) {
+        uint8_t *words = words_from(at + 3);
+        printf("%X ", (unsigned)logodwen_packets_add(&list, given[at], given[at + 1], words, given[at + 2]));
+        free(words);
+    }
+    print_row(&list);
+    free(list.bytes);
+}
+
+/* A File Write in a list, behind a packet of one word: room, link and the file's words. */
+static void add_file(void) {
+    uint8_t *file = words_from(2), *bytes = block_of(given[0]);
+    struct logodwen_packets list;
+    logodwen_packets_begin(&list, bytes, given[0]);
+    if (logodwen_packets_left(&list) != 0) /* laid where it is to stand */
+        logodwen_packets_add(&list, 1, LOGODWEN_BC_WHOLE, logodwen_packets_next(&list), logodwen_make_mode_read(logodwen_packets_next(&list)));
+    printf("%X ", (unsigned)logodwen_packets_add_file(&list, given[1], file, count - 2));
+    print_row(&list);
+    free(file);
+    free(bytes);
+}
+
+/* The walk over a list, or over replies, up to the first that doesn't stand there: each with BC and length, and the place past the last. */
+static void read_row(bool is_list) {
+    uint8_t *row = words_from(0);
+    struct logodwen_packet packet;
+    uint32_t link;
+    size_t at = 0, past;
+    while ((past = is_list ? logodwen_read_packet(row, count, at, &link, &packet) : logodwen_read_reply(row, count, at, &packet)) != 0) {
+        if (is_list)
+            printf("%X ", (unsigned)link);
+        printf("%X %X ", (unsigned)packet.bc, (unsigned)packet.words);
+        for (size_t i = 0; i < packet.words; i++)
+            printf("%X ", (unsigned)logodwen_get(packet.bytes, i));
+        at = past;
+    }
+    printf("%X\n", (unsigned)at);
+    free(row);
+}
+
 /* Files. */
 
 static void add_segment(struct logodwen_file *file, const uint32_t *numbers) {
@@ -289,12 +341,17 @@ static void read_group(void) {
     free(reply);
 }
 
-/* A code's text, as its letters' numbers. */
-static void code_text(void) {
-    const char *text = logodwen_code_text(given[0]);
+/* A text, as its letters' numbers. */
+static void print_text(const char *text) {
     for (size_t i = 0; text[i] != 0; i++)
         printf("%s%X", i == 0 ? "" : " ", (unsigned)text[i]);
     printf("\n");
+}
+
+/* What a packet is called: by its BC, and how many words it has. */
+static void packet_text(void) {
+    const struct logodwen_packet packet = {NULL, given[1], given[0]};
+    print_text(logodwen_packet_text(&packet));
 }
 
 static void of_words(const char *name) {
@@ -323,7 +380,15 @@ static void answer_line(const char *name) {
     else if (strcmp(name, "read_group") == 0)
         read_group();
     else if (strcmp(name, "code_text") == 0)
-        code_text();
+        print_text(logodwen_code_text(given[0]));
+    else if (strcmp(name, "packet_text") == 0)
+        packet_text();
+    else if (strcmp(name, "packets_add") == 0)
+        add_packets();
+    else if (strcmp(name, "packets_add_file") == 0)
+        add_file();
+    else if (strcmp(name, "read_packet") == 0 || strcmp(name, "read_reply") == 0)
+        read_row(strcmp(name, "read_packet") == 0);
     else if (strcmp(name, "fcs") == 0 || strcmp(name, "sealed") == 0)
         of_words(name);
     else if (!is_request(name) && !is_long_request(name))
@@ -605,6 +670,67 @@ static void try_list(unsigned long turn) {
     logodwen_node_send(&node, now, 0, packet, logodwen_make_list_delete_all(packet));
 }
 
+/* A request by chance, in so many words: one of the node's own, one that is no command, or one to a slave. */
+static size_t request_by_chance(uint8_t *packet, size_t room) {
+    static const uint8_t data[8];
+    uint32_t kind = any() % 16;
+    if (room < 3 || kind < 5)
+        return logodwen_make_ping(packet, room, data, any() % 4);
+    if (kind == 5)
+        return logodwen_make_to_slave(packet, 5) + logodwen_make_mode_read(packet + 2);
+    if (kind < 9)
+        return logodwen_make_mode_write(packet, any() % 4);
+    return kind < 13 ? logodwen_make_mode_read(packet) : logodwen_make_command_1(packet, 0xFF, any());
+}
+
+/* As many packets as a list has room for, each laid where it is to stand. */
+static void list_by_chance(struct logodwen_packets *list, uint8_t *bytes, size_t room) {
+    bool is_added = true;
+    logodwen_packets_begin(list, bytes, room);
+    while (is_added) {
+        uint8_t *next = logodwen_packets_next(list);
+        size_t words = request_by_chance(next, logodwen_packets_left(list));
+        is_added = logodwen_packets_add(list, any() % 2, any() % 9 == 0 ? any() % 4 : LOGODWEN_BC_WHOLE, next, words);
+    }
+}
+
+/* A list by chance is answered as its packets are one by one, up to one that would ask a slave. */
+static void try_requests(unsigned long turn) {
+    enum { ROOM = 40, REPLIES = LOGODWEN_REPLIES_WORDS + 2 * ROOM };
+    static const struct logodwen_given kind = {LOGODWEN_CDDC, 2, 0, 0, 0, 0, 0};
+    static struct logodwen_node listed, single;
+    static uint8_t replies[2 * REPLIES];
+    size_t room = any() % ROOM, at = 0, past = 0;
+    uint8_t *row = block_of(room);
+    struct logodwen_packets list;
+    struct logodwen_packet packet, reply;
+    uint32_t link;
+    if (turn == 0) {
+        logodwen_node_blank(&listed);
+        logodwen_node_start(&listed, &kind);
+        single = listed;
+    }
+    list_by_chance(&list, row, room);
+    uint64_t answered = logodwen_node_requests(&listed, 7, &list, replies, REPLIES);
+    for (uint32_t i = 0; i < logodwen_done(answered); i++) {
+        at = logodwen_read_packet(row, list.words, at, &link, &packet);
+        past = logodwen_read_reply(replies, REPLIES, past, &reply);
+        if (at == 0 || past == 0)
+            differs("the walk over a list", turn);
+        uint64_t alone = logodwen_node_request(&single, 7, link, packet.bc, 0, packet.bytes, packet.words);
+        if (strcmp(logodwen_reply_text(alone), logodwen_packet_text(&reply)) != 0 || reply.bc != logodwen_bc(alone)
+            || reply.words != logodwen_words(alone) || (reply.words != 0 && memcmp(reply.bytes, single.reply, 2 * reply.words) != 0))
+            differs("a reply of a list", turn);
+    }
+    if (memcmp(listed.state, single.state, sizeof single.state) != 0 || (logodwen_done(answered) == list.count) != (at == list.words))
+        differs("what a list leaves", turn);
+    if (at != list.words && logodwen_read_packet(row, list.words, at, &link, &packet) != 0
+        && logodwen_answer(logodwen_node_request(&single, 7, link, packet.bc, 0, packet.bytes, packet.words)) != LOGODWEN_ASK)
+        differs("where a list stops", turn);
+    single = listed;
+    free(row);
+}
+
 /* Around the longest request, and the longest file in packets: on a bench flash all are ABORT, and stop where one is. */
 static void try_long_writes(void) {
     static const size_t lengths[] = {0, 8191, 8192, 8193, 16383, 16384, 32767, 32768, 32769, 40959, 40960};
@@ -637,6 +763,7 @@ int main(int arguments, char **argument) {
         try_sequence(turn);
         try_write(turn);
         try_list(turn);
+        try_requests(turn);
     }
     try_long_writes();
     printf("helpers: %lu turns by chance as the model has them\n", turns);

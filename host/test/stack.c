@@ -13,7 +13,26 @@ enum { STACK = 4 << 20, PAINT = 0xC5 };
 
 static uint8_t pm[LOGODWEN_PM_BYTES], dm[LOGODWEN_DM_BYTES], io[LOGODWEN_IO_BYTES], packet[LOGODWEN_SLAVE_REPLY_BYTES];
 static struct logodwen_node node = {.pm = pm, .dm = dm, .io = io, .pm_len = sizeof pm, .dm_len = sizeof dm, .io_len = sizeof io};
-static void request(size_t words) { logodwen_node_send(&node, 0, 0, packet, words); }
+
+/* Requests are done as they come, or laid in a list first. */
+static uint8_t row[1 << 17], listed_replies[1 << 17];
+static struct logodwen_packets list;
+static bool is_listing;
+
+static void packet_with(uint32_t bc, size_t words) {
+    if (!is_listing)
+        logodwen_node_request(&node, 0, 0, bc, 0, packet, words);
+    else if (!logodwen_packets_add(&list, 0, bc, packet, words))
+        exit(2);
+}
+
+static void request(size_t words) { packet_with(LOGODWEN_BC_WHOLE, words); }
+
+static void write_in_packets(size_t room, const uint8_t *file, size_t words) {
+    uint32_t bc;
+    for (size_t at = 0, laid; (laid = logodwen_make_file_packet(packet, room, file, words, &at, &bc)) != 0;)
+        packet_with(bc, laid);
+}
 
 /* The work of each entry. */
 
@@ -52,9 +71,8 @@ static void requests(void) {
     logodwen_file_io(&file, data, 100);
     request(logodwen_make_file_write(packet, ROOM, image, file.words));
     logodwen_put(image, 0, (uint16_t)(logodwen_get(image, 0) ^ 0x0100)); /* another name: and in packets */
-    size_t sent;
-    logodwen_node_write(&node, 0, 0, packet, 100, image, file.words, &sent);
-    logodwen_node_write(&node, 0, 0, packet, ROOM, image, ROOM, &sent);
+    write_in_packets(100, image, file.words);
+    write_in_packets(ROOM, image, ROOM);
     request(logodwen_make_status(packet));
     request(logodwen_make_summary(packet));
     request(logodwen_make_mode_read(packet));
@@ -75,6 +93,19 @@ static void requests(void) {
     request(logodwen_make_erase_start(packet, NAME));
     list_requests();
     group_request();
+}
+
+/* The same requests in one call, up to the last, which asks a slave. */
+static void lay_list(void) {
+    logodwen_packets_begin(&list, row, sizeof row / 2);
+    is_listing = true;
+    requests();
+    is_listing = false;
+}
+
+static void lists(void) {
+    if (logodwen_node_requests(&node, 0, &list, listed_replies, sizeof listed_replies / 2) != (uint64_t)(list.count - 1) << 32)
+        exit(2);
 }
 
 /* All replies of the group that was asked last, and the words of its own. */
@@ -177,5 +208,9 @@ int main(void) {
     wrong += measure("erase", erases, LOGODWEN_STACK_ERASE);
     wrong += measure("slow", steps, LOGODWEN_STACK_SLOW);
     wrong += measure("fcs", sequences, LOGODWEN_STACK_FCS);
+    logodwen_node_blank(&node);
+    starts();
+    lay_list();
+    wrong += measure("requests", lists, LOGODWEN_STACK_REQUESTS);
     return wrong == 0 ? 0 : 1;
 }

@@ -18,6 +18,7 @@ enum { LOWEST_TAKEN = 23 };                                                     
 enum { ALL_READABLE = 24, PLACE_OFF, SEAL_OVERLOOKED, LEFT_OVER_OVERLOOKED, KIND_UNKNOWN, MASK_CUT }; /* of a captured group reply */
 enum { OLD_CLOCK = 30, RX_STATUS_LOST };                                                        /* of a slave that is sent NEXT */
 enum { DUE_COMPARED = 32, TURN_WAITS, LAST_DUE_LEFT, CLEARED_TURN, HALF_ADDED, TURN_KEPT };     /* of the Q-List */
+enum { BARE_REPLIES = 38, LITTLE_ROOM, STOPPED_YET_CHANGED, REFUSED_YET_BEGUN, COUNT_LOW, ASKED_IN_LIST }; /* of a list of requests */
 enum { DIRECTORY_BYTES = 64, ENTRY_WORDS = 4, FIRST = 0, STATUS = 2, LENGTH = 3 };
 enum { REPETITIONS = 1, DUE = 10 }; /* in a record: a word, and a byte */
 
@@ -187,6 +188,57 @@ uint64_t logodwen4_request(uint32_t now, uint32_t link, uint32_t bc, uint32_t re
     if (is_read && logodwen_words(answered) != 0)
         return read_with_fault(answered, reply);
     return is_write && logodwen_answer(answered) == LOGODWEN_REPLY ? write_with_fault(answered) : answered;
+}
+
+/* Whether the packets of a list end where it does. */
+static bool is_whole(const uint8_t *packets, size_t words) {
+    size_t at = 0;
+    while (at < words && words - at >= LOGODWEN_BEFORE_PACKET && words - at - LOGODWEN_BEFORE_PACKET >= logodwen_get(packets, at + 2))
+        at += LOGODWEN_BEFORE_PACKET + logodwen_get(packets, at + 2);
+    return at == words;
+}
+
+/* Lays a reply behind others, as far as there is room; answers how many words it takes. */
+static size_t lay_reply(uint64_t answered, const uint8_t *reply, uint8_t *to, size_t room) {
+    size_t before = FAULT == BARE_REPLIES ? 0 : LOGODWEN_BEFORE_REPLY, words = logodwen_words(answered), left = room - before;
+    if (before != 0) {
+        logodwen_put(to, 0, (uint16_t)logodwen_bc(answered));
+        logodwen_put(to, 1, (uint16_t)words);
+    }
+    words = words < left ? words : left;
+    memcpy(to + 2 * before, reply, 2 * words);
+    return before + words;
+}
+
+/* A list, by the model; with a fault, by the requests above one after the other, so that it has theirs too. */
+uint64_t logodwen4_requests(uint32_t now, const uint8_t *packets, size_t packets_len, uint8_t *state, size_t state_len, uint8_t *flash,
+                            size_t flash_len, uint8_t *pm, size_t pm_len, uint8_t *dm, size_t dm_len, uint8_t *io, size_t io_len,
+                            uint8_t *area, size_t area_len, uint8_t *list, size_t list_len, uint8_t *replies, size_t replies_len) {
+    static uint8_t reply[LOGODWEN_REPLY_BYTES], before[LOGODWEN_STATE_BYTES];
+    size_t words = packets_len / 2, room = replies_len / 2, laid = 0, done = 0, end = 0;
+    size_t least = FAULT == LITTLE_ROOM ? LOGODWEN_REPLY_WORDS : LOGODWEN_REPLIES_WORDS;
+    bool is_refused = !is_whole(packets, words), is_state = state_len == sizeof before;
+    struct logodwen_packet packet;
+    uint32_t link;
+    if (FAULT == NO_FAULT)
+        return model_requests(now, packets, packets_len, state, state_len, flash, flash_len, pm, pm_len, dm, dm_len, io, io_len, area,
+                              area_len, list, list_len, replies, replies_len);
+    for (size_t at = 0; (FAULT == REFUSED_YET_BEGUN || !is_refused) && room - laid >= least; end = at, done++) {
+        at = logodwen_read_packet(packets, words, at, &link, &packet);
+        if (at == 0)
+            break;
+        memcpy(before, is_state ? state : before, sizeof before);
+        uint64_t answered = logodwen4_request(now, link, packet.bc, 0, packet.bytes, 2 * packet.words, state, state_len, flash, flash_len, pm,
+                                              pm_len, dm, dm_len, io, io_len, area, area_len, list, list_len, reply, sizeof reply);
+        if (logodwen_answer(answered) == LOGODWEN_ASK && FAULT != ASKED_IN_LIST)
+            memcpy(state, before, sizeof before);
+        if (logodwen_answer(answered) != LOGODWEN_REPLY)
+            break;
+        laid += lay_reply(answered, reply, replies + 2 * laid, room - laid);
+    }
+    if (FAULT == STOPPED_YET_CHANGED && end != words && is_state)
+        state[LOGODWEN_AT_AMSWIRE_ERRORS] ^= 1;
+    return is_refused ? LOGODWEN_REFUSED_OVERRUN : (uint64_t)done << (FAULT == COUNT_LOW ? 8 : 32);
 }
 
 /* The state of a node that has a slave sent NEXT, with a fault: its 60 ticks go on from when it was asked, or the RX status is not kept. */
