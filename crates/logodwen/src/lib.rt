@@ -15,6 +15,7 @@ use crate::checks::poll_check;
 use crate::checks::reply_check;
 use crate::checks::request_check;
 use crate::checks::slow_check;
+use crate::taking::take;
 use codec::state::encode;
 use codec::state::is_state;
 use codec::state::node_in;
@@ -24,7 +25,6 @@ use rows::fits;
 use rows::on_requests;
 use touch::erasing::on_erase;
 use touch::lists::on_slow;
-use touch::requests::on_request;
 use touch::slaves::on_poll;
 use touch::slaves::on_reply;
 use touch::starting::on_start;
@@ -33,6 +33,7 @@ mod answers;
 pub mod captured;
 mod checks;
 pub mod sequence;
+mod taking;
 
 // Start on a flash: the refusal's number, 0 for done.
 #[no_mangle]
@@ -108,7 +109,7 @@ pub extern "C" fn logodwen4_request(
         Verdict::Fine => {
             let node = node_in(state);
             let errors = receive_error != 0;
-            let turn = on_request(
+            let turn = take(
                 node,
                 clock,
                 link,

@@ -7,13 +7,16 @@ ghost use lib.ListN.{length};
 ghost use Rattle.base.specs.Words.{laid};
 ghost use Rattle.group.specs.declared.Reply.{Reply};
 ghost use Rattle.memory.specs.Segment.{memories};
-ghost use Rattle.node.specs.Effect.{further, lent, outcome};
+ghost use Rattle.node.specs.Effect.{Further, further, lent, outcome};
+ghost use Rattle.node.specs.Refusals.{requestVerdict};
 ghost use Rattle.node.specs.Calls.{requestOf};
 ghost use Rattle.node.specs.declared.Answer.{Answer};
 ghost use Rattle.codec.specs.Bytes.{wordsOf, bytesOf};
 ghost use Rattle.series.specs.Packets.{packetAt, endAt, fits};
 ghost use Rattle.series.specs.Requests.{headOf, kept, stepped, rowed};
+ghost use Rattle.node.specs.declared.Verdict.{Verdict};
 ghost use Rattle.touch.specs.InBytes.{runWords, inBytes};
+ghost use Rattle.touch.specs.Touch.{Beside};
 ghost use Rattle.rows.specs.Rows.{EndsIn, stepIn, requestsIn};
 use codec::words::packet_word;
 use codec::words::put16;
@@ -26,6 +29,9 @@ use node::refusals::request_verdict;
 use series::Rowed;
 use series::Stepped;
 use series::is_left;
+use short::is_short;
+use short::on_short;
+use short::route_in;
 use touch::requests::on_request;
 
 // Whether every packet of the list, with its three words, ends inside it.
@@ -47,7 +53,47 @@ pub fn fits(packets: &[u8]) -> bool
     true
 }
 
-// A packet's call: refused, or taken as any request is.
+// A packet that is taken: a short request, or any, as the border takes one.
+fn take(
+    node: Node,
+    clock: u32,
+    link: u32,
+    bc: u32,
+    packet: &[u8],
+    flash: &mut [u8],
+    pm: &mut [u8],
+    dm: &mut [u8],
+    io: &mut [u8],
+    area: &mut [u8],
+    list: &mut [u8],
+    reply: &mut [u8],
+) -> Turn
+    requires { ⌜ (length (now flash) / 2 ≡ 32768) × (12288 ≤ length (now reply) / 2) × (length (now pm) / 4 ≤ 8192) × (length (now dm) / 2 ≤ 8192) × (length (now io) / 2 ≤ 4096) × (32768 ≤ length (now area) / 2) × (length (now list) / 14 ≤ 910) × (node .listing .entries ≤ length (now list) / 14) ⌝ }
+    requires { ⌜ ((x : Further) → Beside node x → requestVerdict node link (length (now packet) / 2) (length (now flash) / 2) (length (now pm) / 4) (length (now dm) / 2) (length (now io) / 2) (length (x .area) / 2) (length (x .list) / 14) 12288 ≡ Verdict.Fine) ⌝ }
+    ensures { λ r. ⌜ outcome r (lent (now (flash .exit)) (memories (now (pm .exit)) (now (dm .exit)) (now (io .exit))) (further (now (area .exit)) (now (list .exit))) (now (reply .exit))) ≡ inBytes (requestOf node clock link bc false (wordsOf 2 (now (packet .entry))) (runWords (lent (now (flash .entry)) (memories (now (pm .entry)) (now (dm .entry)) (now (io .entry))) (further (now (area .entry)) (now (list .entry))) (now (reply .entry))))) (lent (now (flash .entry)) (memories (now (pm .entry)) (now (dm .entry)) (now (io .entry))) (further (now (area .entry)) (now (list .entry))) (now (reply .entry))) ⌝ }
+{
+    let route = route_in(node, link, bc, false, packet);
+    if is_short(route, packet.len() / 2) {
+        return on_short(node, route, clock, link, packet, reply);
+    }
+    on_request(
+        node,
+        clock,
+        link,
+        bc,
+        false,
+        packet,
+        flash,
+        pm,
+        dm,
+        io,
+        area,
+        list,
+        reply,
+    )
+}
+
+// A packet's call: refused, or taken.
 fn call(
     node: Node,
     clock: u32,
@@ -78,12 +124,11 @@ fn call(
         12288,
     );
     match verdict {
-        Verdict::Fine => on_request(
+        Verdict::Fine => take(
             node,
             clock,
             link,
             bc,
-            false,
             packet,
             flash,
             pm,

@@ -11,7 +11,7 @@ mod replied;
 pub mod requests;
 mod rooms;
 mod sectors;
-mod settings;
+pub mod settings;
 pub mod slaves;
 pub mod starting;
 mod stretches;

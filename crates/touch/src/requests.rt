@@ -30,19 +30,19 @@ use node::Route;
 use node::Turn;
 
 // Whether an own command touches a memory, the flash, or the Q-List.
-fn needs_memories(id: u16) -> bool
+pub fn needs_memories(id: u16) -> bool
     ensures { λ r. ⌜ r ≡ needsMemories id ⌝ }
 {
     (id == 0x0F) | (id == 0x10) | (id == 0x50) | (id == 0x11) | (id == 0x51) | (id == 0x46)
 }
 
-fn needs_flash(id: u16) -> bool
+pub fn needs_flash(id: u16) -> bool
     ensures { λ r. ⌜ r ≡ needsFlash id ⌝ }
 {
     (id == 0x05) | (id == 0x45) | (id == 0x06) | (id == 0x46) | (id == 0x47) | (id == 0x48)
 }
 
-fn needs_list(id: u16) -> bool
+pub fn needs_list(id: u16) -> bool
     ensures { λ r. ⌜ r ≡ needsList id ⌝ }
 {
     (id == 0x1C) | (id == 0x5B) | (id == 0x5C)

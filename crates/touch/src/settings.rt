@@ -46,7 +46,14 @@ fn settle(
 }
 
 // On the bytes of a short packet, and of any.
-fn settle_short(node: Node, id: u16, clock: u32, link: u32, packet: &[u8], reply: &mut [u8]) -> Turn
+pub fn settle_short(
+    node: Node,
+    id: u16,
+    clock: u32,
+    link: u32,
+    packet: &[u8],
+    reply: &mut [u8],
+) -> Turn
     requires { ⌜ (1 ≤ length (now packet) / 2) × (length (now packet) / 2 ≤ 64) × (12288 ≤ length (now reply) / 2) ⌝ }
     ensures { λ r. ⌜ Quiet node (quietOf id node clock link (wordsOf 2 (now (packet .entry)))) (now (reply .entry)) r (now (reply .exit)) ⌝ }
 {

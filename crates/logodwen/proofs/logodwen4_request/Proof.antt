@@ -46,8 +46,8 @@ enum-told c = search needs
 node-in-requires : tie.Need-node-in-requires
 node-in-requires c κs = state-long (c .before .before .before .before .before .before .before .before .before .before .before .before .before .before .args .state .now) (fine (c .before .before .before .before .before .before .before .before .before .before .before .before .before .before) (sym (c .before .before .before .request-check .ensures) ∙ c .before .enum-told .given .1) .bytes)
 
-on-request-requires : tie.Need-on-request-requires
-on-request-requires c κs = let a = c .before .before .before .before .before .before .before .before .before .before .before .before .before .before .before .before .before .before .before .before .before .before .args in
+take-requires : tie.Need-take-requires
+take-requires c κs = let a = c .before .before .before .before .before .before .before .before .before .before .before .before .before .before .before .before .before .before .before .before .before .before .args in
     let check = sym (c .before .before .before .before .before .before .before .before .before .before .before .request-check .ensures) ∙ c .before .before .before .before .before .before .before .before .before .enum-told .given .1 in
     let f = fine (c .before .before .before .before .before .before .before .before .before .before .before .before .before .before .before .before .before .before .before .before .before .before) check in
     let n = c .before .before .before .before .before .before .before .node-in .ensures in
@@ -100,7 +100,7 @@ returns : tie.Need-returns
 unfolding requestEntry
 returns c = let s = c .before .before .before .before .before .before .before .before .before .before .before .before .before .before .before .before .before .before .before .before .before .before .before .before .before .before .before .before .before .before .before .before .before .before .before .before .before .before .before .before .before .before .before in
     entered-fine (checked s) (s .args .state .now) (given s) (called s (nodeIn (s .args .state .now))) (sym (c .before .before .before .before .before .before .before .before .before .before .before .before .before .before .before .before .before .before .before .before .before .before .before .before .before .before .before .before .before .before .before .before .request-check .ensures) ∙ c .before .before .before .before .before .before .before .before .before .before .before .before .before .before .before .before .before .before .before .before .before .before .before .before .before .before .before .before .before .before .enum-told .given .1)
-    (c .before .before .before .before .before .before .before .before .before .before .before .before .before .before .before .before .before .before .before .before .on-request .ensures ∙ ap (λ (n : Node). inBytes (called s n) (given s)) (c .before .before .before .before .before .before .before .before .before .before .before .before .before .before .before .before .before .before .before .before .before .before .before .before .before .before .before .before .node-in .ensures)) (c .answer-number .ensures) (c .before .before .before .encode .ensures)
+    (c .before .before .before .before .before .before .before .before .before .before .before .before .before .before .before .before .before .before .before .before .take .ensures ∙ ap (λ (n : Node). inBytes (called s n) (given s)) (c .before .before .before .before .before .before .before .before .before .before .before .before .before .before .before .before .before .before .before .before .before .before .before .before .before .before .before .before .node-in .ensures)) (c .answer-number .ensures) (c .before .before .before .encode .ensures)
 
 same-length-9 : tie.Need-same-length-9
 same-length-9 c = search needs
@@ -117,7 +117,7 @@ logodwen4-request-spec =
     request-check-requires
     enum-told
     node-in-requires
-    on-request-requires
+    take-requires
     encode-requires
     answer-number-requires
     enum-known-verdict

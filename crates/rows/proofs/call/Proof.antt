@@ -41,8 +41,8 @@ request-verdict-requires c κs = search needs
 enum-told : tie.Need-enum-told
 enum-told c = search needs
 
-on-request-requires : tie.Need-on-request-requires
-on-request-requires c κs =
+take-requires : tie.Need-take-requires
+take-requires c κs =
     let s = c .before .before .before .before .before .before .before .before .before .before .before .before .before .before .before .before .before .before in
     let a = s .args in
     let e : judged s ≡ Verdict.Fine = sym (c .before .before .before .before .before .before .before .before .before .request-verdict .ensures) ∙ c .before .before .before .before .before .before .before .enum-told .given .1 in
@@ -77,7 +77,7 @@ same-length-7 : tie.Need-same-length-7
 same-length-7 c = search needs
 
 returns : tie.Need-returns
-returns c = c .before .before .before .before .before .before .before .before .before .before .before .before .before .before .on-request .ensures
+returns c = c .before .before .before .before .before .before .before .before .before .before .before .before .before .before .take .ensures
 
 returns-2 : tie.Need-returns-2
 returns-2 c =
@@ -90,7 +90,7 @@ call-spec =
     (tie.spec
     request-verdict-requires
     enum-told
-    on-request-requires
+    take-requires
     enum-known-verdict
     same-length
     same-length-2
