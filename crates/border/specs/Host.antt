@@ -1,6 +1,6 @@
 -- A host in C, as it keeps a node: 192 state bytes and the flash's bytes, lent to entry after entry. What an entry is given, what the
--- C types say of it, the bytes that it leaves, and all bytes that a host can come to have. As the demands, these are of any six
--- entries, so that wrong ones can be seen to be shut out. 01 'Covered' and 'Call refusals', and 02, request 7.
+-- C types say of it, the bytes that it leaves, and all bytes that a host can come to have. As the demands, these are of any such
+-- entries, so that wrong ones can be seen to be shut out. 01 'Covered' and 'Call refusals', and 02, requests 7 and 9.
 -- Assumes nothing.
 use Prim.Native.Nat.{ℕ, _%_, _<_}
 use mathlib.Core.Path.{_≡_}

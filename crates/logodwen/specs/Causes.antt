@@ -27,7 +27,8 @@ memoriesCause pm dm io = cause Refusal.MemorySize (ltb 8192 pm || ltb 8192 dm ||
 abbrev pub lengthCause : ℕ → Cause
 lengthCause packet = cause Refusal.MemorySize (ltb 32768 packet)
 
--- The limits that the border has beside the node's own: none of 1 by bench size, nor of 3 by PM and DM, holds.
+-- What is lent is within the limits that 'Covered' sets beside the node's own: the flash is bench size, PM and DM are at most 8,192 words. For a list
+-- of requests, to all packets of which the same is lent (02, request 9).
 abbrev pub isBench : ℕ → ℕ → ℕ → Bool
 isBench flash pm dm = eqb flash 32768 && leb pm 8192 && leb dm 8192
 

@@ -15,7 +15,7 @@ use Rattle.node.specs.declared.Refusal.{Refusal}
 use Rattle.node.specs.declared.Turn.{Turn}
 use Rattle.node.specs.declared.Writing.{Writing}
 
--- The paper's number of each refusal: 01 'Call refusals', and 8 and 9 of 02, requests 1 and 7.
+-- The paper's number of each refusal: 01 'Call refusals', and 8, 9 and 10 of 02, requests 1, 7 and 9. 10 is that of a list of requests alone.
 abbrev pub refusalNumber : Refusal → ℕ
 refusalNumber Refusal.FlashSize = 1
 refusalNumber Refusal.ReplySize = 2
