@@ -1,0 +1,43 @@
+-- `bytes::word16` meets its contract. Assumes nothing.
+use native.Mathlib.Omega.{arith}
+use Rattle.bytes.proofs.Runs.{word-two}
+use borrow.Author.Needs.{needs}
+use Rattle.bytes.proofs.word16.Statement.{statement}
+use Rattle.bytes.proofs.word16.Tie as tie
+
+shared-slice-read-wide16 : tie.Need-shared-slice-read-wide16
+shared-slice-read-wide16 c = search needs
+
+wide16-requires : tie.Need-wide16-requires
+wide16-requires c κs = search needs
+
+add-wide16 : tie.Need-add-wide16
+add-wide16 c = search needs
+
+shared-slice-read-wide16-2 : tie.Need-shared-slice-read-wide16-2
+shared-slice-read-wide16-2 c = search needs
+
+wide16-requires-2 : tie.Need-wide16-requires-2
+wide16-requires-2 c κs = search needs
+
+mul-result : tie.Need-mul-result
+mul-result c = search needs
+
+add-result : tie.Need-add-result
+add-result c = search needs
+
+returns : tie.Need-returns
+returns c = omega (arith, word-two (c .before .before .before .before .before .args .bytes .now) (c .before .before .before .before .before .args .at) (c .before .before .before .before .before .pre))
+
+pub word16-spec : {M : Type 1} → statement M
+word16-spec =
+    tie.close
+    (tie.spec
+    shared-slice-read-wide16
+    wide16-requires
+    add-wide16
+    shared-slice-read-wide16-2
+    wide16-requires-2
+    mul-result
+    add-result
+    returns)
