@@ -1,24 +1,11 @@
-// Which slaves are asked, and how long each may take.
+// Which slaves are asked; how long each may take is told by `ticks`.
 ghost use mathlib.Core.Path.{_≡_};
 ghost use Prim.Native.Nat.{_/_, _%_, _^_, _<_};
 ghost use lib.ListN.{length};
-ghost use Rattle.group.specs.Time.{elapsed, isLate};
 ghost use Rattle.group.specs.Slaves.{slavesUp, slavesOf, above, nextOf};
 use crate::Next;
-
-// The ticks from an earlier clock reading on.
-pub fn ticks_since(clock: u32, earlier: u32) -> u32
-    ensures { λ r. ⌜ r ≡ elapsed clock earlier ⌝ }
-{
-    std::num::wrapping_sub_u32(clock, earlier)
-}
-
-// A slave asked at one tick has not answered in time at another.
-pub fn is_late(clock: u32, asked: u32) -> bool
-    ensures { λ r. ⌜ r ≡ isLate clock asked ⌝ }
-{
-    60 <= ticks_since(clock, asked)
-}
+pub use ticks::is_late;
+pub use ticks::ticks_since;
 
 // Slave s of a set: 1 where it is in it, else 0. A set has 32 bits at most.
 pub fn bit(set: u32, s: u32) -> usize

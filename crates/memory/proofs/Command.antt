@@ -15,13 +15,13 @@ use Rattle.image.specs.Segment.{memoryOf, memoryNumber, lengthOf, pageOf, addre
 use Rattle.image.specs.Packing.{packed, bodyWords, sealed}
 use Rattle.image.proofs.Packing.{packed-two, length-packed, length-unpacked}
 use Rattle.image.specs.declared.Memory.{Memory}
-use Rattle.memory.specs.Run.{wordsAt, putAt}
+use Rattle.map.specs.Run.{wordsAt, putAt}
 use Rattle.memory.specs.Pairs.{idsOk, ioAfter, ioAnswer}
 use Rattle.memory.specs.Segment.{firstOf, secondOf, segmentWords, headerRun, headerFits, isSegment}
 use Rattle.memory.specs.Command.{isOwn, readWords, readAnswer, readable, read, readOf, writable, written, writeOf, performAnswer, performable, performed, performOf}
 use Rattle.memory.specs.declared.Answer.{Answer}
 use Rattle.memory.proofs.Segment.{exact-tells, length-least, size-plain, pairs-even}
-use Rattle.memory.proofs.Run.{below-words, length-run-words}
+use Rattle.map.proofs.Run.{below-words, length-run-words}
 use Rattle.memory.proofs.Pairs.{length-answer-even}
 
 -- a memory is known by its number

@@ -1,7 +1,7 @@
 -- The examples, by computation. Assumes nothing.
 use mathlib.Core.Path.{refl}
-use Rattle.memory.specs.Map.{indexOf}
-use Rattle.memory.specs.Run.{runOf, allBelow, runFits}
+use Rattle.map.specs.Map.{indexOf}
+use Rattle.map.specs.Run.{runOf, allBelow, runFits}
 use Rattle.memory.specs.Examples.{Examples}
 
 pub examples : Examples

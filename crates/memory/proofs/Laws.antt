@@ -17,12 +17,12 @@ use Rattle.image.proofs.Segment.{segment-ok-tells}
 use Rattle.image.proofs.Body.{segment-body}
 use Rattle.image.proofs.Packing.{length-unpacked, unpacked-below}
 use Rattle.image.specs.declared.Memory.{Memory}
-use Rattle.memory.specs.Run.{wordsAt, putAt}
+use Rattle.map.specs.Run.{wordsAt, putAt}
 use Rattle.memory.specs.Segment.{firstOf, secondOf, segmentWords, headerRun, headerFits}
 use Rattle.memory.specs.Command.{readWords, readAnswer, readable, read, readOf, writable, Written, written, writeOf}
 use Rattle.memory.specs.Laws.{wordIndex, ReadsBack, ChangesAlone, ClearsRest}
-use Rattle.memory.proofs.Run.{fits-tells, length-run, length-put, getD-run, put-other, words-put}
-use Rattle.memory.proofs.Packed.{word-read}
+use Rattle.map.proofs.Run.{fits-tells, length-run, length-put, getD-run, put-other, words-put}
+use Rattle.map.proofs.Packed.{word-read}
 use Rattle.memory.proofs.Segment.{exact-tells}
 use Rattle.memory.proofs.Command.{Writable, writable-tells, read-done}
 

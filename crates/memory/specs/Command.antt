@@ -11,7 +11,7 @@ use Rattle.image.specs.Segment.{memoryOf, memoryNumber, lengthOf, lengthOk}
 use Rattle.image.specs.Packing.{bodyWords, bodyOf}
 use Rattle.image.specs.declared.Memory.{Memory}
 use Rattle.image.specs.declared.Memory.the-variants.{Io}
-use Rattle.memory.specs.Run.{wordsAt, putAt}
+use Rattle.map.specs.Run.{wordsAt, putAt}
 use Rattle.memory.specs.Pairs.{idsOk, ioAfter, ioAnswer}
 use Rattle.memory.specs.Segment.{firstOf, secondOf, segmentWords, headerRun, headerFits, isSegment}
 use Rattle.memory.specs.declared.Answer.{Answer}

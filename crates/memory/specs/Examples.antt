@@ -4,7 +4,7 @@ use mathlib.Core.Bool.{true, false}
 use mathlib.Core.List.{[], _∷_}
 use Rattle.image.specs.declared.Memory.{Memory}
 use Rattle.image.specs.declared.Page.{Page}
-use Rattle.memory.specs.Run.{runOf, runFits}
+use Rattle.map.specs.Run.{runOf, runFits}
 use Rattle.memory.specs.Command.{readWords}
 
 pub record Examples : Type 0 where

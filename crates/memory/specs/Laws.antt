@@ -7,7 +7,7 @@ use lib.ListN.{length, getD}
 use Rattle.base.specs.Words.{laid, Below}
 use Rattle.image.specs.Segment.{lengthOf, pageOf, addressOf, wordBytes}
 use Rattle.image.specs.declared.Memory.{Memory}
-use Rattle.memory.specs.Map.{indexOf}
+use Rattle.map.specs.Map.{indexOf}
 use Rattle.memory.specs.Segment.{firstOf, secondOf}
 use Rattle.memory.specs.Command.{read, readOf, writeOf}
 use Rattle.memory.specs.declared.Answer.{Answer}

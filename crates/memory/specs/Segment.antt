@@ -10,7 +10,7 @@ use Rattle.image.specs.declared.Memory.{Memory}
 use Rattle.image.specs.declared.Memory.the-variants.{Pm, Dm, Io}
 use Rattle.image.specs.declared.End.{End}
 use Rattle.image.specs.declared.End.the-variants.{At, Invalid}
-use Rattle.memory.specs.Run.{runOf, runFits, putAt}
+use Rattle.map.specs.Run.{runOf, runFits, putAt}
 use Rattle.memory.specs.Pairs.{idsOk, ioAfter}
 
 -- The two header words.

@@ -96,7 +96,7 @@ pub fn read_pm(pm: &[u32], first: u16, second: u16, reply: &mut [u16]) -> Answer
         let n = image::length_of(first) - 1;
         reply[0] = first;
         reply[1] = second;
-        runs::read_pm_run(
+        map::runs::read_pm_run(
             pm,
             image::page_of(second),
             image::address_of(second),
@@ -119,7 +119,7 @@ pub fn read_dm(dm: &[u16], first: u16, second: u16, reply: &mut [u16]) -> Answer
         let n = image::length_of(first) - 1;
         reply[0] = first;
         reply[1] = second;
-        runs::read_dm_run(
+        map::runs::read_dm_run(
             dm,
             image::page_of(second),
             image::address_of(second),

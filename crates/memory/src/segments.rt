@@ -1,17 +1,17 @@
 // Segments in the memories: whether one fits, and its words stored. Every function is lent the words of one valid segment.
 use crate::registers::ids_ok;
 use crate::registers::run_pairs;
-use crate::runs::run_fits;
-use crate::runs::store_dm_run;
-use crate::runs::store_pm_run;
 use image::End;
 use image::Memory;
+use map::runs::run_fits;
+use map::runs::store_dm_run;
+use map::runs::store_pm_run;
 ghost use mathlib.Core.Path.{_≡_};
 ghost use mathlib.Core.Bool.{true};
 ghost use Prim.Native.Nat.{_≤_};
 ghost use lib.ListN.{length};
 ghost use Rattle.image.specs.Segment.{memoryOf, lengthOf};
-ghost use Rattle.memory.specs.Run.{putAt};
+ghost use Rattle.map.specs.Run.{putAt};
 ghost use Rattle.memory.specs.Pairs.{idsOk, ioAfter};
 ghost use Rattle.memory.specs.Segment.{firstOf, secondOf, segmentWords, headerRun, headerFits, isSegment, segmentFits, memories, segmentStored};
 

@@ -8,10 +8,10 @@ use Rattle.base.specs.Words.{laid}
 use Rattle.image.specs.Segment.{lengthOf, pageOf, addressOf}
 use Rattle.image.specs.Packing.{sealed}
 use Rattle.image.specs.declared.Memory.{Memory}
-use Rattle.memory.specs.Run.{wordsAt}
+use Rattle.map.specs.Run.{wordsAt}
 use Rattle.memory.specs.Segment.{headerRun}
 use Rattle.memory.proofs.Command.{readable-tells, sealed-laid, packed-plain, read-done, read-abort}
-use Rattle.memory.proofs.Run.{length-run-words}
+use Rattle.map.proofs.Run.{length-run-words}
 use borrow.Author.Needs.{needs}
 use Rattle.memory.proofs.read_dm.Statement.{statement}
 use Rattle.memory.proofs.read_dm.Tie as tie

@@ -7,10 +7,10 @@ use Rattle.image.specs.Segment.{lengthOf, pageOf, addressOf}
 use Rattle.image.specs.Packing.{packed}
 use Rattle.image.proofs.Packing.{length-packed}
 use Rattle.image.specs.declared.Memory.{Memory}
-use Rattle.memory.specs.Run.{wordsAt}
+use Rattle.map.specs.Run.{wordsAt}
 use Rattle.memory.specs.Segment.{headerRun}
 use Rattle.memory.proofs.Command.{readable-tells, sealed-laid, words-pm, read-done, read-abort}
-use Rattle.memory.proofs.Run.{length-run-words}
+use Rattle.map.proofs.Run.{length-run-words}
 use borrow.Author.Needs.{needs}
 use Rattle.memory.proofs.read_pm.Statement.{statement}
 use Rattle.memory.proofs.read_pm.Tie as tie

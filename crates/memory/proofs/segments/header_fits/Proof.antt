@@ -3,7 +3,7 @@ use Prim.Native.Nat.{ℕ, _-_}
 use mathlib.Core.Path.{ap, ap₂, _∙_}
 use Rattle.image.specs.Segment.{pageOf, addressOf}
 use Rattle.image.specs.declared.Page.{Page}
-use Rattle.memory.specs.Run.{runFits}
+use Rattle.map.specs.Run.{runFits}
 use borrow.Author.Needs.{needs}
 use Rattle.memory.proofs.segments.header_fits.Statement.{statement}
 use Rattle.memory.proofs.segments.header_fits.Tie as tie

@@ -7,7 +7,7 @@ use Rattle.base.specs.Words.{part}
 use Rattle.base.proofs.Part.{length-part}
 use Rattle.image.specs.Segment.{lengthOf, wordBytes}
 use Rattle.image.specs.declared.Memory.{Memory}
-use Rattle.memory.specs.Run.{putAt}
+use Rattle.map.specs.Run.{putAt}
 use Rattle.memory.specs.Segment.{firstOf, secondOf, headerRun}
 use Rattle.memory.proofs.Segment.{exact-tells, size-plain, words-plain}
 use borrow.Author.Needs.{needs}

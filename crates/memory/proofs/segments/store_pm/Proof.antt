@@ -8,7 +8,7 @@ use Rattle.base.specs.Words.{part}
 use Rattle.image.specs.Segment.{lengthOf, wordBytes}
 use Rattle.image.specs.Packing.{unpacked}
 use Rattle.image.specs.declared.Memory.{Memory}
-use Rattle.memory.specs.Run.{putAt}
+use Rattle.map.specs.Run.{putAt}
 use Rattle.memory.specs.Segment.{firstOf, secondOf, headerRun}
 use Rattle.memory.proofs.Segment.{exact-tells, size-packed}
 use borrow.Author.Needs.{needs}
