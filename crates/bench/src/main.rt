@@ -152,6 +152,45 @@ fn quiet(node: Node, kept: Kept) -> After {
     }
 }
 
+// A line that is no call: nothing is lent to it.
+fn settle(said: Said, node: Node, kept: Kept) -> After {
+    match said {
+        Said::Clock(ticks) => quiet(node, with_clock(kept, ticks)),
+        Said::Fault => quiet(node, with_fault(kept)),
+        Said::Help => After {
+            node,
+            kept,
+            told: say_help(),
+        },
+        Said::Wrong(wrong) => After {
+            node,
+            kept,
+            told: say_wrong(kept.number, wrong),
+        },
+        _ => quiet(node, kept),
+    }
+}
+
+// A line that is no request: each has what it is lent, and no more, since every way out is proved of every run that is lent.
+fn proceed(
+    said: Said,
+    node: Node,
+    kept: Kept,
+    words: &[u16],
+    held: &mut [u16],
+    flash: &mut [u16],
+    list: &mut [u16],
+    reply: &mut [u16],
+) -> After {
+    match said {
+        Said::Reply(heard) => hear(heard, node, kept, words, held, reply),
+        Said::Poll => poll(node, kept, held, reply),
+        Said::Erase(budget) => erase(budget, node, kept, flash),
+        Said::Slow => slow(node, kept, list),
+        _ => settle(said, node, kept),
+    }
+}
+
 // Does what a line says.
 fn act(
     said: Said,
@@ -168,7 +207,6 @@ fn act(
     reply: &mut [u16],
 ) -> After {
     match said {
-        Said::Nothing => quiet(node, kept),
         Said::Request(asked) => ask(
             asked,
             node,
@@ -183,22 +221,7 @@ fn act(
             list,
             reply,
         ),
-        Said::Reply(heard) => hear(heard, node, kept, words, held, reply),
-        Said::Poll => poll(node, kept, held, reply),
-        Said::Erase(budget) => erase(budget, node, kept, flash),
-        Said::Slow => slow(node, kept, list),
-        Said::Clock(ticks) => quiet(node, with_clock(kept, ticks)),
-        Said::Fault => quiet(node, with_fault(kept)),
-        Said::Help => After {
-            node,
-            kept,
-            told: say_help(),
-        },
-        Said::Wrong(wrong) => After {
-            node,
-            kept,
-            told: say_wrong(kept.number, wrong),
-        },
+        _ => proceed(said, node, kept, words, held, flash, list, reply),
     }
 }
 

@@ -20,6 +20,7 @@ use Rattle.qlist.proofs as Qlist
 use Rattle.capture.proofs as Capture
 use Rattle.node.proofs as Node
 use Rattle.series.proofs as Series
+use Rattle.listed.proofs as Listed
 
 -- Whatever a function is given and lent, any two results that its statement allows are the same: what it returns, in a given sense,
 -- and the last value of each thing that it is lent to change.
@@ -210,7 +211,7 @@ pub record NodeSettled : Type 0 where
 pub record SeriesSettled : Type 0 where
   pub fits : Settles Series.fits.Kinds.ps Series.fits.Kinds.r Series.fits.Reads.Learnt
   pub is-left : Settles Series.is_left.Kinds.ps Series.is_left.Kinds.r Series.is_left.Reads.Learnt
-  pub requests : Settles Series.requests.Kinds.ps Series.requests.Kinds.r Series.requests.Reads.Learnt
+  pub requests : Settles Listed.requests.Kinds.ps Listed.requests.Kinds.r Listed.requests.Reads.Learnt
 
 -- All of them.
 pub record Settled : Type 0 where

@@ -5,11 +5,11 @@ use mathlib.Core.Bool.{Bool, true, false}
 use mathlib.Core.List.{List, [], _∷_}
 use lib.ListN.{length, drop}
 use Rattle.base.specs.Pick.{pick}
-use Rattle.lines.specs.Numbers.{fits}
+use Rattle.digits.specs.Numbers.{fits}
 use Rattle.lines.specs.Kinds.{Walked, wrong, walked, wordsFit}
 use Rattle.lines.specs.Said.{restOf}
 use Rattle.lines.specs.Captures.{captureFits}
-use Rattle.lines.specs.declared.Shape.{Shape}
+use Rattle.digits.specs.declared.Shape.{Shape}
 use Rattle.lines.specs.declared.Verdict.{Verdict}
 use Rattle.lines.specs.declared.What.{What}
 use Rattle.lines.specs.declared.Wrong.{Wrong}

@@ -2,7 +2,7 @@
 use mathlib.Core.Path.{refl}
 use Rattle.base.specs.Words.{laid}
 use Rattle.lines.specs.Fields.{bodyLength, isBlank, isQuiet, fields, same}
-use Rattle.lines.specs.Numbers.{digitOf, areDigits, numberFrom, numberIn, valueOf}
+use Rattle.digits.specs.Numbers.{digitOf, areDigits, numberFrom, numberIn, valueOf}
 use Rattle.lines.specs.Kinds.{namedBy, walked, wordsFit}
 use Rattle.lines.specs.Said.{verdictOf, bodySaid, said, stored}
 use Rattle.lines.specs.Captures.{captureFits, captureBody, captureSaid, captureStored}

@@ -9,7 +9,7 @@ use Rattle.base.specs.Words.{laid}
 use Rattle.base.proofs.Laid.{laid-none}
 use Rattle.base.proofs.Pick.{pick-case}
 use Rattle.lines.specs.Fields.{bodyOf, isQuiet, fields}
-use Rattle.lines.specs.Numbers.{worthOf}
+use Rattle.digits.specs.Numbers.{worthOf}
 use Rattle.lines.specs.Kinds.{namedBy}
 use Rattle.lines.specs.Said.{verdictOf, taken, judged, saidBy, bodySaid, said, wordsOf, stored}
 use Rattle.lines.specs.Captures.{captureFits, captureBy, captureBody, captureSaid, captureWords, captureStored}
@@ -18,7 +18,7 @@ use Rattle.lines.specs.declared.CaptureSaid.{CaptureSaid}
 use Rattle.lines.specs.declared.Kind.{Kind}
 use Rattle.lines.specs.declared.Named.{Named}
 use Rattle.lines.specs.declared.Said.{Said}
-use Rattle.lines.specs.declared.Shape.{Shape}
+use Rattle.digits.specs.declared.Shape.{Shape}
 use Rattle.lines.specs.declared.Verdict.{Verdict}
 use Rattle.lines.proofs.Walking.{fits-room}
 use Rattle.lines.proofs.Capturing.{capture-room}

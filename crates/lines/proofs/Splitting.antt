@@ -4,24 +4,17 @@ use Prim.Native.Nat.{ℕ, suc, _+_, _-_, _≤_, _<_}
 use mathlib.Core.Path.{_≡_, refl, sym, ap, ap₂, _∙_}
 use mathlib.Core.Bool.{Bool, true, false}
 use mathlib.Core.List.{List, [], _∷_}
-use native.Mathlib.Numerals.{add-one}
 use native.Mathlib.Nat.{sub-zero}
 use native.Mathlib.Omega.{arith}
 use lib.Dec.{eqb}
-use lib.ListN.{length, getD, take, drop, length-drop, drop-of-length-le}
-use lib.Seq.{take-all, drop-cons, drop-drop}
+use lib.ListN.{length, getD, take, drop, length-drop}
+use lib.Seq.{take-all, drop-drop}
 use Rattle.base.specs.Pick.{pick}
 use Rattle.base.specs.Words.{part}
 use Rattle.base.proofs.Pick.{pick-case}
+pub use Rattle.digits.proofs.Digits.{rest, rest-none}
 use Rattle.lines.specs.Fields.{bodyLength, bodyOf, isSpace, isBlank}
 use Rattle.lines.specs.Fields.{longer, fields, firstLength, fieldsBehind, behind, fieldsFrom, same, FieldEnd}
-
--- the rest of a run is its next byte and the rest behind that: how a loop goes on
-pub rest : (s : List ℕ) (i : ℕ) → i < length s → drop i s ≡ getD s i 0 ∷ drop (i + 1) s
-rest s i h = rw (add-one i) (drop-cons s i 0 h)
-
-pub rest-none : (s : List ℕ) (i : ℕ) → length s ≤ i → drop i s ≡ []
-rest-none s i h = drop-of-length-le s h
 
 -- the part of a line that is lent to be read is the line without its end
 pub lent-body : (line : List ℕ) (n : ℕ) → n ≡ bodyLength line → take (n - 0) line ≡ bodyOf line

@@ -12,12 +12,12 @@ use Rattle.base.specs.Words.{laid}
 use Rattle.base.proofs.Laid.{laid-cons, laid-none}
 use Rattle.base.proofs.Pick.{pick-case}
 use Rattle.lines.specs.Fields.{firstLength, fieldsBehind, behind, fieldsFrom}
-use Rattle.lines.specs.Numbers.{fits, worthOf, wordsIn}
+use Rattle.digits.specs.Numbers.{fits, worthOf, wordsIn}
 use Rattle.lines.specs.Kinds.{Walked, shapesOf, takesWords, whatOf, wrong, walked, wordsFit, endFits}
 use Rattle.lines.specs.Said.{restOf, rowFits, verdictOf, wordsOf, Says}
 use Rattle.lines.specs.declared.Kind.{Kind}
 use Rattle.lines.specs.declared.Said.{Said}
-use Rattle.lines.specs.declared.Shape.{Shape}
+use Rattle.digits.specs.declared.Shape.{Shape}
 use Rattle.lines.specs.declared.Verdict.{Verdict}
 use Rattle.lines.specs.declared.What.{What}
 use Rattle.lines.specs.declared.Wrong.{Wrong}

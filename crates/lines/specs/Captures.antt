@@ -7,11 +7,11 @@ use lib.ListN.{length, drop}
 use Rattle.base.specs.Pick.{pick}
 use Rattle.base.specs.Words.{laid}
 use Rattle.lines.specs.Fields.{bodyOf, isQuiet, fields}
-use Rattle.lines.specs.Numbers.{wordsIn}
+use Rattle.digits.specs.Numbers.{wordsIn}
 use Rattle.lines.specs.Said.{rowFits, item}
 use Rattle.lines.specs.declared.CaptureSaid.{CaptureSaid}
 use Rattle.lines.specs.declared.Captured.{Captured}
-use Rattle.lines.specs.declared.Shape.{Shape}
+use Rattle.digits.specs.declared.Shape.{Shape}
 use Rattle.lines.specs.declared.Verdict.{Verdict}
 
 -- Whether all fields fit, or which is the first that doesn't: a mask of one to eight hex digits, then words.

@@ -4,11 +4,11 @@ use mathlib.Core.Bool.{Bool, true, false}
 use mathlib.Core.List.{List, [], _∷_}
 use Rattle.base.specs.Pick.{pick}
 use Rattle.lines.specs.Fields.{behind, same}
-use Rattle.lines.specs.Numbers.{fits}
+use Rattle.digits.specs.Numbers.{fits}
 use Rattle.lines.specs.Text.{bytes}
 use Rattle.lines.specs.declared.Kind.{Kind}
 use Rattle.lines.specs.declared.Named.{Named}
-use Rattle.lines.specs.declared.Shape.{Shape}
+use Rattle.digits.specs.declared.Shape.{Shape}
 use Rattle.lines.specs.declared.Step.{Step}
 use Rattle.lines.specs.declared.Verdict.{Verdict}
 use Rattle.lines.specs.declared.What.{What}

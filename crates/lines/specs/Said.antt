@@ -8,14 +8,14 @@ use lib.ListN.{length, getD, drop}
 use Rattle.base.specs.Pick.{pick}
 use Rattle.base.specs.Words.{laid}
 use Rattle.lines.specs.Fields.{bodyOf, isQuiet, fields}
-use Rattle.lines.specs.Numbers.{worthOf, wordsIn}
+use Rattle.digits.specs.Numbers.{worthOf, wordsIn}
 use Rattle.lines.specs.Kinds.{Walked, namedBy, shapesOf, takesWords, wrong, walked, wordsFit, endFits}
 use Rattle.lines.specs.declared.Kind.{Kind}
 use Rattle.lines.specs.declared.Named.{Named}
 use Rattle.lines.specs.declared.Reply.{Reply}
 use Rattle.lines.specs.declared.Request.{Request}
 use Rattle.lines.specs.declared.Said.{Said}
-use Rattle.lines.specs.declared.Shape.{Shape}
+use Rattle.digits.specs.declared.Shape.{Shape}
 use Rattle.lines.specs.declared.Verdict.{Verdict}
 use Rattle.lines.specs.declared.What.{What}
 

@@ -4,20 +4,20 @@ ghost use mathlib.Core.Path.{_≡_};
 ghost use lib.ListN.{length};
 ghost use Rattle.base.specs.Words.{laid};
 ghost use Rattle.lines.specs.Fields.{behind, fieldsFrom, fields};
-ghost use Rattle.lines.specs.Numbers.{wordsIn};
+ghost use Rattle.digits.specs.Numbers.{wordsIn};
 ghost use Rattle.lines.specs.Captures.{captureFits, captureOf, captureBody, CaptureSays};
 use crate::CaptureSaid;
 use crate::Captured;
-use crate::Shape;
 use crate::Verdict;
 use crate::What;
 use crate::Wrong;
 use crate::fields::first_length;
 use crate::fields::is_quiet;
 use crate::kinds::walk_words;
-use crate::numbers::has_shape;
-use crate::numbers::worth32;
 use crate::saying::store;
+use digits::Shape;
+use digits::numbers::has_shape;
+use digits::numbers::worth32;
 
 // Whether the fields fit, of which the first ends at `first`, with room for so many words.
 fn check_capture(line: &[u8], first: usize, room: usize) -> Verdict

@@ -7,17 +7,17 @@ ghost use Rattle.lines.specs.Fields.{behind};
 ghost use Rattle.lines.specs.Kinds.{Walked, namedBy, shapesOf, takesWords, whatOf, walked, wordsFit, leftOf, Inside};
 ghost use Rattle.lines.specs.Said.{restFits};
 ghost use Rattle.lines.specs.declared.Kind.{Kind};
-ghost use Rattle.lines.specs.declared.Shape.{Shape};
+ghost use Rattle.digits.specs.declared.Shape.{Shape};
 use crate::Kind;
 use crate::Named;
-use crate::Shape;
 use crate::Step;
 use crate::Verdict;
 use crate::What;
 use crate::Wrong;
 use crate::fields::field_end;
 use crate::fields::is_same;
-use crate::numbers::has_shape;
+use digits::Shape;
+use digits::numbers::has_shape;
 
 // The kind that a first field names.
 pub(crate) fn named_by(first: &[u8]) -> Named

@@ -10,7 +10,6 @@ use crate::saying::read;
 mod captures;
 mod fields;
 mod kinds;
-mod numbers;
 mod saying;
 
 // A request from a link, with so many words in the buffer.
@@ -75,22 +74,6 @@ pub enum CaptureSaid {
     Nothing,
     Captured(Captured),
     Wrong(Wrong),
-}
-
-// The shape of a field: a decimal number of 32 or 64 bits, a BC, a flag, a number of 32 bits in hex, a word in hex.
-enum Shape {
-    Number32,
-    Number64,
-    Bc,
-    Flag,
-    Hex32,
-    Word,
-}
-
-// What a field is worth, or that it has another shape.
-enum Value {
-    Is(u64),
-    Isnt,
 }
 
 // The kinds of line that have a first field of their own.

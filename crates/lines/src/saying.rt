@@ -5,17 +5,16 @@ ghost use mathlib.Core.List.{[]};
 ghost use lib.ListN.{length, getD, drop};
 ghost use Rattle.base.specs.Words.{laid};
 ghost use Rattle.lines.specs.Fields.{behind, fieldsFrom, fields};
-ghost use Rattle.lines.specs.Numbers.{limitOf, worthOf, wordsIn};
+ghost use Rattle.digits.specs.Numbers.{limitOf, worthOf, wordsIn};
 ghost use Rattle.lines.specs.Said.{verdictOf, requestOf, replyOf, taken, saidBy, bodySaid, Says};
 ghost use Rattle.lines.specs.declared.Named.{Named};
-ghost use Rattle.lines.specs.declared.Shape.{Shape};
+ghost use Rattle.digits.specs.declared.Shape.{Shape};
 ghost use Rattle.lines.specs.declared.Verdict.{Verdict};
 use crate::Kind;
 use crate::Named;
 use crate::Reply;
 use crate::Request;
 use crate::Said;
-use crate::Shape;
 use crate::Verdict;
 use crate::What;
 use crate::Wrong;
@@ -25,8 +24,9 @@ use crate::fields::is_quiet;
 use crate::fields::skip;
 use crate::kinds::check;
 use crate::kinds::named_by;
-use crate::numbers::worth;
-use crate::numbers::worth32;
+use digits::Shape;
+use digits::numbers::worth;
+use digits::numbers::worth32;
 
 // What the field behind a place is worth; 0 at the line's end.
 fn worth_behind(line: &[u8], at: usize, shape: Shape) -> u64

@@ -21,6 +21,7 @@ use crate::saying::say_run;
 use crate::saying::say_word;
 use node::Node;
 use node::Turn;
+use series::Series;
 
 mod areas;
 mod fields;
@@ -149,6 +150,24 @@ fn hear(line: &[u16], run: &[u16], node: Node, reply: &mut [u16]) -> Turn {
     node.reply(clock, slave, bc, errors, status, address, run, reply)
 }
 
+// A call that is no request: each has what it is lent, and no more, since every way out is proved of every run that is lent.
+fn proceed(
+    line: &[u16],
+    run: &[u16],
+    node: Node,
+    flash: &mut [u16],
+    list: &mut [u16],
+    reply: &mut [u16],
+) -> Turn {
+    match feed::item(line, 0) {
+        1 => start(line, flash),
+        3 => hear(line, run, node, reply),
+        4 => node.poll(double(line, 2), reply),
+        12 => node.slow(double(line, 2), list),
+        _ => node.erase(budget(line, 2), flash),
+    }
+}
+
 // A call, on the words that are lent. The run is the packet of a request, or the words of a reply.
 fn call(
     line: &[u16],
@@ -163,16 +182,32 @@ fn call(
     reply: &mut [u16],
 ) -> Turn {
     match feed::item(line, 0) {
-        1 => start(line, flash),
         2 => request(line, run, node, flash, pm, dm, io, area, list, reply),
-        3 => hear(line, run, node, reply),
-        4 => node.poll(double(line, 2), reply),
-        12 => node.slow(double(line, 2), list),
-        _ => node.erase(budget(line, 2), flash),
+        _ => proceed(line, run, node, flash, list, reply),
     }
 }
 
-// A call, and what it prints.
+// What a call prints of its state and its answer.
+fn say_turn(turn: Turn, reply: &[u16]) -> Node {
+    let next = turn.node;
+    let answer = turn.answer;
+    let words = words_of(next);
+    say_word(feed::digest(&words));
+    say_answer(answer, reply);
+    next
+}
+
+// What a list of requests prints so.
+fn say_series(all: Series) -> Node {
+    let next = all.node;
+    let done = all.done;
+    let words = words_of(next);
+    say_word(feed::digest(&words));
+    say_done(done);
+    next
+}
+
+// A call, and what it prints but for what it is asked to show.
 fn answer_one(
     line: &[u16],
     run: &[u16],
@@ -186,16 +221,10 @@ fn answer_one(
     reply: &mut [u16],
 ) -> Node {
     let turn = call(line, run, node, flash, pm, dm, io, area, list, reply);
-    let next = turn.node;
-    let answer = turn.answer;
-    let words = words_of(next);
-    say_word(feed::digest(&words));
-    say_answer(answer, reply);
-    show(feed::item(line, 1), flash, pm, dm, io, area, list, reply);
-    next
+    say_turn(turn, reply)
 }
 
-// A list of requests, its packets the run, and what it prints. The reply buffer is lent for the replies.
+// A list of requests, its packets the run. The reply buffer is lent for the replies.
 fn answer_list(
     line: &[u16],
     run: &[u16],
@@ -209,14 +238,8 @@ fn answer_list(
     reply: &mut [u16],
 ) -> Node {
     let clock = double(line, 2);
-    let all = series::requests(node, clock, run, flash, pm, dm, io, area, list, reply);
-    let next = all.node;
-    let done = all.done;
-    let words = words_of(next);
-    say_word(feed::digest(&words));
-    say_done(done);
-    show(feed::item(line, 1), flash, pm, dm, io, area, list, reply);
-    next
+    let all = listed::requests(node, clock, run, flash, pm, dm, io, area, list, reply);
+    say_series(all)
 }
 
 fn answer(
@@ -235,6 +258,24 @@ fn answer(
         13 => answer_list(line, run, node, flash, pm, dm, io, area, list, reply),
         _ => answer_one(line, run, node, flash, pm, dm, io, area, list, reply),
     }
+}
+
+// .. and what it is asked to show of the memories.
+fn answer_shown(
+    line: &[u16],
+    run: &[u16],
+    node: Node,
+    flash: &mut [u16],
+    pm: &mut [u32],
+    dm: &mut [u16],
+    io: &mut [u16],
+    area: &mut [u16],
+    list: &mut [u16],
+    reply: &mut [u16],
+) -> Node {
+    let next = answer(line, run, node, flash, pm, dm, io, area, list, reply);
+    show(feed::item(line, 1), flash, pm, dm, io, area, list, reply);
+    next
 }
 
 // A call on the first words of each memory, as many as are lent.
@@ -258,7 +299,7 @@ fn lend(
     let a = base::least(lent.area, area.len());
     let l = base::least(lent.list, list.len());
     let r = base::least(lent.reply, reply.len());
-    answer(
+    answer_shown(
         line,
         run,
         node,

@@ -9,8 +9,8 @@ use borrow.Author.Needs.{needs}
 use lib.ListN.{take}
 use Rattle.base.proofs.Pick.{yes, no}
 use Rattle.lines.specs.Fields.{behind}
-use Rattle.lines.specs.Numbers.{fits}
-use Rattle.lines.specs.declared.Shape.{Shape}
+use Rattle.digits.specs.Numbers.{fits}
+use Rattle.digits.specs.declared.Shape.{Shape}
 use Rattle.lines.proofs.Capturing.{capture-fits}
 use Rattle.lines.proofs.captures.check_capture.Statement.{statement}
 use Rattle.lines.proofs.captures.check_capture.Tie as tie

@@ -4,8 +4,8 @@ use mathlib.Core.Path.{ap, _∙_}
 use native.Mathlib.Nat.{sub-zero}
 use borrow.Author.Needs.{needs}
 use lib.ListN.{take}
-use Rattle.lines.specs.Numbers.{worthOf}
-use Rattle.lines.specs.declared.Shape.{Shape}
+use Rattle.digits.specs.Numbers.{worthOf}
+use Rattle.digits.specs.declared.Shape.{Shape}
 use Rattle.lines.proofs.captures.take_capture.Statement.{statement}
 use Rattle.lines.proofs.captures.take_capture.Tie as tie
 

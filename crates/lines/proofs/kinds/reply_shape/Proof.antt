@@ -5,7 +5,7 @@ use borrow.Author.Needs.{needs}
 use lib.ListN.{getD}
 use Rattle.lines.specs.Kinds.{shapesOf}
 use Rattle.lines.specs.declared.Kind.{Kind}
-use Rattle.lines.specs.declared.Shape.{Shape}
+use Rattle.digits.specs.declared.Shape.{Shape}
 use Rattle.lines.proofs.kinds.reply_shape.Statement.{statement}
 use Rattle.lines.proofs.kinds.reply_shape.Tie as tie
 

@@ -4,7 +4,7 @@ use lib.ListN.{getD}
 use Rattle.base.proofs.Pick.{via}
 use Rattle.lines.specs.Kinds.{shapesOf}
 use Rattle.lines.specs.declared.Kind.{Kind}
-use Rattle.lines.specs.declared.Shape.{Shape}
+use Rattle.digits.specs.declared.Shape.{Shape}
 use Rattle.lines.proofs.kinds.shape_at.Statement.{statement}
 use Rattle.lines.proofs.kinds.shape_at.Tie as tie
 

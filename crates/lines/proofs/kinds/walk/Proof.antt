@@ -9,9 +9,9 @@ use lib.ListN.{length, drop}
 use Rattle.base.specs.Words.{part}
 use Rattle.base.proofs.Pick.{yes, no}
 use Rattle.lines.specs.Fields.{fieldsBehind}
-use Rattle.lines.specs.Numbers.{fits}
+use Rattle.digits.specs.Numbers.{fits}
 use Rattle.lines.specs.Kinds.{Walked, shapesOf, whatOf, wrong, walked}
-use Rattle.lines.specs.declared.Shape.{Shape}
+use Rattle.digits.specs.declared.Shape.{Shape}
 use Rattle.lines.specs.declared.What.{What}
 use Rattle.lines.proofs.Splitting.{none-behind}
 use Rattle.lines.proofs.Walking.{walked-missing, walked-turn, walked-end}

@@ -15,7 +15,7 @@ use Rattle.base.proofs.Part.{length-part}
 use Rattle.lines.specs.Fields.{fieldsBehind}
 use Rattle.lines.specs.Kinds.{wordsFit}
 use Rattle.lines.proofs.Splitting.{none-behind}
-use Rattle.lines.proofs.Digits.{word-length}
+use Rattle.digits.proofs.Digits.{word-length}
 use Rattle.lines.proofs.Walking.{some-behind, words-full, words-turn, words-end}
 use Rattle.lines.proofs.kinds.walk_words.Statement.{statement}
 use Rattle.lines.proofs.kinds.walk_words.Tie as tie

@@ -7,7 +7,7 @@ use borrow.Author.Needs.{needs}
 use lib.ListN.{getD, drop}
 use lib.Seq.{getD-drop}
 use Rattle.lines.specs.Fields.{fieldsBehind}
-use Rattle.lines.specs.Numbers.{worthOf}
+use Rattle.digits.specs.Numbers.{worthOf}
 use Rattle.lines.proofs.saying.item.Statement.{statement}
 use Rattle.lines.proofs.saying.item.Tie as tie
 

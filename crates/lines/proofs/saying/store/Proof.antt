@@ -8,8 +8,8 @@ use borrow.Author.Needs.{needs}
 use lib.ListN.{length, drop, length-set}
 use Rattle.base.specs.Words.{laid}
 use Rattle.lines.specs.Fields.{fieldsBehind}
-use Rattle.lines.specs.Numbers.{worthOf}
-use Rattle.lines.specs.declared.Shape.{Shape}
+use Rattle.digits.specs.Numbers.{worthOf}
+use Rattle.digits.specs.declared.Shape.{Shape}
 use Rattle.lines.proofs.Splitting.{none-behind}
 use Rattle.lines.proofs.Walking.{store-turn, store-end}
 use Rattle.lines.proofs.saying.store.Statement.{statement}

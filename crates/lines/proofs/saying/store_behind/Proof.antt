@@ -6,8 +6,8 @@ use native.Mathlib.Omega.{arith}
 use borrow.Author.Needs.{needs}
 use lib.ListN.{length}
 use Rattle.base.specs.Words.{laid}
-use Rattle.lines.specs.Numbers.{worthOf}
-use Rattle.lines.specs.declared.Shape.{Shape}
+use Rattle.digits.specs.Numbers.{worthOf}
+use Rattle.digits.specs.declared.Shape.{Shape}
 use Rattle.lines.proofs.saying.store_behind.Statement.{statement}
 use Rattle.lines.proofs.saying.store_behind.Tie as tie
 

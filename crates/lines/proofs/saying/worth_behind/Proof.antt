@@ -5,9 +5,9 @@ use mathlib.Core.List.{List, []}
 use native.Mathlib.Omega.{arith}
 use borrow.Author.Needs.{needs}
 use lib.ListN.{getD}
-use Rattle.lines.specs.Numbers.{worthOf}
+use Rattle.digits.specs.Numbers.{worthOf}
 use Rattle.lines.proofs.Splitting.{none-behind}
-use Rattle.lines.proofs.Digits.{worth-none}
+use Rattle.digits.proofs.Digits.{worth-none}
 use Rattle.lines.proofs.saying.worth_behind.Statement.{statement}
 use Rattle.lines.proofs.saying.worth_behind.Tie as tie
 

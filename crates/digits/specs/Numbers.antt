@@ -5,8 +5,8 @@ use mathlib.Core.List.{List, [], _∷_, map}
 use lib.Dec.{eqb, leb, ltb}
 use lib.ListN.{length}
 use Rattle.base.specs.Pick.{pick}
-use Rattle.lines.specs.declared.Shape.{Shape}
-use Rattle.lines.specs.declared.Value.{Value}
+use Rattle.digits.specs.declared.Shape.{Shape}
+use Rattle.digits.specs.declared.Value.{Value}
 
 -- What a digit is worth, small letters and capitals alike; 16, which is above every digit, for any other byte.
 unfoldable pub digitOf : ℕ → ℕ

@@ -1,4 +1,4 @@
--- `lines::numbers::value` meets its contract: the digits are counted, and then read. Assumes nothing.
+-- `digits::numbers::value` meets its contract: the digits are counted, and then read. Assumes nothing.
 use Prim.Native.Nat.{ℕ}
 use Prim.Native.Nat.{ℕ}
 use mathlib.Core.Path.{refl, sym, ap, _∙_}
@@ -6,10 +6,10 @@ use native.Mathlib.Omega.{arith}
 use borrow.Author.Tests.{not-true, not-false}
 use borrow.Author.Needs.{needs}
 use Rattle.base.proofs.Pick.{yes, no}
-use Rattle.lines.specs.Numbers.{numberIn, baseOf, valueOf}
-use Rattle.lines.proofs.Digits.{base-some, base-small}
-use Rattle.lines.proofs.numbers.value.Statement.{statement}
-use Rattle.lines.proofs.numbers.value.Tie as tie
+use Rattle.digits.specs.Numbers.{numberIn, baseOf, valueOf}
+use Rattle.digits.proofs.Digits.{base-some, base-small}
+use Rattle.digits.proofs.numbers.value.Statement.{statement}
+use Rattle.digits.proofs.numbers.value.Tie as tie
 
 digits-ok-requires : tie.Need-digits-ok-requires
 digits-ok-requires c κs = search needs

@@ -1,9 +1,9 @@
--- `lines::numbers::has_shape` meets its contract: by what the field is worth. Assumes nothing.
+-- `digits::numbers::has_shape` meets its contract: by what the field is worth. Assumes nothing.
 use mathlib.Core.Path.{sym, ap, _∙_}
 use borrow.Author.Needs.{needs}
-use Rattle.lines.specs.Numbers.{isValue}
-use Rattle.lines.proofs.numbers.has_shape.Statement.{statement}
-use Rattle.lines.proofs.numbers.has_shape.Tie as tie
+use Rattle.digits.specs.Numbers.{isValue}
+use Rattle.digits.proofs.numbers.has_shape.Statement.{statement}
+use Rattle.digits.proofs.numbers.has_shape.Tie as tie
 
 value-requires : tie.Need-value-requires
 value-requires c κs = search needs

@@ -1,14 +1,14 @@
--- `lines::numbers::worth` meets its contract: by what the field is worth. Assumes nothing.
+-- `digits::numbers::worth` meets its contract: by what the field is worth. Assumes nothing.
 use Prim.Native.Nat.{ℕ, _≤_}
 use mathlib.Core.Path.{_≡_, sym, ap, _∙_}
 use mathlib.Core.List.{List}
 use native.Mathlib.Omega.{arith}
 use borrow.Author.Needs.{needs}
-use Rattle.lines.specs.Numbers.{limitOf, worth, worthOf}
-use Rattle.lines.specs.declared.Shape.{Shape}
-use Rattle.lines.proofs.Digits.{worth-limit}
-use Rattle.lines.proofs.numbers.worth.Statement.{statement}
-use Rattle.lines.proofs.numbers.worth.Tie as tie
+use Rattle.digits.specs.Numbers.{limitOf, worth, worthOf}
+use Rattle.digits.specs.declared.Shape.{Shape}
+use Rattle.digits.proofs.Digits.{worth-limit}
+use Rattle.digits.proofs.numbers.worth.Statement.{statement}
+use Rattle.digits.proofs.numbers.worth.Tie as tie
 
 -- what was found is what the field is worth, and is within the limit
 by-value : (shape : Shape) (s : List ℕ) {n : ℕ} → worthOf shape s ≡ n → (n ≡ worthOf shape s) × (n ≤ limitOf shape)

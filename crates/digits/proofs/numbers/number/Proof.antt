@@ -1,4 +1,4 @@
--- `lines::numbers::number` meets its contract. The loop's invariant: the digits that are left, behind the number so far, write what all of
+-- `digits::numbers::number` meets its contract. The loop's invariant: the digits that are left, behind the number so far, write what all of
 -- them write. The measure is how many are left. Assumes nothing.
 use Prim.Native.Nat.{_-_, _≤_}
 use Prim.Native.Nat.{_-_, _≤_}
@@ -6,14 +6,14 @@ use mathlib.Core.Path.{_≡_, refl, sym, ap, _∙_}
 use native.Mathlib.Omega.{arith}
 use borrow.Author.Needs.{needs}
 use lib.ListN.{length, drop}
-use Rattle.lines.specs.Numbers.{numberIn}
-use Rattle.lines.specs.Numbers.{numberIn}
-use Rattle.lines.proofs.Splitting.{rest-none}
-use Rattle.lines.proofs.Digits.{turn-no-digit, turn-above, turn-digit, number-end, above-told, within-told}
-use Rattle.lines.proofs.Splitting.{rest-none}
-use Rattle.lines.proofs.Digits.{number-end, above-told, within-told}
-use Rattle.lines.proofs.numbers.number.Statement.{statement}
-use Rattle.lines.proofs.numbers.number.Tie as tie
+use Rattle.digits.specs.Numbers.{numberIn}
+use Rattle.digits.specs.Numbers.{numberIn}
+use Rattle.digits.proofs.Digits.{rest-none}
+use Rattle.digits.proofs.Digits.{turn-no-digit, turn-above, turn-digit, number-end, above-told, within-told}
+use Rattle.digits.proofs.Digits.{rest-none}
+use Rattle.digits.proofs.Digits.{number-end, above-told, within-told}
+use Rattle.digits.proofs.numbers.number.Statement.{statement}
+use Rattle.digits.proofs.numbers.number.Tie as tie
 
 abbrev Inv-loop : tie.InvT-loop
 Inv-loop field base limit n₀ i₀ n i =

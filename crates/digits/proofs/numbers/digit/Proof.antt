@@ -1,12 +1,12 @@
--- `lines::numbers::digit` meets its contract: one step for each test that led to a return. Assumes nothing.
+-- `digits::numbers::digit` meets its contract: one step for each test that led to a return. Assumes nothing.
 use mathlib.Core.Path.{refl}
 use native.Mathlib.Omega.{arith}
 use borrow.Author.Tests.{leb-true}
 use borrow.Author.Needs.{needs}
 use Rattle.base.proofs.Pick.{yes, no, and-left}
-use Rattle.lines.specs.Numbers.{digitOf}
-use Rattle.lines.proofs.numbers.digit.Statement.{statement}
-use Rattle.lines.proofs.numbers.digit.Tie as tie
+use Rattle.digits.specs.Numbers.{digitOf}
+use Rattle.digits.proofs.numbers.digit.Statement.{statement}
+use Rattle.digits.proofs.numbers.digit.Tie as tie
 
 sub-result : tie.Need-sub-result
 sub-result c = leb-true _ _ (and-left _ _ (c .if1 .taken))

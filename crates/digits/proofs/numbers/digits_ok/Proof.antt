@@ -1,10 +1,10 @@
--- `lines::numbers::digits_ok` meets its contract, shape by shape. Assumes nothing.
+-- `digits::numbers::digits_ok` meets its contract, shape by shape. Assumes nothing.
 use borrow.Author.Needs.{needs}
 use Rattle.base.proofs.Pick.{via}
-use Rattle.lines.specs.Numbers.{digitsOk}
-use Rattle.lines.specs.declared.Shape.{Shape}
-use Rattle.lines.proofs.numbers.digits_ok.Statement.{statement}
-use Rattle.lines.proofs.numbers.digits_ok.Tie as tie
+use Rattle.digits.specs.Numbers.{digitsOk}
+use Rattle.digits.specs.declared.Shape.{Shape}
+use Rattle.digits.proofs.numbers.digits_ok.Statement.{statement}
+use Rattle.digits.proofs.numbers.digits_ok.Tie as tie
 
 enum-told : tie.Need-enum-told
 enum-told c = search needs

@@ -1,4 +1,4 @@
--- `series::step` meets its contract: the packet is left as it is, or its call is made and ends by its answer. Assumes nothing.
+-- `listed::step` meets its contract: the packet is left as it is, or its call is made and ends by its answer. Assumes nothing.
 use Prim.Native.Nat.{ℕ, _+_, _-_, _≤_}
 use mathlib.Core.Path.{_≡_, sym, ap, _∙_}
 use mathlib.Core.Bool.{false, _||_}
@@ -16,12 +16,12 @@ use Rattle.node.specs.Calls.{requestOf}
 use Rattle.node.specs.declared.Answer.{Answer}
 use Rattle.node.proofs.Verdicts.{or-neither}
 use Rattle.node.proofs.Replies.{Short, isReply, request-short, request-leaves}
 use Rattle.series.specs.Packets.{Packet, packetAt}
 use Rattle.series.specs.Requests.{Kept, kept, isLeft, behind, onward}
 use Rattle.series.proofs.Behind.{rest-is}
 use Rattle.series.proofs.Steps.{callOf, step-left, step-called, ends-onward}
-use Rattle.series.proofs.step.Statement.{statement}
-use Rattle.series.proofs.step.Tie as tie
+use Rattle.listed.proofs.step.Statement.{statement}
+use Rattle.listed.proofs.step.Tie as tie
 
 -- what is kept before the packet, and the packet
 abbrev before : tie.Start → Kept

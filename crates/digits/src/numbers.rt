@@ -1,7 +1,7 @@
 // What a field is worth.
 ghost use Prim.Native.Nat.{_+_, _≤_};
 ghost use mathlib.Core.Path.{_≡_};
-ghost use Rattle.lines.specs.Numbers.{digitOf, numberIn, baseOf, digitsOk, limitOf, valueOf, fits, worthOf};
+ghost use Rattle.digits.specs.Numbers.{digitOf, numberIn, baseOf, digitsOk, limitOf, valueOf, fits, worthOf};
 use crate::Shape;
 use crate::Value;
 
@@ -85,7 +85,7 @@ fn limit_of(shape: Shape) -> u64
 }
 
 // What a field is worth by its shape.
-pub(crate) fn value(shape: Shape, field: &[u8]) -> Value
+pub fn value(shape: Shape, field: &[u8]) -> Value
     ensures { λ r. ⌜ r ≡ valueOf shape (now (field .entry)) ⌝ }
 {
     if !digits_ok(shape, field.len()) {
@@ -97,7 +97,7 @@ pub(crate) fn value(shape: Shape, field: &[u8]) -> Value
 }
 
 // Whether a field has a shape.
-pub(crate) fn has_shape(shape: Shape, field: &[u8]) -> bool
+pub fn has_shape(shape: Shape, field: &[u8]) -> bool
     ensures { λ r. ⌜ r ≡ fits shape (now (field .entry)) ⌝ }
 {
     let value = value(shape, field);
@@ -108,7 +108,7 @@ pub(crate) fn has_shape(shape: Shape, field: &[u8]) -> bool
 }
 
 // What a field of a shape is worth, 0 for any other.
-pub(crate) fn worth(shape: Shape, field: &[u8]) -> u64
+pub fn worth(shape: Shape, field: &[u8]) -> u64
     ensures { λ r. ⌜ (r ≡ worthOf shape (now (field .entry))) × (r ≤ limitOf shape) ⌝ }
 {
     let value = value(shape, field);
@@ -119,7 +119,7 @@ pub(crate) fn worth(shape: Shape, field: &[u8]) -> u64
 }
 
 // The same for a shape of 32 bits.
-pub(crate) fn worth32(shape: Shape, field: &[u8]) -> u32
+pub fn worth32(shape: Shape, field: &[u8]) -> u32
     requires { ⌜ limitOf shape ≤ 4294967295 ⌝ }
     ensures { λ r. ⌜ r ≡ worthOf shape (now (field .entry)) ⌝ }
 {

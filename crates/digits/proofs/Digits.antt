@@ -4,17 +4,25 @@ use mathlib.Core.Path.{_≡_, refl, sym, ap, _∙_}
 use mathlib.Core.Bool.{Bool, true, false, false≢true}
 use mathlib.Core.List.{List, [], _∷_}
 use native.Mathlib.Nat.{mul-le-mul-left, mul-one, div-lt-iff-lt-mul, le-div-iff-mul-le}
+use native.Mathlib.Numerals.{add-one}
 use native.Mathlib.Omega.{arith}
 use borrow.Author.Tests.{le-leb, lt-leb, lt-ltb, le-ltb, leb-true, eqb-true}
 use lib.Dec.{leb, eqb}
-use lib.ListN.{length, getD, drop}
+use lib.ListN.{length, getD, drop, drop-of-length-le}
+use lib.Seq.{drop-cons}
 use Rattle.base.specs.Pick.{pick}
 use Rattle.base.proofs.Pick.{yes, no, pick-case}
-use Rattle.lines.specs.Numbers.{digitOf, areDigits, numberFrom, numberIn}
-use Rattle.lines.specs.Numbers.{baseOf, digitsOk, limitOf, valueOf, isValue, fits, worth, worthOf}
-use Rattle.lines.specs.declared.Shape.{Shape}
-use Rattle.lines.specs.declared.Value.{Value}
-use Rattle.lines.proofs.Splitting.{rest}
+use Rattle.digits.specs.Numbers.{digitOf, areDigits, numberFrom, numberIn}
+use Rattle.digits.specs.Numbers.{baseOf, digitsOk, limitOf, valueOf, isValue, fits, worth, worthOf}
+use Rattle.digits.specs.declared.Shape.{Shape}
+use Rattle.digits.specs.declared.Value.{Value}
+
+-- the rest of a run is its next byte and the rest behind that: how a loop goes on
+pub rest : (s : List ℕ) (i : ℕ) → i < length s → drop i s ≡ getD s i 0 ∷ drop (i + 1) s
+rest s i h = rw (add-one i) (drop-cons s i 0 h)
+
+pub rest-none : (s : List ℕ) (i : ℕ) → length s ≤ i → drop i s ≡ []
+rest-none s i h = drop-of-length-le s h
 
 -- digits only make a number larger
 pub number-grows : (base n : ℕ) (s : List ℕ) → 1 ≤ base → n ≤ numberFrom base n s

@@ -1,11 +1,11 @@
--- `series::requests` meets its contract: refused, or the packets are taken. Assumes nothing.
+-- `listed::requests` meets its contract: refused, or the packets are taken. Assumes nothing.
 use mathlib.Core.Path.{refl, sym, ap, _∙_}
 use borrow.Author.Needs.{needs}
 use borrow.Author.Tests.{not-true, not-false}
 use Rattle.base.proofs.Pick.{yes, no}
 use Rattle.series.specs.Requests.{ended, requestsBy}
-use Rattle.series.proofs.requests.Statement.{statement}
-use Rattle.series.proofs.requests.Tie as tie
+use Rattle.listed.proofs.requests.Statement.{statement}
+use Rattle.listed.proofs.requests.Tie as tie
 
 fits-requires : tie.Need-fits-requires
 fits-requires c κs = search needs

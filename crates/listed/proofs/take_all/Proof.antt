@@ -1,4 +1,4 @@
--- `series::take_all` meets its contract. The loop's invariant: the row is that of the packets from here on, behind those done; these fit, and no more are done than
+-- `listed::take_all` meets its contract. The loop's invariant: the row is that of the packets from here on, behind those done; these fit, and no more are done than
 -- words are passed. The measure is how many words are left. Assumes nothing.
 use Prim.Native.Nat.{_+_, _-_, _≤_}
 use mathlib.Core.Path.{_≡_, refl, sym, ap, _∙_}
@@ -10,13 +10,13 @@ use borrow.Author.Tests.{not-true, not-false}
 use Rattle.memory.specs.Segment.{memories}
 use Rattle.node.specs.Effect.{Lent, lent, further}
 use Rattle.node.specs.Calls.{requestOf}
 use Rattle.series.specs.Packets.{packetAt, endAt, packetsIn}
 use Rattle.series.specs.Requests.{Kept, kept, Step, row, stepBy}
 use Rattle.series.proofs.Packets.{packetsAt, fitAt, packets-first, fit-first, fit-here}
 use Rattle.series.proofs.Rows.{plus, plus-zero, turn-over, turn-stop, turn-on}
 use Rattle.series.proofs.Steps.{step-stops}
-use Rattle.series.proofs.take_all.Statement.{statement}
-use Rattle.series.proofs.take_all.Tie as tie
+use Rattle.listed.proofs.take_all.Statement.{statement}
+use Rattle.listed.proofs.take_all.Tie as tie
 
 abbrev Inv-loop : tie.InvT-loop
 Inv-loop clock packets flash₀ pm₀ dm₀ io₀ area₀ list₀ replies₀ kept₀ at₀ filled₀ done₀ flash pm dm io area list replies node at filled done =
