@@ -8,9 +8,7 @@ use contract.Lifetimes.{Lfts}
 use denote.Triple.Clauses.{Lasts, atExit}
 use Rattle.base.proofs as Base
 use Rattle.lookup.proofs as Lookup
-use Rattle.ticks.proofs as Ticks
 use Rattle.fcs.proofs as Fcs
-use Rattle.packing.proofs as Packing
 use Rattle.image.proofs as Image
 use Rattle.flash.proofs as Flash
 use Rattle.memory.proofs as Memory
@@ -62,13 +60,13 @@ pub record ImageSettled : Type 0 where
   pub span-of : Settles Image.span_of.Kinds.ps Image.span_of.Kinds.r Image.span_of.Reads.Learnt
   pub segment-end : Settles Image.segment_end.Kinds.ps Image.segment_end.Kinds.r Image.segment_end.Reads.Learnt
   pub file-end : Settles Image.file_end.Kinds.ps Image.file_end.Kinds.r Image.file_end.Reads.Learnt
-  pub pm-first-of : Settles Packing.first_of.Kinds.ps Packing.first_of.Kinds.r Packing.first_of.Reads.Learnt
-  pub pm-second-of : Settles Packing.second_of.Kinds.ps Packing.second_of.Kinds.r Packing.second_of.Reads.Learnt
-  pub pm-third-of : Settles Packing.third_of.Kinds.ps Packing.third_of.Kinds.r Packing.third_of.Reads.Learnt
-  pub pm-high-of : Settles Packing.high_of.Kinds.ps Packing.high_of.Kinds.r Packing.high_of.Reads.Learnt
-  pub pm-low-of : Settles Packing.low_of.Kinds.ps Packing.low_of.Kinds.r Packing.low_of.Reads.Learnt
-  pub pm-pack : Settles Packing.pack.Kinds.ps Packing.pack.Kinds.r Packing.pack.Reads.Learnt
-  pub pm-unpack : Settles Packing.unpack.Kinds.ps Packing.unpack.Kinds.r Packing.unpack.Reads.Learnt
+  pub pm-first-of : Settles Image.pm.first_of.Kinds.ps Image.pm.first_of.Kinds.r Image.pm.first_of.Reads.Learnt
+  pub pm-second-of : Settles Image.pm.second_of.Kinds.ps Image.pm.second_of.Kinds.r Image.pm.second_of.Reads.Learnt
+  pub pm-third-of : Settles Image.pm.third_of.Kinds.ps Image.pm.third_of.Kinds.r Image.pm.third_of.Reads.Learnt
+  pub pm-high-of : Settles Image.pm.high_of.Kinds.ps Image.pm.high_of.Kinds.r Image.pm.high_of.Reads.Learnt
+  pub pm-low-of : Settles Image.pm.low_of.Kinds.ps Image.pm.low_of.Kinds.r Image.pm.low_of.Reads.Learnt
+  pub pm-pack : Settles Image.pm.pack.Kinds.ps Image.pm.pack.Kinds.r Image.pm.pack.Reads.Learnt
+  pub pm-unpack : Settles Image.pm.unpack.Kinds.ps Image.pm.unpack.Kinds.r Image.pm.unpack.Reads.Learnt
 
 -- The flash.
 pub record FlashSettled : Type 0 where
@@ -131,8 +129,8 @@ pub record GroupSettled : Type 0 where
   pub judge-is-part : Settles Group.judge.is_part.Kinds.ps Group.judge.is_part.Kinds.r Group.judge.is_part.Reads.Learnt
   pub judge-tallied : Settles Group.judge.tallied.Kinds.ps Group.judge.tallied.Kinds.r Group.judge.tallied.Reads.Learnt
   pub judge-tally-number : Settles Group.judge.tally_number.Kinds.ps Group.judge.tally_number.Kinds.r Group.judge.tally_number.Reads.Learnt
-  pub slaves-ticks-since : Settles Ticks.ticks_since.Kinds.ps Ticks.ticks_since.Kinds.r Ticks.ticks_since.Reads.Learnt
-  pub slaves-is-late : Settles Ticks.is_late.Kinds.ps Ticks.is_late.Kinds.r Ticks.is_late.Reads.Learnt
+  pub slaves-ticks-since : Settles Group.slaves.ticks_since.Kinds.ps Group.slaves.ticks_since.Kinds.r Group.slaves.ticks_since.Reads.Learnt
+  pub slaves-is-late : Settles Group.slaves.is_late.Kinds.ps Group.slaves.is_late.Kinds.r Group.slaves.is_late.Reads.Learnt
   pub slaves-bit : Settles Group.slaves.bit.Kinds.ps Group.slaves.bit.Kinds.r Group.slaves.bit.Reads.Learnt
   pub slaves-first-slave : Settles Group.slaves.first_slave.Kinds.ps Group.slaves.first_slave.Kinds.r Group.slaves.first_slave.Reads.Learnt
   pub slaves-next-slave : Settles Group.slaves.next_slave.Kinds.ps Group.slaves.next_slave.Kinds.r Group.slaves.next_slave.Reads.Learnt
