@@ -1,6 +1,6 @@
 // Start: what is given, and the state made of it and of the flash.
 ghost use mathlib.Core.Path.{_≡_};
-ghost use Rattle.node.specs.Calls.{startMasks, started, nobody};
+ghost use Rattle.node.specs.Calls.{given, startMasks, startedWith, started, nobody};
 use crate::Counts;
 use crate::Given;
 use crate::Node;
@@ -19,11 +19,35 @@ fn start_masks(kind: u16) -> [u32; 16]
     [0; 16]
 }
 
-// A started node.
-pub fn begin(given: Given, flash: &[u16]) -> Node
-    ensures { λ r. ⌜ r ≡ started given (now (flash .entry)) ⌝ }
+// What is given at start, on a flash of so many words.
+pub fn given_with(
+    kind: u16,
+    ports: u16,
+    subdetector: u16,
+    program_version: u16,
+    subdetector_version: u16,
+    start_tests: u16,
+    clock: u32,
+    words: usize,
+) -> Given
+    ensures { λ r. ⌜ r ≡ given kind ports subdetector «program_version» «subdetector_version» «start_tests» clock words ⌝ }
 {
-    let directory = flash::directory::scan(flash, Erasing::Nothing);
+    Given {
+        kind,
+        ports,
+        subdetector,
+        program_version,
+        subdetector_version,
+        start_tests: start_tests / 256 % 16 * 256,
+        start_clock: clock,
+        flash_words: words,
+    }
+}
+
+// A started node, of a flash with this directory.
+pub fn begin_with(given: Given, directory: [u16; 32]) -> Node
+    ensures { λ r. ⌜ r ≡ startedWith given directory ⌝ }
+{
     let masks = start_masks(given.kind);
     let mode = if given.kind == 1 { 2 } else { 0 };
     Node {
@@ -43,6 +67,13 @@ pub fn begin(given: Given, flash: &[u16]) -> Node
             turn: 0,
         },
     }
+}
+
+// A started node.
+pub fn begin(given: Given, flash: &[u16]) -> Node
+    ensures { λ r. ⌜ r ≡ started given (now (flash .entry)) ⌝ }
+{
+    begin_with(given, flash::directory::scan(flash, Erasing::Nothing))
 }
 
 // All zeros, no node's state.
