@@ -57,7 +57,7 @@ endedAs n s first status erasing = turn (withFlash n (entered (n .directory) s f
 
 -- words stored in a sector
 pub alters-stored : (n : Node) (flash : List ℕ) (c : Change) (s : ℕ) (file : List ℕ) (status : Status) {d : Did} {first : ℕ} {r : Turn} {end : List ℕ}
-    → length flash / 2 ≡ 32768 → Below 256 flash → Below 65536 file
+    → Below 256 flash → Below 65536 file
     → flashAfter c (n .erasing) (wordsOf 2 flash) ≡ stored (wordsOf 2 flash) s file
     → directoryAfter c (n .directory) (n .erasing) (wordsOf 2 flash) ≡ refreshed (n .directory) (flashAfter c (n .erasing) (wordsOf 2 flash)) s status
     → erasingNext c (n .erasing) (unitOf (wordsOf 2 flash)) ≡ n .erasing
@@ -66,9 +66,9 @@ pub alters-stored : (n : Node) (flash : List ℕ) (c : Change) (s : ℕ) (file :
     → first ≡ firstOf (sectorOf (wordsOf 2 end) s)
     → r ≡ endedAs n s first status (n .erasing)
     → Alters n d flash r end
-alters-stored n flash c s file status {first = first} {end = end} size b low is k x e m f h =
+alters-stored n flash c s file status {first = first} {end = end} b low is k x e m f h =
     let after : List ℕ = stored (wordsOf 2 flash) s file in
-    let words : wordsOf 2 end ≡ after = ap (wordsOf 2) m ∙ stored-read flash size b s file low in
+    let words : wordsOf 2 end ≡ after = ap (wordsOf 2) m ∙ stored-read flash b s file low in
     let first-is : first ≡ firstOf (sectorOf after s) = f ∙ ap (λ (l : List ℕ). firstOf (sectorOf l s)) words in
     record {
       words = after;

@@ -12,7 +12,6 @@ use Rattle.flash.specs.Status.{firstOf}
 use Rattle.flash.specs.Change.{eraseCount, erased, erasingAfter}
 use Rattle.flash.specs.declared.Erasing.{Erasing}
 use Rattle.flash.specs.declared.Progress.{Progress}
-use Rattle.flash.proofs.Geometry.{sector-fits}
 use Rattle.node.specs.State.{turn}
 use Rattle.node.specs.Effect.{Outcome, outcome, applied}
 use Rattle.node.specs.Refusals.{eraseVerdict}
@@ -25,7 +24,7 @@ use Rattle.node.proofs.Blanks.{step-idle, step-set}
 use Rattle.codec.specs.Bytes.{wordsIn, wordsOf, bytesOf, storeWords}
 use Rattle.touch.specs.InBytes.{inBytes}
 use Rattle.codec.proofs.Runs.{length-words, length-words-of, store-words, store-laid, below-words}
-use Rattle.touch.proofs.InSector.{words-stored, below-laid}
+use Rattle.touch.proofs.InSector.{unitIn, unit-is, sector-within, words-stored, below-laid}
 use Rattle.codec.proofs.ThereAndBack.{bytes-kept}
 use Rattle.touch.proofs.Exchange.{left-flash}
 
@@ -38,56 +37,54 @@ below-blanks (suc n) (suc i) = below-blanks n i
 
 record Blanked (flash words : List ℕ) (at count : ℕ) : Type 0 where
   pub stores : storeWords 2 (laid words at (blanks count)) flash ≡ laid flash (at * 2) (bytesOf 2 (blanks count))
-  pub long : length (laid words at (blanks count)) ≡ 32768
+  pub long : length (laid words at (blanks count)) ≡ length flash / 2
 
-blanked : (flash : List ℕ) (start size done count : ℕ) → 65536 ≤ length flash → start + size ≤ 32768 → count ≤ size - done → Below 256 flash
-    → Blanked flash (wordsIn 2 32768 flash) (start + done) count
+blanked : (flash : List ℕ) (start size done count : ℕ) → start + size ≤ length flash / 2 → count ≤ size - done → Below 256 flash
+    → Blanked flash (wordsIn 2 (length flash / 2) flash) (start + done) count
 unfolding bytesOf
-blanked flash start size done zero fits room most b =
+blanked flash start size done zero room most b =
+    let w = wordsIn 2 (length flash / 2) flash in
     record {
-      stores = ap (λ (l : List ℕ). storeWords 2 l flash) (sym (laid-none (wordsIn 2 32768 flash) (start + done))) ∙ store-words 2 32768 flash (omega arith) b ∙ laid-none flash ((start + done) * 2);
-      long = ap length (sym (laid-none (wordsIn 2 32768 flash) (start + done))) ∙ length-words 2 32768 flash;
+      stores = ap (λ (l : List ℕ). storeWords 2 l flash) (sym (laid-none w (start + done))) ∙ store-words 2 (length flash / 2) flash (omega arith) b ∙ laid-none flash ((start + done) * 2);
+      long = ap length (sym (laid-none w (start + done))) ∙ length-words 2 (length flash / 2) flash;
     }
-blanked flash start size done (suc k) fits room most b =
+blanked flash start size done (suc k) room most b =
     let n : length (blanks (suc k)) ≡ suc k = length-replicate (suc k) 0xFFFF in
-    let w = length-words 2 32768 flash in
+    let w = length-words 2 (length flash / 2) flash in
     record {
-      stores = store-laid 2 32768 flash (start + done) (blanks (suc k)) (omega arith) (omega arith) b;
-      long = length-laid (wordsIn 2 32768 flash) (start + done) (blanks (suc k)) (omega arith) ∙ w;
+      stores = store-laid 2 (length flash / 2) flash (start + done) (blanks (suc k)) (omega arith) (omega arith) b;
+      long = length-laid (wordsIn 2 (length flash / 2) flash) (start + done) (blanks (suc k)) (omega arith) ∙ w;
     }
 
-module _ (n : Node) (budget : ℕ) (flash : List ℕ) (p : Progress) (e : n .erasing ≡ Erasing.Sector p) (size : length flash / 2 ≡ 32768) (b : Below 256 flash) where
+module _ (n : Node) (budget : ℕ) (flash : List ℕ) (p : Progress) (e : n .erasing ≡ Erasing.Sector p) (b : Below 256 flash) where
   abbrev fw : List ℕ
   fw = wordsOf 2 flash
 
   abbrev done : List ℕ
   done = erased fw (Erasing.Sector p) budget
 
-  fw-in : wordsIn 2 32768 flash ≡ fw
-  unfolding wordsOf
-  fw-in = ap (λ (k : ℕ). wordsIn 2 k flash) (sym size)
+  unit : unitIn flash ≡ unitOf fw
+  unit = sym (unit-is flash)
 
-  unit : 2048 ≡ unitOf fw
-  unit = sym (ap (λ (k : ℕ). k / 16) (length-words-of 2 flash ∙ size))
-
-  pub erase-left : {count first : ℕ} {next : Erasing} {t : Turn} {end : List ℕ} → count ≡ min budget (sizeOf 2048 (p .sector) - p .done)
-      → next ≡ erasingAfter 2048 (Erasing.Sector p) budget
-      → end ≡ laid flash ((startOf 2048 (p .sector) + p .done) * 2) (bytesOf 2 (blanks count))
+  pub erase-left : {count first : ℕ} {next : Erasing} {t : Turn} {end : List ℕ} → count ≡ min budget (sizeOf (unitIn flash) (p .sector) - p .done)
+      → next ≡ erasingAfter (unitIn flash) (Erasing.Sector p) budget
+      → end ≡ laid flash ((startOf (unitIn flash) (p .sector) + p .done) * 2) (bytesOf 2 (blanks count))
       → first ≡ firstOf (sectorOf (wordsOf 2 end) (p .sector))
       → t ≡ steppedTo n (p .sector) first count next
       → outcome t (lentFlash end) ≡ inBytes (applied n (lentFlash fw) (eraseEffect n budget fw)) (lentFlash flash)
-  unfolding eraseCount erased
+  unfolding eraseCount erased wordsOf
   erase-left {count} {first} {next} {t} {end} c x m f s =
-      let at : ℕ = startOf 2048 (p .sector) + p .done in
-      let k : Blanked flash (wordsIn 2 32768 flash) at count =
-      blanked flash (startOf 2048 (p .sector)) (sizeOf 2048 (p .sector)) (p .done) count (omega arith) (sector-fits 2048 (p .sector)) (rw c (min-le-right budget (sizeOf 2048 (p .sector) - p .done))) b in
+      let u : ℕ = unitIn flash in
+      let at : ℕ = startOf u (p .sector) + p .done in
+      let k : Blanked flash fw at count =
+      blanked flash (startOf u (p .sector)) (sizeOf u (p .sector)) (p .done) count (sector-within flash (p .sector)) (rw c (min-le-right budget (sizeOf u (p .sector) - p .done))) b in
       let c′ : count ≡ eraseCount (unitOf fw) (Erasing.Sector p) budget = c ∙ ap (λ (u : ℕ). min budget (sizeOf u (p .sector) - p .done)) unit in
       let x′ : next ≡ erasingAfter (unitOf fw) (Erasing.Sector p) budget = x ∙ ap (λ (u : ℕ). erasingAfter u (Erasing.Sector p) budget) unit in
-      let is : laid (wordsIn 2 32768 flash) at (blanks count) ≡ done = λ i. laid (fw-in i) (startOf (unit i) (p .sector) + p .done) (blanks (c′ i)) in
+      let is : laid fw at (blanks count) ≡ done = λ i. laid fw (startOf (unit i) (p .sector) + p .done) (blanks (c′ i)) in
       let stored : end ≡ storeWords 2 done flash = m ∙ sym (k .stores) ∙ ap (λ (l : List ℕ). storeWords 2 l flash) is in
-      let long : length done ≡ 32768 = ap length (sym is) ∙ k .long in
-      let low : Below 65536 done = subst (Below 65536) is (below-laid (wordsIn 2 32768 flash) (blanks count) at (below-words 32768 flash (omega arith) b) (below-blanks count)) in
-      let words : wordsOf 2 end ≡ done = ap (wordsOf 2) stored ∙ words-stored flash done size long low in
+      let long : length done ≡ length flash / 2 = ap length (sym is) ∙ k .long in
+      let low : Below 65536 done = subst (Below 65536) is (below-laid fw (blanks count) at (below-words (length flash / 2) flash (omega arith) b) (below-blanks count)) in
+      let words : wordsOf 2 end ≡ done = ap (wordsOf 2) stored ∙ words-stored flash done long low in
       let first-is : first ≡ firstOf (sectorOf done (p .sector)) = f ∙ ap (λ (l : List ℕ). firstOf (sectorOf l (p .sector))) words in
       left-flash (λ (w : List ℕ). applied n (lentFlash w) (eraseEffect n budget w)) flash fw refl
       (step-set n budget fw p e c′ refl x′ first first-is s) stored
@@ -99,15 +96,15 @@ idle-left n budget flash e b =
     (step-idle n budget (wordsOf 2 flash) e) (sym (bytes-kept 2 flash b))
 
 -- by the verdict
-module _ (n : Node) (budget : ℕ) (flash : List ℕ) (size : length flash / 2 ≡ 32768) where
-  erase-judged : eraseOf n budget (wordsOf 2 flash) ≡ judged (eraseVerdict n 32768) n (lentFlash (wordsOf 2 flash)) (eraseEffect n budget (wordsOf 2 flash))
+module _ (n : Node) (budget : ℕ) (flash : List ℕ) where
+  erase-judged : eraseOf n budget (wordsOf 2 flash) ≡ judged (eraseVerdict n (length flash / 2)) n (lentFlash (wordsOf 2 flash)) (eraseEffect n budget (wordsOf 2 flash))
   unfolding eraseOf
-  erase-judged = ap (λ (k : ℕ). judged (eraseVerdict n k) n (lentFlash (wordsOf 2 flash)) (eraseEffect n budget (wordsOf 2 flash))) (length-words-of 2 flash ∙ size)
+  erase-judged = ap (λ (k : ℕ). judged (eraseVerdict n k) n (lentFlash (wordsOf 2 flash)) (eraseEffect n budget (wordsOf 2 flash))) (length-words-of 2 flash)
 
   abbrev by : Verdict → Outcome
   by v = inBytes (judged v n (lentFlash (wordsOf 2 flash)) (eraseEffect n budget (wordsOf 2 flash))) (lentFlash flash)
 
-  pub erase-taken : {o : Outcome} → eraseVerdict n 32768 ≡ Verdict.Fine
+  pub erase-taken : {o : Outcome} → eraseVerdict n (length flash / 2) ≡ Verdict.Fine
       → o ≡ inBytes (applied n (lentFlash (wordsOf 2 flash)) (eraseEffect n budget (wordsOf 2 flash))) (lentFlash flash)
       → o ≡ inBytes (eraseOf n budget (wordsOf 2 flash)) (lentFlash flash)
   erase-taken v h = h ∙ sym (ap by v) ∙ sym (ap (λ (o : Outcome). inBytes o (lentFlash flash)) erase-judged)

@@ -9,14 +9,15 @@ use lib.ListN.{length, getD, take, drop, drop-of-length-le}
 use lib.Dec.{leb}
 use borrow.Author.Tests.{eq-eqb, ne-eqb}
 use Rattle.base.specs.Words.{part, laid, Below}
-use Rattle.base.proofs.Pick.{pick-case, and-yes, and-no}
+use Rattle.base.proofs.Pick.{pick-case, and-yes, and-no, yes}
 use Rattle.base.proofs.Part.{below-take, below-drop, below-append}
 use Rattle.base.proofs.Laid.{laid-part}
 use Rattle.flash.specs.Geometry.{unitOf, sizeOf, startOf, sectorOf}
-use Rattle.flash.specs.Status.{isEmpty, firstOf}
+use Rattle.flash.specs.Status.{isEmpty, firstOf, statusOf}
 use Rattle.flash.specs.Search.{offered, takes}
 use Rattle.flash.specs.Change.{stored}
 use Rattle.flash.specs.declared.Erasing.{Erasing}
+use Rattle.flash.specs.declared.Status.{Status}
 use Rattle.flash.proofs.Geometry.{sector-fits, length-sector}
 use Rattle.flash.proofs.Statuses.{empty-turn, first-word}
 use Rattle.flash.proofs.Kept.{takes-offered}
@@ -27,24 +28,34 @@ use Rattle.codec.proofs.Runs.{length-words-of, length-bytes, length-store, stor
 use Rattle.codec.proofs.Small.{size-most}
 use Rattle.codec.proofs.ThereAndBack.{bytes-kept}
 
+-- a sixteenth of the words that a flash's bytes have, of whatever size
+abbrev pub unitIn : List ℕ → ℕ
+unitIn flash = length flash / 2 / 16
+
+pub unit-is : (flash : List ℕ) → unitOf (wordsOf 2 flash) ≡ unitIn flash
+unit-is flash = ap (λ (k : ℕ). k / 16) (length-words-of 2 flash)
+
+-- a sector lies within the flash's words
+pub sector-within : (flash : List ℕ) (s : ℕ) → startOf (unitIn flash) s + sizeOf (unitIn flash) s ≤ length flash / 2
+sector-within flash s = omega (arith, sector-fits (unitIn flash) s)
+
 -- the sector's words, off its bytes
-pub sector-words : (flash : List ℕ) (s from to : ℕ) → length flash / 2 ≡ 32768 → from ≡ startOf 2048 s * 2 → to ≡ (startOf 2048 s + sizeOf 2048 s) * 2
+pub sector-words : (flash : List ℕ) (s from to : ℕ) → from ≡ startOf (unitIn flash) s * 2 → to ≡ (startOf (unitIn flash) s + sizeOf (unitIn flash) s) * 2
     → wordsOf 2 (take (to - from) (drop from flash)) ≡ sectorOf (wordsOf 2 flash) s
 unfolding sectorOf wordsOf
-sector-words flash s from to size f t =
-    let unit : 2048 ≡ unitOf (wordsOf 2 flash) = sym (ap (λ (k : ℕ). k / 16) (length-words-of 2 flash ∙ size)) in
-    let wide : to - from ≡ sizeOf 2048 s * 2 = omega arith in
+sector-words flash s from to f t =
+    let unit : unitIn flash ≡ unitOf (wordsOf 2 flash) = sym (unit-is flash) in
+    let wide : to - from ≡ sizeOf (unitIn flash) s * 2 = omega arith in
     (λ i. wordsOf 2 (take (wide i) (drop (f i) flash)))
-    ∙ part-words (startOf 2048 s) (sizeOf 2048 s) 32768 flash (sector-fits 2048 s) (omega arith)
-    ∙ (λ i. part (wordsIn 2 (sym size i) flash) (startOf (unit i) s) (sizeOf (unit i) s))
+    ∙ part-words (startOf (unitIn flash) s) (sizeOf (unitIn flash) s) (length flash / 2) flash (sector-within flash s) (omega arith)
+    ∙ (λ i. part (wordsIn 2 (length flash / 2) flash) (startOf (unit i) s) (sizeOf (unit i) s))
 
--- a sector has 4,096 words at most
-pub sector-short : (flash bs : List ℕ) (s : ℕ) → length flash / 2 ≡ 32768 → wordsOf 2 bs ≡ sectorOf (wordsOf 2 flash) s → length bs / 2 ≤ 4096
-sector-short flash bs s size e =
+-- a sector has an eighth of the flash's words at most
+pub sector-short : (flash bs : List ℕ) (s : ℕ) → wordsOf 2 bs ≡ sectorOf (wordsOf 2 flash) s → length bs / 2 ≤ unitIn flash * 2
+sector-short flash bs s e =
     let n : length bs / 2 ≡ sizeOf (unitOf (wordsOf 2 flash)) s = sym (length-words-of 2 bs) ∙ ap length e ∙ length-sector (wordsOf 2 flash) s in
-    let u : unitOf (wordsOf 2 flash) ≡ 2048 = ap (λ (k : ℕ). k / 16) (length-words-of 2 flash ∙ size) in
-    let m : length bs / 2 ≡ sizeOf 2048 s = n ∙ ap (λ (k : ℕ). sizeOf k s) u in
-    omega (arith, m, size-most 2048 s)
+    let m : length bs / 2 ≡ sizeOf (unitIn flash) s = n ∙ ap (λ (k : ℕ). sizeOf k s) (unit-is flash) in
+    omega (arith, m, size-most (unitIn flash) s)
 
 -- the first word, of some bytes and of none
 
@@ -77,13 +88,17 @@ pub blank-all : (bs : List ℕ) (i : ℕ) → length bs / 2 ≤ i → BlankFrom 
 unfolding isEmpty
 blank-all bs i h e = sym (e ∙ ap isEmpty (drop-of-length-le (wordsOf 2 bs) {i = i} (omega (arith, length-words-of 2 bs))))
 
+-- a sector all of whose words are FFFF is empty
+pub status-blank : (words : List ℕ) → isEmpty words ≡ true → Status.Empty ≡ statusOf words
+unfolding statusOf
+status-blank words h = yes _ h refl
+
 -- words stored over the whole flash are read again
-pub words-stored : (flash words : List ℕ) → length flash / 2 ≡ 32768 → length words ≡ 32768 → Below 65536 words → wordsOf 2 (storeWords 2 words flash) ≡ words
+pub words-stored : (flash words : List ℕ) → length words ≡ length flash / 2 → Below 65536 words → wordsOf 2 (storeWords 2 words flash) ≡ words
 unfolding wordsOf
-words-stored flash words size long low =
+words-stored flash words long low =
     ap (λ (n : ℕ). wordsIn 2 (n / 2) (storeWords 2 words flash)) (length-store 2 words flash (omega arith))
-    ∙ ap (λ (n : ℕ). wordsIn 2 n (storeWords 2 words flash)) size
-    ∙ stored-words words flash 32768 long low
+    ∙ stored-words words flash (length flash / 2) long low
 
 pub below-laid : (words new : List ℕ) (at : ℕ) → Below 65536 words → Below 65536 new → Below 65536 (laid words at new)
 unfolding laid
@@ -101,33 +116,29 @@ lent-bytes flash from to file le wide fits e =
 
 -- a file stored in a sector
 
-module _ (flash : List ℕ) (size : length flash / 2 ≡ 32768) (b : Below 256 flash) (s : ℕ) (file : List ℕ) where
+module _ (flash : List ℕ) (b : Below 256 flash) (s : ℕ) (file : List ℕ) where
   abbrev words : List ℕ
   words = wordsOf 2 flash
 
-  unit : unitOf words ≡ 2048
-  unit = ap (λ (k : ℕ). k / 16) (length-words-of 2 flash ∙ size)
-
-  words-in : words ≡ wordsIn 2 32768 flash
-  unfolding wordsOf
-  words-in = ap (λ (k : ℕ). wordsIn 2 k flash) size
-
   low : Below 65536 words
-  low = subst (Below 65536) (sym words-in) (below-words 32768 flash (omega arith) b)
+  unfolding wordsOf
+  low = below-words (length flash / 2) flash (omega arith) b
 
   -- where it has no room
-  pub stored-out : sizeOf 2048 s < length file → flash ≡ storeWords 2 (stored words s file) flash
+  pub stored-out : sizeOf (unitIn flash) s < length file → flash ≡ storeWords 2 (stored words s file) flash
   stored-out h =
-      let none : sizeOf (unitOf words) s < length file = subst (λ (u : ℕ). sizeOf u s < length file) (sym unit) h in
+      let none : sizeOf (unitOf words) s < length file = subst (λ (u : ℕ). sizeOf u s < length file) (sym (unit-is flash)) h in
       sym (ap (λ (l : List ℕ). storeWords 2 l flash) (stored-none words s file none) ∙ bytes-kept 2 flash b)
 
   -- where it has
-  pub stored-in : {end : List ℕ} → length file ≤ sizeOf 2048 s → end ≡ laid flash (startOf 2048 s * 2) (bytesOf 2 file) → end ≡ storeWords 2 (stored words s file) flash
+  pub stored-in : {end : List ℕ} → length file ≤ sizeOf (unitIn flash) s → end ≡ laid flash (startOf (unitIn flash) s * 2) (bytesOf 2 file)
+      → end ≡ storeWords 2 (stored words s file) flash
+  unfolding wordsOf
   stored-in h m =
-      let room : length file ≤ sizeOf (unitOf words) s = subst (λ (u : ℕ). length file ≤ sizeOf u s) (sym unit) h in
-      let at : startOf (unitOf words) s + 0 ≡ startOf 2048 s = add-zero (startOf (unitOf words) s) ∙ ap (λ (u : ℕ). startOf u s) unit in
-      let is : stored words s file ≡ laid (wordsIn 2 32768 flash) (startOf 2048 s) file = stored-laid words s file room ∙ (λ i. laid (words-in i) (at i) file) in
-      m ∙ sym (ap (λ (l : List ℕ). storeWords 2 l flash) is ∙ store-laid 2 32768 flash (startOf 2048 s) file (omega arith) (omega (arith, sector-fits 2048 s)) b)
+      let room : length file ≤ sizeOf (unitOf words) s = subst (λ (u : ℕ). length file ≤ sizeOf u s) (sym (unit-is flash)) h in
+      let at : startOf (unitOf words) s + 0 ≡ startOf (unitIn flash) s = add-zero (startOf (unitOf words) s) ∙ ap (λ (u : ℕ). startOf u s) (unit-is flash) in
+      let is : stored words s file ≡ laid (wordsIn 2 (length flash / 2) flash) (startOf (unitIn flash) s) file = stored-laid words s file room ∙ ap (λ (k : ℕ). laid words k file) at in
+      m ∙ sym (ap (λ (l : List ℕ). storeWords 2 l flash) is ∙ store-laid 2 (length flash / 2) flash (startOf (unitIn flash) s) file (omega arith) (omega (arith, sector-within flash s)) b)
 
   -- the words are then those of the flash with the file stored
   below-stored : Below 65536 file → Below 65536 (stored words s file)
@@ -136,15 +147,16 @@ module _ (flash : List ℕ) (size : length flash / 2 ≡ 32768) (b : Below 256 f
       pick-case (Below 65536) (leb (length file) (sizeOf (unitOf words) s)) (λ _. below-laid words file (startOf (unitOf words) s) low f) (λ _. low)
 
   pub stored-read : Below 65536 file → wordsOf 2 (storeWords 2 (stored words s file) flash) ≡ stored words s file
-  stored-read f = words-stored flash (stored words s file) size (stored-only words s file .size ∙ length-words-of 2 flash ∙ size) (below-stored f)
+  stored-read f = words-stored flash (stored words s file) (stored-only words s file .size ∙ length-words-of 2 flash) (below-stored f)
 
 pub below-one : (w : ℕ) → w < 65536 → Below 65536 (w ∷ [])
 below-one w h zero = h
 below-one w h (suc i) = omega arith
 
 -- a sector takes a file where it is offered, and all its words are FFFF
-pub takes-in : (directory flash : List ℕ) (erasing : Erasing) (n s : ℕ) {b : Bool} → length flash / 2 ≡ 32768
-    → b ≡ (offered 2048 directory erasing n s && isEmpty (sectorOf (wordsOf 2 flash) s)) → b ≡ takes directory (wordsOf 2 flash) erasing n s
-takes-in directory flash erasing n s size e =
-    let unit : 2048 ≡ unitOf (wordsOf 2 flash) = sym (ap (λ (k : ℕ). k / 16) (length-words-of 2 flash ∙ size)) in
-    e ∙ ap (λ (u : ℕ). offered u directory erasing n s && isEmpty (sectorOf (wordsOf 2 flash) s)) unit ∙ sym (takes-offered directory (wordsOf 2 flash) erasing n s)
+pub takes-in : (directory flash : List ℕ) (erasing : Erasing) (n s : ℕ) {b : Bool}
+    → b ≡ (offered (unitIn flash) directory erasing n s && isEmpty (sectorOf (wordsOf 2 flash) s)) → b ≡ takes directory (wordsOf 2 flash) erasing n s
+takes-in directory flash erasing n s e =
+    e
+    ∙ ap (λ (u : ℕ). offered u directory erasing n s && isEmpty (sectorOf (wordsOf 2 flash) s)) (sym (unit-is flash))
+    ∙ sym (takes-offered directory (wordsOf 2 flash) erasing n s)

@@ -13,5 +13,6 @@ pub mod Held
 pub mod Hears
 pub mod InPackets
 pub mod Moves
+pub mod RunSizes
 pub mod Joins
 pub mod QList

@@ -21,7 +21,7 @@ use node::Turn;
 
 // Sets words of a sector of which so many are done: as many as the budget says, or the rest.
 fn blank_sector(bytes: &mut [u8], start: usize, size: usize, done: usize, budget: usize) -> usize
-    requires { ⌜ (65536 ≤ length (now bytes)) × (start + size ≤ 32768) ⌝ }
+    requires { ⌜ (start + size) * 2 ≤ length (now bytes) ⌝ }
     ensures { λ r. ⌜ (r ≡ min budget (size - done)) × (now (bytes .exit) ≡ laid (now (bytes .entry)) ((start + done) * 2) (bytesOf 2 (blanks r))) ⌝ }
 {
     if size <= done {
@@ -34,21 +34,20 @@ fn blank_sector(bytes: &mut [u8], start: usize, size: usize, done: usize, budget
 
 // A step of an erasure: of the flash the words that are set, and the sector's first word.
 fn erase_sector(node: Node, progress: Progress, budget: usize, flash: &mut [u8]) -> Turn
-    requires { ⌜ length (now flash) / 2 ≡ 32768 ⌝ }
     requires { ⌜ node .erasing ≡ Erasing.Sector progress ⌝ }
     ensures { λ r. ⌜ outcome r (lentFlash (now (flash .exit))) ≡ inBytes (applied node (lentFlash (wordsOf 2 (now (flash .entry)))) (eraseEffect node budget (wordsOf 2 (now (flash .entry))))) (lentFlash (now (flash .entry))) ⌝ }
 {
     let sector = progress.sector;
     let done = progress.done;
-    let next = flash::change::erasing_after(32768, Erasing::Sector(progress), budget);
-    let size = flash::sectors::sector_size(32768, sector);
-    let start = flash::sectors::sector_start(32768, sector);
+    let words = flash.len() / 2;
+    let next = flash::change::erasing_after(words, Erasing::Sector(progress), budget);
+    let size = flash::sectors::sector_size(words, sector);
+    let start = flash::sectors::sector_start(words, sector);
     let count = blank_sector(flash, start, size, done, budget);
     node::blanking::set_step(node, sector, first_in(flash, sector), count, next)
 }
 
 fn erase_taken(node: Node, budget: usize, flash: &mut [u8]) -> Turn
-    requires { ⌜ length (now flash) / 2 ≡ 32768 ⌝ }
     ensures { λ r. ⌜ outcome r (lentFlash (now (flash .exit))) ≡ inBytes (applied node (lentFlash (wordsOf 2 (now (flash .entry)))) (eraseEffect node budget (wordsOf 2 (now (flash .entry))))) (lentFlash (now (flash .entry))) ⌝ }
 {
     let erasing = node.erasing;
@@ -62,8 +61,7 @@ fn erase_taken(node: Node, budget: usize, flash: &mut [u8]) -> Turn
 }
 
 pub fn on_erase(node: Node, budget: usize, flash: &mut [u8]) -> Turn
-    requires { ⌜ length (now flash) / 2 ≡ 32768 ⌝ }
-    requires { ⌜ eraseVerdict node 32768 ≡ Verdict.Fine ⌝ }
+    requires { ⌜ eraseVerdict node (length (now flash) / 2) ≡ Verdict.Fine ⌝ }
     ensures { λ r. ⌜ outcome r (lentFlash (now (flash .exit))) ≡ inBytes (eraseOf node budget (wordsOf 2 (now (flash .entry)))) (lentFlash (now (flash .entry))) ⌝ }
 {
     erase_taken(node, budget, flash)

@@ -14,6 +14,8 @@ ghost use Rattle.touch.specs.Touch.{Quiet, fileAs, fileAt, fileOf};
 use crate::replied::answer_words;
 use crate::rooms::room_4096;
 use crate::rooms::room_4098;
+use crate::rooms::room_12288;
+use crate::rooms::room_32768;
 use crate::sectors::sector_in;
 use codec::words::load16;
 use codec::words::packet_word;
@@ -37,27 +39,55 @@ fn file_words(node: Node, id: u16, words: &[u16], status: Status, room: &mut [u1
 }
 
 // The same, with its words stored at the front of the reply buffer's bytes.
-fn serve(node: Node, id: u16, sector: usize, words: &[u16], reply: &mut [u8]) -> Turn
-    requires { ⌜ (length (now words) ≤ 4096) × (12288 ≤ length (now reply) / 2) ⌝ }
+fn serve(
+    node: Node,
+    id: u16,
+    sector: usize,
+    words: &[u16],
+    room: &mut [u16],
+    reply: &mut [u8],
+) -> Turn
+    requires { ⌜ ((n : ℕ) → n ≤ length (now words) → n ≤ 12286 → n + 2 ≤ length (now room)) ⌝ }
+    requires { ⌜ (3 ≤ length (now room)) × (length (now room) ≤ 12288) × (12288 ≤ length (now reply) / 2) ⌝ }
     ensures { λ r. ⌜ Quiet node (fileAs id node (now (words .entry)) (seenIn node (now (words .entry)) sector)) (now (reply .entry)) r (now (reply .exit)) ⌝ }
 {
-    let mut room = room_4098();
     let status = node::files::status_in(node, words, sector);
-    let turn = file_words(node, id, words, status, &mut room);
+    let turn = file_words(node, id, words, status, room);
     let answer = turn.answer;
     let n = answer_words(answer);
     store16(&room[..n], reply);
     turn
 }
 
-// On the bytes of the flash, of which just the sector's are looked at.
-fn on_sector(node: Node, id: u16, sector: usize, flash: &[u8], reply: &mut [u8]) -> Turn
-    requires { ⌜ (length (now flash) / 2 ≡ 32768) × (12288 ≤ length (now reply) / 2) ⌝ }
+// On the bytes of the flash, of which just the sector's are looked at: in rooms for a bench flash, or for a full one.
+fn bench_sector(node: Node, id: u16, sector: usize, flash: &[u8], reply: &mut [u8]) -> Turn
+    requires { ⌜ (length (now flash) / 2 ≤ 32768) × (12288 ≤ length (now reply) / 2) ⌝ }
     ensures { λ r. ⌜ Quiet node (fileAt id node (wordsOf 2 (now (flash .entry))) (Target.At sector)) (now (reply .entry)) r (now (reply .exit)) ⌝ }
 {
     let mut words = room_4096();
+    let mut room = room_4098();
     let count = load16(sector_in(flash, sector), &mut words);
-    serve(node, id, sector, &words[..count], reply)
+    serve(node, id, sector, &words[..count], &mut room, reply)
+}
+
+fn full_sector(node: Node, id: u16, sector: usize, flash: &[u8], reply: &mut [u8]) -> Turn
+    requires { ⌜ (length (now flash) / 2 ≤ 262144) × (12288 ≤ length (now reply) / 2) ⌝ }
+    ensures { λ r. ⌜ Quiet node (fileAt id node (wordsOf 2 (now (flash .entry))) (Target.At sector)) (now (reply .entry)) r (now (reply .exit)) ⌝ }
+{
+    let mut words = room_32768();
+    let mut room = room_12288();
+    let count = load16(sector_in(flash, sector), &mut words);
+    serve(node, id, sector, &words[..count], &mut room, reply)
+}
+
+fn on_sector(node: Node, id: u16, sector: usize, flash: &[u8], reply: &mut [u8]) -> Turn
+    requires { ⌜ (length (now flash) / 2 ≤ 262144) × (12288 ≤ length (now reply) / 2) ⌝ }
+    ensures { λ r. ⌜ Quiet node (fileAt id node (wordsOf 2 (now (flash .entry))) (Target.At sector)) (now (reply .entry)) r (now (reply .exit)) ⌝ }
+{
+    if flash.len() / 2 <= 32768 {
+        return bench_sector(node, id, sector, flash, reply);
+    }
+    full_sector(node, id, sector, flash, reply)
 }
 
 // What is said where there is no such file: Read END, Test ABORT.
@@ -81,7 +111,7 @@ fn several(node: Node, id: u16) -> Turn
 }
 
 pub fn on_file(node: Node, id: u16, packet: &[u8], flash: &[u8], reply: &mut [u8]) -> Turn
-    requires { ⌜ (length (now flash) / 2 ≡ 32768) × (12288 ≤ length (now reply) / 2) ⌝ }
+    requires { ⌜ (length (now flash) / 2 ≤ 262144) × (12288 ≤ length (now reply) / 2) ⌝ }
     ensures { λ r. ⌜ Quiet node (fileOf id node (wordsOf 2 (now (flash .entry))) (wordsOf 2 (now (packet .entry)))) (now (reply .entry)) r (now (reply .exit)) ⌝ }
 {
     let erasing = node.erasing;

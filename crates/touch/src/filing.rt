@@ -32,10 +32,9 @@ use node::files::named_by;
 
 // Whether a file of n words may go to a sector. Its words are looked at only where it is offered.
 fn may_take(directory: [u16; 32], flash: &[u8], erasing: Erasing, n: usize, sector: usize) -> bool
-    requires { ⌜ length (now flash) / 2 ≡ 32768 ⌝ }
     ensures { λ r. ⌜ r ≡ takes directory (wordsOf 2 (now (flash .entry))) erasing n sector ⌝ }
 {
-    if !flash::finding::is_offered(directory, 32768, erasing, n, sector) {
+    if !flash::finding::is_offered(directory, flash.len() / 2, erasing, n, sector) {
         return false;
     }
     is_blank(sector_in(flash, sector))
@@ -43,7 +42,6 @@ fn may_take(directory: [u16; 32], flash: &[u8], erasing: Erasing, n: usize, sect
 
 // The placing rule: the sector for a file of n words.
 fn place(directory: [u16; 32], flash: &[u8], erasing: Erasing, n: usize) -> Found
-    requires { ⌜ length (now flash) / 2 ≡ 32768 ⌝ }
     ensures { λ r. ⌜ r ≡ placeOf directory (wordsOf 2 (now (flash .entry))) erasing n ⌝ }
 {
     let mut found = Found::Nothing;
@@ -60,7 +58,6 @@ fn place(directory: [u16; 32], flash: &[u8], erasing: Erasing, n: usize) -> Foun
 
 // The sector that a file goes to.
 fn placed_for(node: Node, flash: &[u8], file: &[u16]) -> Found
-    requires { ⌜ length (now flash) / 2 ≡ 32768 ⌝ }
     ensures { λ r. ⌜ r ≡ placedFor node (wordsOf 2 (now (flash .entry))) (now (file .entry)) ⌝ }
 {
     let directory = node.directory;
@@ -73,7 +70,6 @@ fn placed_for(node: Node, flash: &[u8], file: &[u16]) -> Found
 
 // Write of a file to the sector that it goes to.
 fn write_at(node: Node, flash: &mut [u8], found: Found, file: &[u16]) -> Turn
-    requires { ⌜ length (now flash) / 2 ≡ 32768 ⌝ }
     ensures { λ r. ⌜ Alters node (writeAt (now (file .entry)) found) (now (flash .entry)) r (now (flash .exit)) ⌝ }
 {
     let erasing = node.erasing;
@@ -94,7 +90,6 @@ fn write_at(node: Node, flash: &mut [u8], found: Found, file: &[u16]) -> Turn
 
 // Write of a file, wherever its words came from, while nothing is erasing.
 pub fn write_words(node: Node, flash: &mut [u8], file: &[u16]) -> Turn
-    requires { ⌜ length (now flash) / 2 ≡ 32768 ⌝ }
     ensures { λ r. ⌜ Alters node (writeAt (now (file .entry)) (placedFor node (wordsOf 2 (now (flash .entry))) (now (file .entry)))) (now (flash .entry)) r (now (flash .exit)) ⌝ }
 {
     write_at(node, flash, placed_for(node, flash, file), file)
@@ -102,7 +97,7 @@ pub fn write_words(node: Node, flash: &mut [u8], file: &[u16]) -> Turn
 
 // File Write, 45, in one packet.
 fn file_write(node: Node, packet: &[u8], flash: &mut [u8]) -> Turn
-    requires { ⌜ (length (now flash) / 2 ≡ 32768) × (1 ≤ length (now packet) / 2) × (length (now packet) / 2 ≤ 8192) ⌝ }
+    requires { ⌜ (1 ≤ length (now packet) / 2) × (length (now packet) / 2 ≤ 8192) ⌝ }
     ensures { λ r. ⌜ Alters node (writeOf node (wordsOf 2 (now (flash .entry))) (wordsOf 2 (now (packet .entry)))) (now (flash .entry)) r (now (flash .exit)) ⌝ }
 {
     let erasing = node.erasing;
@@ -116,7 +111,6 @@ fn file_write(node: Node, packet: &[u8], flash: &mut [u8]) -> Turn
 
 // The start of a sector's erasure.
 fn erase_at(node: Node, flash: &[u8], found: Found) -> Turn
-    requires { ⌜ length (now flash) / 2 ≡ 32768 ⌝ }
     ensures { λ r. ⌜ Alters node (eraseAt found) (now (flash .entry)) r (now (flash .entry)) ⌝ }
 {
     match found {
@@ -136,7 +130,6 @@ fn erase_at(node: Node, flash: &[u8], found: Found) -> Turn
 
 // Erase, 47: it only starts.
 fn erase_start(node: Node, packet: &[u8], flash: &[u8]) -> Turn
-    requires { ⌜ length (now flash) / 2 ≡ 32768 ⌝ }
     ensures { λ r. ⌜ Alters node (eraseStartOf node (wordsOf 2 (now (packet .entry)))) (now (flash .entry)) r (now (flash .entry)) ⌝ }
 {
     let erasing = node.erasing;
@@ -152,7 +145,6 @@ fn erase_start(node: Node, packet: &[u8], flash: &[u8]) -> Turn
 
 // Attribute Set by what it does to the header word.
 fn set_to(node: Node, flash: &mut [u8], sector: usize, end: usize, setting: Setting) -> Turn
-    requires { ⌜ length (now flash) / 2 ≡ 32768 ⌝ }
     ensures { λ r. ⌜ Alters node (setTo sector end setting) (now (flash .entry)) r (now (flash .exit)) ⌝ }
 {
     let erasing = node.erasing;
@@ -175,7 +167,7 @@ fn set_to(node: Node, flash: &mut [u8], sector: usize, end: usize, setting: Sett
 
 // Attribute Set of the file in a sector.
 fn attribute_sector(node: Node, flash: &mut [u8], sector: usize, value: u16) -> Turn
-    requires { ⌜ length (now flash) / 2 ≡ 32768 ⌝ }
+    requires { ⌜ length (now flash) / 2 ≤ 262144 ⌝ }
     ensures { λ r. ⌜ Alters node (attributeBy sector (sectorOf (wordsOf 2 (now (flash .entry))) sector) value (seen node (wordsOf 2 (now (flash .entry))) sector)) (now (flash .entry)) r (now (flash .exit)) ⌝ }
 {
     let status = status_in(node, flash, sector);
@@ -198,7 +190,7 @@ fn attribute_sector(node: Node, flash: &mut [u8], sector: usize, value: u16) -> 
 
 // Attribute Set, 48.
 fn attribute_set(node: Node, packet: &[u8], flash: &mut [u8]) -> Turn
-    requires { ⌜ length (now flash) / 2 ≡ 32768 ⌝ }
+    requires { ⌜ length (now flash) / 2 ≤ 262144 ⌝ }
     ensures { λ r. ⌜ Alters node (attributeSetOf node (wordsOf 2 (now (flash .entry))) (wordsOf 2 (now (packet .entry)))) (now (flash .entry)) r (now (flash .exit)) ⌝ }
 {
     let erasing = node.erasing;
@@ -215,7 +207,7 @@ fn attribute_set(node: Node, packet: &[u8], flash: &mut [u8]) -> Turn
 
 // The three, by ID.
 pub fn on_filing(node: Node, id: u16, packet: &[u8], flash: &mut [u8]) -> Turn
-    requires { ⌜ (length (now flash) / 2 ≡ 32768) × (1 ≤ length (now packet) / 2) × (length (now packet) / 2 ≤ 8192) ⌝ }
+    requires { ⌜ (length (now flash) / 2 ≤ 262144) × (1 ≤ length (now packet) / 2) × (length (now packet) / 2 ≤ 8192) ⌝ }
     ensures { λ r. ⌜ Alters node (filingOf id node (wordsOf 2 (now (flash .entry))) (wordsOf 2 (now (packet .entry)))) (now (flash .entry)) r (now (flash .exit)) ⌝ }
 {
     if id == 0x45 {

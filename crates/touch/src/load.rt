@@ -2,7 +2,7 @@
 ghost use mathlib.Core.Path.{_≡_};
 ghost use mathlib.Core.Bool.{true};
 ghost use mathlib.Core.List.{List};
-ghost use Prim.Native.Nat.{ℕ, _/_, _≤_};
+ghost use Prim.Native.Nat.{ℕ, _*_, _/_, _≤_};
 ghost use lib.ListN.{length};
 ghost use Rattle.image.specs.Segment.{memoryOf};
 ghost use Rattle.image.specs.File.{fileEnd};
@@ -19,7 +19,8 @@ use crate::memories::run_pair;
 use crate::memories::store_dm;
 use crate::memories::store_pm;
 use crate::rooms::room_4096;
-use crate::rooms::room_pm_4096;
+use crate::rooms::room_32768;
+use crate::rooms::room_pm;
 use crate::sectors::sector_in;
 use codec::words::load16;
 use codec::words::packet_word;
@@ -57,7 +58,7 @@ fn store_io(io: &mut [u8], segment: &[u16])
 fn store_segment(segment: &[u16], pm: &mut [u8], dm: &mut [u8], io: &mut [u8], held: &mut [u32])
     requires { ⌜ isSegment (now segment) ≡ true ⌝ }
     requires { ⌜ segmentFits (length (now pm) / 4) (length (now dm) / 2) (length (now io) / 2) (now segment) ≡ true ⌝ }
-    requires { ⌜ length (now segment) ≤ length (now held) ⌝ }
+    requires { ⌜ length (now pm) / 4 ≤ length (now held) ⌝ }
     ensures { λ _. ⌜ (memoryWords (memories (now (pm .exit)) (now (dm .exit)) (now (io .exit))) ≡ segmentStored (now (segment .entry)) (memoryWords (memories (now (pm .entry)) (now (dm .entry)) (now (io .entry))))) × MemoriesRest (memories (now (pm .entry)) (now (dm .entry)) (now (io .entry))) (memories (now (pm .exit)) (now (dm .exit)) (now (io .exit))) ⌝ }
 {
     let memory = image::memory_of(segment[0]);
@@ -72,7 +73,7 @@ fn store_segment(segment: &[u16], pm: &mut [u8], dm: &mut [u8], io: &mut [u8], h
 fn store_all(file: &[u16], pm: &mut [u8], dm: &mut [u8], io: &mut [u8], held: &mut [u32])
     requires { ⌜ isAt (fileEnd (now file)) ≡ true ⌝ }
     requires { ⌜ allFit (length (now pm) / 4) (length (now dm) / 2) (length (now io) / 2) (fileSegments (now file)) ≡ true ⌝ }
-    requires { ⌜ length (now file) ≤ length (now held) ⌝ }
+    requires { ⌜ length (now pm) / 4 ≤ length (now held) ⌝ }
     ensures { λ _. ⌜ (memoryWords (memories (now (pm .exit)) (now (dm .exit)) (now (io .exit))) ≡ allStored (fileSegments (now (file .entry))) (memoryWords (memories (now (pm .entry)) (now (dm .entry)) (now (io .entry))))) × MemoriesRest (memories (now (pm .entry)) (now (dm .entry)) (now (io .entry))) (memories (now (pm .exit)) (now (dm .exit)) (now (io .exit))) ⌝ }
 {
     let mut unstored = image::segments_of(file[0]);
@@ -87,7 +88,7 @@ fn store_all(file: &[u16], pm: &mut [u8], dm: &mut [u8], io: &mut [u8], held: &m
 
 // Whether a file could be loaded; if so, it is.
 fn load_file(file: &[u16], pm: &mut [u8], dm: &mut [u8], io: &mut [u8], held: &mut [u32]) -> bool
-    requires { ⌜ length (now file) ≤ length (now held) ⌝ }
+    requires { ⌜ length (now pm) / 4 ≤ length (now held) ⌝ }
     ensures { λ r. ⌜ (loaded r (memoryWords (memories (now (pm .exit)) (now (dm .exit)) (now (io .exit)))) ≡ loadOf (now (file .entry)) (memoryWords (memories (now (pm .entry)) (now (dm .entry)) (now (io .entry))))) × MemoriesRest (memories (now (pm .entry)) (now (dm .entry)) (now (io .entry))) (memories (now (pm .exit)) (now (dm .exit)) (now (io .exit))) ⌝ }
 {
     if memory::can_load(file, pm.len() / 4, dm.len() / 2, io.len() / 2) {
@@ -107,7 +108,7 @@ fn load_words(
     io: &mut [u8],
     held: &mut [u32],
 ) -> Turn
-    requires { ⌜ length (now words) ≤ length (now held) ⌝ }
+    requires { ⌜ length (now pm) / 4 ≤ length (now held) ⌝ }
     ensures { λ r. ⌜ ((reply : List ℕ) → Moves node (loadBy (now (words .entry)) (memoryWords (memories (now (pm .entry)) (now (dm .entry)) (now (io .entry)))) (seenIn node (now (words .entry)) sector)) (memories (now (pm .entry)) (now (dm .entry)) (now (io .entry))) reply r (memories (now (pm .exit)) (now (dm .exit)) (now (io .exit))) reply) ⌝ }
 {
     if node::files::is_faulty(node::files::status_in(node, words, sector)) {
@@ -119,7 +120,54 @@ fn load_words(
     says(node, ZeroLength::Abort)
 }
 
-// On the bytes of the flash, of which just the sector's are looked at.
+// On the bytes of the flash, of which just the sector's are looked at: in a room for a bench flash, or for a full one.
+fn load_in(
+    node: Node,
+    sector: usize,
+    flash: &[u8],
+    room: &mut [u16],
+    pm: &mut [u8],
+    dm: &mut [u8],
+    io: &mut [u8],
+) -> Turn
+    requires { ⌜ (length (now flash) / 2 ≤ length (now room) * 8) × (length (now pm) / 4 ≤ 8192) ⌝ }
+    ensures { λ r. ⌜ ((reply : List ℕ) → Moves node (loadAt node (wordsOf 2 (now (flash .entry))) (memoryWords (memories (now (pm .entry)) (now (dm .entry)) (now (io .entry)))) (Target.At sector)) (memories (now (pm .entry)) (now (dm .entry)) (now (io .entry))) reply r (memories (now (pm .exit)) (now (dm .exit)) (now (io .exit))) reply) ⌝ }
+{
+    let mut held = room_pm();
+    let count = load16(sector_in(flash, sector), room);
+    load_words(node, sector, &room[..count], pm, dm, io, &mut held)
+}
+
+fn load_bench(
+    node: Node,
+    sector: usize,
+    flash: &[u8],
+    pm: &mut [u8],
+    dm: &mut [u8],
+    io: &mut [u8],
+) -> Turn
+    requires { ⌜ (length (now flash) / 2 ≤ 32768) × (length (now pm) / 4 ≤ 8192) ⌝ }
+    ensures { λ r. ⌜ ((reply : List ℕ) → Moves node (loadAt node (wordsOf 2 (now (flash .entry))) (memoryWords (memories (now (pm .entry)) (now (dm .entry)) (now (io .entry)))) (Target.At sector)) (memories (now (pm .entry)) (now (dm .entry)) (now (io .entry))) reply r (memories (now (pm .exit)) (now (dm .exit)) (now (io .exit))) reply) ⌝ }
+{
+    let mut room = room_4096();
+    load_in(node, sector, flash, &mut room, pm, dm, io)
+}
+
+fn load_full(
+    node: Node,
+    sector: usize,
+    flash: &[u8],
+    pm: &mut [u8],
+    dm: &mut [u8],
+    io: &mut [u8],
+) -> Turn
+    requires { ⌜ (length (now flash) / 2 ≤ 262144) × (length (now pm) / 4 ≤ 8192) ⌝ }
+    ensures { λ r. ⌜ ((reply : List ℕ) → Moves node (loadAt node (wordsOf 2 (now (flash .entry))) (memoryWords (memories (now (pm .entry)) (now (dm .entry)) (now (io .entry)))) (Target.At sector)) (memories (now (pm .entry)) (now (dm .entry)) (now (io .entry))) reply r (memories (now (pm .exit)) (now (dm .exit)) (now (io .exit))) reply) ⌝ }
+{
+    let mut room = room_32768();
+    load_in(node, sector, flash, &mut room, pm, dm, io)
+}
+
 fn load_sector(
     node: Node,
     sector: usize,
@@ -128,13 +176,13 @@ fn load_sector(
     dm: &mut [u8],
     io: &mut [u8],
 ) -> Turn
-    requires { ⌜ length (now flash) / 2 ≡ 32768 ⌝ }
+    requires { ⌜ (length (now flash) / 2 ≤ 262144) × (length (now pm) / 4 ≤ 8192) ⌝ }
     ensures { λ r. ⌜ ((reply : List ℕ) → Moves node (loadAt node (wordsOf 2 (now (flash .entry))) (memoryWords (memories (now (pm .entry)) (now (dm .entry)) (now (io .entry)))) (Target.At sector)) (memories (now (pm .entry)) (now (dm .entry)) (now (io .entry))) reply r (memories (now (pm .exit)) (now (dm .exit)) (now (io .exit))) reply) ⌝ }
 {
-    let mut words = room_4096();
-    let mut held = room_pm_4096();
-    let count = load16(sector_in(flash, sector), &mut words);
-    load_words(node, sector, &words[..count], pm, dm, io, &mut held)
+    if flash.len() / 2 <= 32768 {
+        return load_bench(node, sector, flash, pm, dm, io);
+    }
+    load_full(node, sector, flash, pm, dm, io)
 }
 
 // 46: Load.
@@ -146,7 +194,7 @@ pub fn on_load(
     dm: &mut [u8],
     io: &mut [u8],
 ) -> Turn
-    requires { ⌜ length (now flash) / 2 ≡ 32768 ⌝ }
+    requires { ⌜ (length (now flash) / 2 ≤ 262144) × (length (now pm) / 4 ≤ 8192) ⌝ }
     ensures { λ r. ⌜ ((reply : List ℕ) → Moves node (commandOf node (wordsOf 2 (now (flash .entry))) (memoryWords (memories (now (pm .entry)) (now (dm .entry)) (now (io .entry)))) (wordsOf 2 (now (packet .entry)))) (memories (now (pm .entry)) (now (dm .entry)) (now (io .entry))) reply r (memories (now (pm .exit)) (now (dm .exit)) (now (io .exit))) reply) ⌝ }
 {
     let erasing = node.erasing;

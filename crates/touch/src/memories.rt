@@ -3,7 +3,7 @@
 ghost use mathlib.Core.Path.{_≡_};
 ghost use mathlib.Core.Bool.{true};
 ghost use mathlib.Core.List.{List, []};
-ghost use Prim.Native.Nat.{ℕ, _+_, _/_, _≤_, _<_};
+ghost use Prim.Native.Nat.{ℕ, _+_, _-_, _/_, _≤_, _<_};
 ghost use lib.ListN.{length, take, set};
 ghost use Rattle.base.specs.Words.{laid};
 ghost use Rattle.image.specs.Segment.{memoryOf, lengthOf};
@@ -214,7 +214,7 @@ pub fn store_pm(pm: &mut [u8], segment: &[u16], held: &mut [u32])
     requires { ⌜ isSegment (now segment) ≡ true ⌝ }
     requires { ⌜ memoryOf (firstOf (now segment)) ≡ Memory.Pm ⌝ }
     requires { ⌜ headerFits (length (now pm) / 4) Memory.Pm (firstOf (now segment)) (secondOf (now segment)) ≡ true ⌝ }
-    requires { ⌜ length (now segment) ≤ length (now held) ⌝ }
+    requires { ⌜ lengthOf (firstOf (now segment)) - 1 ≤ length (now held) ⌝ }
     ensures { λ _. ⌜ (wordsOf 4 (now (pm .exit)) ≡ putAt (wordsOf 4 (now (pm .entry))) (headerRun Memory.Pm (firstOf (now (segment .entry))) (secondOf (now (segment .entry)))) (segmentWords (now (segment .entry)))) × Rest 4 (length (now (pm .entry)) / 4) (now (pm .entry)) (now (pm .exit)) ⌝ }
 {
     let second = segment[1];

@@ -49,7 +49,7 @@ pub fn on_join(
 
 // The file that is joined in the area, of so many words, written.
 fn write_joined(node: Node, area: &[u8], words: usize, flash: &mut [u8]) -> Turn
-    requires { ⌜ (words ≤ 32768) × (32768 ≤ length (now area) / 2) × (length (now flash) / 2 ≡ 32768) ⌝ }
+    requires { ⌜ (words ≤ 32768) × (32768 ≤ length (now area) / 2) ⌝ }
     ensures { λ r. ⌜ Alters node (fileWriteOf node (wordsOf 2 (now (flash .entry))) (take words (wordsOf 2 (now (area .entry))))) (now (flash .entry)) r (now (flash .exit)) ⌝ }
 {
     let erasing = node.erasing;
@@ -63,7 +63,7 @@ fn write_joined(node: Node, area: &[u8], words: usize, flash: &mut [u8]) -> Turn
 
 // The last packet: its words join the others, and the file is written.
 pub fn on_last(node: Node, at: usize, packet: &[u8], flash: &mut [u8], area: &mut [u8]) -> Turn
-    requires { ⌜ (at + length (now packet) / 2 ≤ 32768) × (32768 ≤ length (now area) / 2) × (length (now flash) / 2 ≡ 32768) ⌝ }
+    requires { ⌜ (at + length (now packet) / 2 ≤ 32768) × (32768 ≤ length (now area) / 2) ⌝ }
     ensures { λ r. ⌜ Ends node at (now (packet .entry)) (now (flash .entry)) (now (area .entry)) r (now (flash .exit)) (now (area .exit)) ⌝ }
 {
     let words = packet.len() / 2;

@@ -98,12 +98,6 @@ pub fn room_pm_64() -> [u32; 64]
     [0; 64]
 }
 
-pub fn room_pm_4096() -> [u32; 4096]
-    ensures { λ r. ⌜ length r ≡ 4096 ⌝ }
-{
-    [0; 4096]
-}
-
 pub fn room_pm() -> [u32; 8192]
     ensures { λ r. ⌜ length r ≡ 8192 ⌝ }
 {

@@ -2,9 +2,9 @@ use mathlib.Core.Path.{ap, _∙_}
 use Prim.Native.Nat.{ℕ, min, _+_, _-_, _*_}
 use native.Mathlib.Omega.{arith}
 use Rattle.base.specs.Words.{laid, blanks}
-use Rattle.flash.proofs.Geometry.{sector-fits}
 use Rattle.codec.specs.Bytes.{bytesOf}
 use Rattle.touch.proofs.Blanked.{erase-left}
+use Rattle.touch.proofs.InSector.{sector-within}
 use borrow.Author.Needs.{needs}
 use Rattle.touch.proofs.erasing.erase_sector.Statement.{statement}
 use Rattle.touch.proofs.erasing.erase_sector.Tie as tie
@@ -26,10 +26,10 @@ sector-start-requires : tie.Need-sector-start-requires
 sector-start-requires c κs = search needs
 
 blank-sector-requires : tie.Need-blank-sector-requires
-blank-sector-requires c κs = let fits = sector-fits 2048 (c .before .before .before .before .before .args .progress .sector) in (omega (arith, c .before .before .before .before .before .pre .0), omega (arith, fits, c .before .before .sector-size .ensures, c .before .sector-start .ensures))
+blank-sector-requires c κs = omega (arith, sector-within (c .before .before .before .before .before .args .flash .now) (c .before .before .before .before .before .args .progress .sector), c .before .before .sector-size .ensures, c .before .sector-start .ensures)
 
 first-in-requires : tie.Need-first-in-requires
-first-in-requires c κs = omega (arith, c .before .before .before .before .before .before .before .before .before .pre .0, c .before .before .before .blank-sector .kept .0)
+first-in-requires c κs = search needs
 
 set-step-requires : tie.Need-set-step-requires
 set-step-requires c κs = search needs
@@ -38,7 +38,7 @@ same-length : tie.Need-same-length
 same-length c = search needs
 
 returns : tie.Need-returns
-returns c = let a = c .before .before .before .before .before .before .before .before .before .before .before .args in let z = c .before .before .before .before .before .before .before .before .sector-size .ensures in let s = c .before .before .before .before .before .before .before .sector-start .ensures in let done = a .progress .done in erase-left (a .node) (a .budget) (a .flash .now) (a .progress) (c .before .before .before .before .before .before .before .before .before .before .before .pre .1) (c .before .before .before .before .before .before .before .before .before .before .before .pre .0) (λ i. omega (arith, c .before .before .before .before .before .before .before .before .before .before .slice-known .given i)) (c .before .before .before .before .before .blank-sector .ensures .0 ∙ ap (λ (k : ℕ). min (a .budget) (k - done)) z) (c .before .before .before .before .before .before .before .before .before .erasing-after .ensures) (c .before .before .before .before .before .blank-sector .ensures .1 ∙ ap (λ (k : ℕ). laid (a .flash .now) ((k + done) * 2) (bytesOf 2 (blanks (c .before .before .before .before .before .blank-sector .result)))) s) (c .before .first-in .ensures) (c .set-step .ensures)
+returns c = let a = c .before .before .before .before .before .before .before .before .before .before .before .args in let z = c .before .before .before .before .before .before .before .before .sector-size .ensures in let s = c .before .before .before .before .before .before .before .sector-start .ensures in let done = a .progress .done in erase-left (a .node) (a .budget) (a .flash .now) (a .progress) (c .before .before .before .before .before .before .before .before .before .before .before .pre) (λ i. omega (arith, c .before .before .before .before .before .before .before .before .before .before .slice-known .given i)) (c .before .before .before .before .before .blank-sector .ensures .0 ∙ ap (λ (k : ℕ). min (a .budget) (k - done)) z) (c .before .before .before .before .before .before .before .before .before .erasing-after .ensures) (c .before .before .before .before .before .blank-sector .ensures .1 ∙ ap (λ (k : ℕ). laid (a .flash .now) ((k + done) * 2) (bytesOf 2 (blanks (c .before .before .before .before .before .blank-sector .result)))) s) (c .before .first-in .ensures) (c .set-step .ensures)
 
 pub erase-sector-spec : {M : Type 1} → statement M
 erase-sector-spec =

@@ -13,7 +13,7 @@ same-length c = search needs
 returns : tie.Need-returns
 returns c =
     let s = c .before .before .before .before .before in
-    erase-taken (s .args .node) (s .args .budget) (s .args .flash .now) (s .pre .0) (s .pre .1) (c .before .before .erase-taken .ensures)
+    erase-taken (s .args .node) (s .args .budget) (s .args .flash .now) (s .pre) (c .before .before .erase-taken .ensures)
 
 pub on-erase-spec : {M : Type 1} → statement M
 on-erase-spec = tie.close (tie.spec erase-taken-requires same-length returns)

@@ -1,51 +1,34 @@
--- `touch::files::on_sector` meets its contract: the words loaded are the sector's. Assumes nothing.
-use Prim.Native.Nat.{_-_}
-use mathlib.Core.Path.{refl, sym, ap, _∙_}
+-- `touch::files::on_sector` meets its contract, by the size of the flash. Assumes nothing.
 use native.Mathlib.Omega.{arith}
-use lib.ListN.{length}
-use lib.Seq.{length-take-le}
-use Rattle.flash.specs.Geometry.{sectorOf}
-use Rattle.node.specs.Files.{seenIn}
-use Rattle.codec.specs.Bytes.{wordsOf}
-use Rattle.touch.specs.Touch.{fileAs}
-use Rattle.codec.proofs.Runs.{loaded-count, loaded-front, length-words-of}
-use Rattle.touch.proofs.InSector.{sector-short}
-use Rattle.touch.proofs.OneFile.{seen-in}
-use Rattle.touch.proofs.Touch.{quiet-is}
 use borrow.Author.Needs.{needs}
 use Rattle.touch.proofs.files.on_sector.Statement.{statement}
 use Rattle.touch.proofs.files.on_sector.Tie as tie
 
-room-4096-requires : tie.Need-room-4096-requires
-room-4096-requires c κs = search needs
-
-sector-in-requires : tie.Need-sector-in-requires
-sector-in-requires c κs = c .before .before .before .pre .0
-
-slice-aggregate-load16 : tie.Need-slice-aggregate-load16
-slice-aggregate-load16 c = search needs
-
-load16-requires : tie.Need-load16-requires
-load16-requires c κs = let short = sector-short (c .before .before .before .before .before .args .flash .now) (c .before .sector-in .result .now) (c .before .before .before .before .before .args .sector) (c .before .before .before .before .before .pre .0) (c .before .sector-in .ensures) in omega (arith, short, c .before .before .room-4096 .ensures)
-
-array-share-prefix-words : tie.Need-array-share-prefix-words
-array-share-prefix-words c = loaded-count (c .before .load16 .ensures)
-
-slice-aggregate-serve : tie.Need-slice-aggregate-serve
-slice-aggregate-serve c = sym (length-take-le _ _ (loaded-count (c .before .before .load16 .ensures)))
-
-serve-requires : tie.Need-serve-requires
-serve-requires c κs = let short = sector-short (c .before .before .before .before .before .before .before .before .before .args .flash .now) (c .before .before .before .before .before .sector-in .result .now) (c .before .before .before .before .before .before .before .before .before .args .sector) (c .before .before .before .before .before .before .before .before .before .pre .0) (c .before .before .before .before .before .sector-in .ensures) in let front = ap length (loaded-front (c .before .before .before .load16 .ensures)) in (omega (arith, front, short, length-words-of 2 (c .before .before .before .before .before .sector-in .result .now)), c .before .before .before .before .before .before .before .before .before .pre .1)
+bench-sector-requires : tie.Need-bench-sector-requires
+bench-sector-requires c κs = (omega (arith, c .before .if1 .taken), c .before .before .before .before .pre .1)
 
 same-length : tie.Need-same-length
 same-length c = search needs
 
 returns : tie.Need-returns
-returns c = let a = c .before .before .before .before .before .before .before .before .before .before .before .before .args in
-    let f = wordsOf 2 (a .flash .now) in
-    let ws = loaded-front (c .before .before .before .before .before .before .load16 .ensures) ∙ c .before .before .before .before .before .before .before .before .sector-in .ensures in
-    quiet-is (a .node) (a .reply .now) (c .before .before .serve .ensures)
-    ((λ i. fileAs (a .id) (a .node) (ws i) (seenIn (a .node) (ws i) (a .sector))) ∙ ap (fileAs (a .id) (a .node) (sectorOf f (a .sector))) (seen-in (a .node) f (sectorOf f (a .sector)) (a .sector) refl))
+returns c = c .before .before .bench-sector .ensures
+
+full-sector-requires : tie.Need-full-sector-requires
+full-sector-requires c κs = c .before .before .before .before .pre
+
+same-length-2 : tie.Need-same-length-2
+same-length-2 c = search needs
+
+returns-2 : tie.Need-returns-2
+returns-2 c = c .before .before .full-sector .ensures
 
 pub on-sector-spec : {M : Type 1} → statement M
-on-sector-spec = tie.close (tie.spec room-4096-requires sector-in-requires slice-aggregate-load16 load16-requires array-share-prefix-words slice-aggregate-serve serve-requires same-length returns)
+on-sector-spec =
+    tie.close
+    (tie.spec
+    bench-sector-requires
+    same-length
+    returns
+    full-sector-requires
+    same-length-2
+    returns-2)

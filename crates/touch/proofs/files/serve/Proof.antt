@@ -1,3 +1,4 @@
+-- `touch::files::serve` meets its contract: the words laid in the room are stored at the front of the reply buffer. Assumes nothing.
 use mathlib.Core.Path.{_≡_, sym, ap, _∙_}
 use native.Mathlib.Omega.{arith}
 use lib.ListN.{length, take}
@@ -9,55 +10,44 @@ use Rattle.touch.proofs.Touch.{replied-fits, replied-quiet, quiet-is}
 use borrow.Author.Needs.{needs}
 use Rattle.touch.proofs.files.serve.Statement.{statement}
 use Rattle.touch.proofs.files.serve.Tie as tie
-use Rattle.touch.proofs.files.serve.Reads as reads
-use Rattle.touch.proofs.files.serve.Lts as lts
-use Rattle.touch.proofs.replied.answer_words.Reads as answer-words-reads
-use Rattle.touch.proofs.files.file_words.Reads as file-words-reads
-use Rattle.touch.proofs.rooms.room_4098.Reads as room-4098-reads
-use Rattle.codec.proofs.words.store16.Reads as store16-reads
-use Rattle.node.proofs.files.status_in.Reads as status-in-reads
-
-room-4098-requires : tie.Need-room-4098-requires
-room-4098-requires c κs = search needs
 
 status-in-requires : tie.Need-status-in-requires
 status-in-requires c κs = search needs
 
-slice-aggregate-file-words : tie.Need-slice-aggregate-file-words
-slice-aggregate-file-words c = search needs
-
 file-words-requires : tie.Need-file-words-requires
-file-words-requires c κs = let a = c .before .before .before .before .before .args in let r = c .before .before .room-4098 .ensures in (λ end e. let g = checked-good (a .node .directory) (a .words .now) (a .node .erasing) (a .sector) end (sym (c .before .status-in .ensures) ∙ e) in (g .fits, λ h. omega (arith, g .fits, r, c .before .before .before .before .before .pre .0)), omega (arith, r))
+file-words-requires c κs = let a = c .before .before .before .before .before .args in (λ end e. let g = checked-good (a .node .directory) (a .words .now) (a .node .erasing) (a .sector) end (sym (c .before .status-in .ensures) ∙ e) in (g .fits, λ h. c .before .before .before .before .before .pre .0 end (g .fits) h), c .before .before .before .before .before .pre .1 .0)
 
 answer-words-requires : tie.Need-answer-words-requires
 answer-words-requires c κs = search needs
 
-array-share-prefix-room : tie.Need-array-share-prefix-room
-array-share-prefix-room c = let a = c .before .before .before .before .before .before .before .before .args in let d = fileAs (a .id) (a .node) (a .words .now) (c .before .before .before .before .status-in .result) in let p = file-plain (a .id) (a .node) (a .words .now) (c .before .before .before .before .status-in .result) in let room = c .before .before .before .before .before .room-4098 .result in let fits = replied-fits (a .node) d room p (c .before .before .file-words .ensures) (c .answer-words .ensures) in fits
+slice-reshare-prefix-store16 : tie.Need-slice-reshare-prefix-store16
+slice-reshare-prefix-store16 c = let a = c .before .before .before .before .before .before .before .before .before .args in let d = fileAs (a .id) (a .node) (a .words .now) (c .before .before .before .before .before .status-in .result) in let p = file-plain (a .id) (a .node) (a .words .now) (c .before .before .before .before .before .status-in .result) in let fits = replied-fits (a .node) d (a .room .now) p (c .before .before .before .file-words .ensures) (c .answer-words .ensures) in fits
 
 slice-aggregate-store16 : tie.Need-slice-aggregate-store16
-slice-aggregate-store16 c = let a = c .before .before .before .before .before .before .before .before .before .args in let d = fileAs (a .id) (a .node) (a .words .now) (c .before .before .before .before .before .status-in .result) in let p = file-plain (a .id) (a .node) (a .words .now) (c .before .before .before .before .before .status-in .result) in let room = c .before .before .before .before .before .before .room-4098 .result in let fits = replied-fits (a .node) d room p (c .before .before .before .file-words .ensures) (c .before .answer-words .ensures) in sym (length-take-le _ _ fits)
+slice-aggregate-store16 c = let a = c .before .before .before .before .before .before .before .before .before .before .args in let d = fileAs (a .id) (a .node) (a .words .now) (c .before .before .before .before .before .before .status-in .result) in let p = file-plain (a .id) (a .node) (a .words .now) (c .before .before .before .before .before .before .status-in .result) in let fits = replied-fits (a .node) d (a .room .now) p (c .before .before .before .before .file-words .ensures) (c .before .answer-words .ensures) in sym (length-take-le _ _ fits)
 
 store16-requires : tie.Need-store16-requires
-store16-requires c κs = let a = c .before .before .before .before .before .before .before .before .before .before .args in let d = fileAs (a .id) (a .node) (a .words .now) (c .before .before .before .before .before .before .status-in .result) in let p = file-plain (a .id) (a .node) (a .words .now) (c .before .before .before .before .before .before .status-in .result) in let room = c .before .before .before .before .before .before .before .room-4098 .result in let fits = replied-fits (a .node) d room p (c .before .before .before .before .file-words .ensures) (c .before .before .answer-words .ensures) in let k = c .before .before .answer-words .result in let w = c .before .before .before .before .file-words .last .1 .1 .1 .1 .0 in let e : length (take k w) ≡ k = length-take-le k w fits in omega (arith, e, fits, c .before .before .before .before .file-words .kept .1 .1 .1 .1 .0, c .before .before .before .before .before .before .before .room-4098 .ensures, c .before .before .before .before .before .before .before .before .before .before .pre .1)
+store16-requires c κs = let a = c .before .before .before .before .before .before .before .before .before .before .before .args in let d = fileAs (a .id) (a .node) (a .words .now) (c .before .before .before .before .before .before .before .status-in .result) in let p = file-plain (a .id) (a .node) (a .words .now) (c .before .before .before .before .before .before .before .status-in .result) in let fits = replied-fits (a .node) d (a .room .now) p (c .before .before .before .before .before .file-words .ensures) (c .before .before .answer-words .ensures) in let k = c .before .before .answer-words .result in let w = c .before .before .before .before .before .file-words .last .1 .1 .1 .1 .0 in let e : length (take k w) ≡ k = length-take-le k w fits in omega (arith, e, fits, c .before .before .before .before .before .file-words .kept .1 .1 .1 .1 .0, c .before .before .before .before .before .before .before .before .before .before .before .pre .1 .1, c .before .before .before .before .before .before .before .before .before .before .before .pre .1 .2)
 
 same-length : tie.Need-same-length
 same-length c = search needs
 
+same-length-2 : tie.Need-same-length-2
+same-length-2 c = search needs
+
 returns : tie.Need-returns
-returns c = let a = c .before .before .before .before .before .before .before .before .before .before .before .before .before .args in let d = fileAs (a .id) (a .node) (a .words .now) (c .before .before .before .before .before .before .before .before .before .status-in .result) in let p = file-plain (a .id) (a .node) (a .words .now) (c .before .before .before .before .before .before .before .before .before .status-in .result) in let room = c .before .before .before .before .before .before .before .before .before .before .room-4098 .result in let fits = replied-fits (a .node) d room p (c .before .before .before .before .before .before .before .file-words .ensures) (c .before .before .before .before .before .answer-words .ensures) in quiet-is (a .node) (a .reply .now) (replied-quiet (a .node) d room (a .reply .now) p (c .before .before .before .before .before .before .before .file-words .ensures) (c .before .before .before .before .before .answer-words .ensures) (omega (arith, c .before .before .before .before .before .before .before .file-words .kept .1 .1 .1 .1 .0, c .before .before .before .before .before .before .before .before .before .before .room-4098 .ensures)) (c .before .before .store16 .ensures)) (ap (fileAs (a .id) (a .node) (a .words .now)) (c .before .before .before .before .before .before .before .before .before .status-in .ensures))
+returns c = let a = c .before .before .before .before .before .before .before .before .before .before .before .before .before .before .args in let d = fileAs (a .id) (a .node) (a .words .now) (c .before .before .before .before .before .before .before .before .before .before .status-in .result) in let p = file-plain (a .id) (a .node) (a .words .now) (c .before .before .before .before .before .before .before .before .before .before .status-in .result) in let fits = replied-fits (a .node) d (a .room .now) p (c .before .before .before .before .before .before .before .before .file-words .ensures) (c .before .before .before .before .before .answer-words .ensures) in quiet-is (a .node) (a .reply .now) (replied-quiet (a .node) d (a .room .now) (a .reply .now) p (c .before .before .before .before .before .before .before .before .file-words .ensures) (c .before .before .before .before .before .answer-words .ensures) (omega (arith, c .before .before .before .before .before .before .before .before .file-words .kept .1 .1 .1 .1 .0, c .before .before .before .before .before .before .before .before .before .before .before .before .before .before .pre .1 .1)) (c .before .before .store16 .ensures)) (ap (fileAs (a .id) (a .node) (a .words .now)) (c .before .before .before .before .before .before .before .before .before .before .status-in .ensures))
 
 pub serve-spec : {M : Type 1} → statement M
 serve-spec =
     tie.close
     (tie.spec
-    room-4098-requires
     status-in-requires
-    slice-aggregate-file-words
     file-words-requires
     answer-words-requires
-    array-share-prefix-room
+    slice-reshare-prefix-store16
     slice-aggregate-store16
     store16-requires
     same-length
+    same-length-2
     returns)

@@ -30,16 +30,16 @@ slice-aggregate-load16 : tie.Need-slice-aggregate-load16
 slice-aggregate-load16 c = search needs
 
 load16-requires : tie.Need-load16-requires
-load16-requires c κs = omega (arith, c .before .before .before .before .before .before .pre .2, c .before .room-8192 .ensures)
+load16-requires c κs = omega (arith, c .before .before .before .before .before .before .pre .1, c .before .room-8192 .ensures)
 
 sub-write-words : tie.Need-sub-write-words
-sub-write-words c = omega (arith, c .before .before .before .before .before .before .before .before .before .pre .1, c .before .before .load16 .ensures .count)
+sub-write-words c = omega (arith, c .before .before .before .before .before .before .before .before .before .pre .0, c .before .before .load16 .ensures .count)
 
 part-write-words-start : tie.Need-part-write-words-start
-part-write-words-start c = omega (arith, c .before .before .before .before .before .before .before .before .before .before .pre .1, c .before .before .before .load16 .ensures .count)
+part-write-words-start c = omega (arith, c .before .before .before .before .before .before .before .before .before .before .pre .0, c .before .before .before .load16 .ensures .count)
 
 part-write-words-end : tie.Need-part-write-words-end
-part-write-words-end c = let h = loaded-count (c .before .before .before .load16 .ensures) in omega (arith, h, c .before .before .before .before .before .before .before .before .before .before .pre .2, c .before .before .before .load16 .ensures .count)
+part-write-words-end c = let h = loaded-count (c .before .before .before .load16 .ensures) in omega (arith, h, c .before .before .before .before .before .before .before .before .before .before .pre .1, c .before .before .before .load16 .ensures .count)
 
 write-words-requires : tie.Need-write-words-requires
 write-words-requires c κs = search needs
@@ -51,7 +51,7 @@ returns-2 : tie.Need-returns-2
 unfolding fileWriteOf
 returns-2 c = let a = c .before .before .before .before .before .before .before .before .before .before .before .before .before .before .args in
     let f = wordsOf 2 (a .flash .now) in
-    let file = file-in (c .before .before .before .before .before .before .before .load16 .result) _ _ (omega (arith, c .before .before .before .before .before .before .before .before .before .before .before .before .before .before .pre .1, c .before .before .before .before .before .before .before .load16 .ensures .count)) (loaded-front (c .before .before .before .before .before .before .before .load16 .ensures)) in
+    let file = file-in (c .before .before .before .before .before .before .before .load16 .result) _ _ (omega (arith, c .before .before .before .before .before .before .before .before .before .before .before .before .before .before .pre .0, c .before .before .before .before .before .before .before .load16 .ensures .count)) (loaded-front (c .before .before .before .before .before .before .before .load16 .ensures)) in
     alters-as (a .node) (a .flash .now) (c .before .before .write-words .ensures)
     (ap (λ (w : List ℕ). writeAt w (placedFor (a .node) f w)) file ∙ no _ (sym (c .before .before .before .before .before .before .before .before .before .before .before .is-erasing .ensures) ∙ c .before .before .before .before .before .before .before .before .before .before .if1 .left) refl)
 

@@ -36,7 +36,7 @@ store-in-requires : tie.Need-store-in-requires
 store-in-requires c κs = search needs
 
 first-in-requires : tie.Need-first-in-requires
-first-in-requires c κs = omega (arith, (c .before .before .before .before .before .before .before .before .before .before .pre), c .before .before .before .store-in .kept .0)
+first-in-requires c κs = search needs
 
 end-as-requires : tie.Need-end-as-requires
 end-as-requires c κs = search needs
@@ -53,7 +53,7 @@ same-length c = search needs
 returns-3 : tie.Need-returns-3
 returns-3 c = let a = c .before .before .before .before .before .before .before .before .before .before .before .before .args in
     let h = c .before .before .before .before .before .before .before .before .before .setting .given .0 .0 in
-    alters-stored (a .node) (a .flash .now) (Change.Headed (a .sector) (a .end) h) (a .sector) (h ∷ []) (Status.Good (a .end)) (c .before .before .before .before .before .before .before .before .before .before .before .before .pre) (λ i. omega (arith, c .before .before .before .before .before .before .before .before .before .before .before .slice-known .given i)) (below-one h (omega (arith, c .before .before .before .before .before .before .before .before .known-told .given)))
+    alters-stored (a .node) (a .flash .now) (Change.Headed (a .sector) (a .end) h) (a .sector) (h ∷ []) (Status.Good (a .end)) (λ i. omega (arith, c .before .before .before .before .before .before .before .before .before .before .before .slice-known .given i)) (below-one h (omega (arith, c .before .before .before .before .before .before .before .before .known-told .given)))
     refl refl refl (via (setTo (a .sector) (a .end)) (c .before .before .before .before .before .before .before .before .before .setting .given .1) refl) (c .before .before .before .before .before .store-in .ensures) (c .before .first-in .ensures) (c .end-as .ensures)
 
 pub set-to-spec : {M : Type 1} → statement M

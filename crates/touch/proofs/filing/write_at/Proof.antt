@@ -26,7 +26,7 @@ store-in-requires : tie.Need-store-in-requires
 store-in-requires c κs = search needs
 
 first-in-requires : tie.Need-first-in-requires
-first-in-requires c κs = omega (arith, (c .before .before .before .before .before .before .before .before .before .before .pre), c .before .before .before .store-in .kept .0)
+first-in-requires c κs = search needs
 
 end-as-requires : tie.Need-end-as-requires
 end-as-requires c κs = search needs
@@ -40,7 +40,7 @@ same-length c = search needs
 returns-2 : tie.Need-returns-2
 returns-2 c = let a = c .before .before .before .before .before .before .before .before .before .before .before .before .args in
     let s = c .before .before .before .before .before .before .before .before .found .given .0 .0 in
-    alters-stored (a .node) (a .flash .now) (Change.Wrote s (a .file .now)) s (a .file .now) (Status.Good (length (a .file .now))) (c .before .before .before .before .before .before .before .before .before .before .before .before .pre) (λ i. omega (arith, c .before .before .before .before .before .before .before .before .before .before .before .slice-known .given i)) (λ i. omega (arith, c .before .before .before .before .before .before .before .before .before .before .shared-slice-known .given i))
+    alters-stored (a .node) (a .flash .now) (Change.Wrote s (a .file .now)) s (a .file .now) (Status.Good (length (a .file .now))) (λ i. omega (arith, c .before .before .before .before .before .before .before .before .before .before .before .slice-known .given i)) (λ i. omega (arith, c .before .before .before .before .before .before .before .before .before .before .shared-slice-known .given i))
     refl refl refl (via (writeAt (a .file .now)) (c .before .before .before .before .before .before .before .before .found .given .1) refl) (c .before .before .before .before .before .store-in .ensures) (c .before .first-in .ensures) (c .end-as .ensures)
 
 pub write-at-spec : {M : Type 1} → statement M

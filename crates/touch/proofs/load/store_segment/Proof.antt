@@ -1,17 +1,18 @@
 -- `touch::load::store_segment` meets its contract, memory by memory. Assumes nothing.
-use Prim.Native.Nat.{ℕ, _/_}
+use Prim.Native.Nat.{ℕ, _-_, _/_}
 use mathlib.Core.Path.{_≡_, sym, ap, _∙_}
 use mathlib.Core.Bool.{true}
 use mathlib.Core.List.{List}
 use native.Mathlib.Omega.{arith}
 use lib.ListN.{length}
-use Rattle.image.specs.Segment.{memoryOf}
+use Rattle.image.specs.Segment.{memoryOf, lengthOf, pageOf, addressOf}
 use Rattle.image.specs.declared.Memory.{Memory}
-use Rattle.memory.specs.Segment.{firstOf, fitsIn, Memories, memories}
+use Rattle.memory.specs.Segment.{firstOf, secondOf, fitsIn, Memories, memories}
 use Rattle.memory.proofs.Segment.{exact-tells, fits-by, stored-by}
 use Rattle.codec.specs.Bytes.{wordsOf}
 use Rattle.touch.specs.InBytes.{memoryWords}
 use Rattle.touch.proofs.Held.{rest-none}
+use Rattle.touch.proofs.RunSizes.{run-most}
 use borrow.Author.Needs.{needs}
 use Rattle.touch.proofs.load.store_segment.Statement.{statement}
 use Rattle.touch.proofs.load.store_segment.Tie as tie
@@ -33,7 +34,11 @@ enum-told : tie.Need-enum-told
 enum-told c = search needs
 
 store-pm-requires : tie.Need-store-pm-requires
-store-pm-requires c κs = let m = sym (c .before .before .before .before .memory-of .ensures) ∙ c .before .before .enum-told .given .1 in (c .before .before .before .before .before .before .before .before .before .before .before .pre .0, (m, (fits (c .before .before .before .before .before .before .before .before .before .before .before) Memory.Pm m, c .before .before .before .before .before .before .before .before .before .before .before .pre .1 .1)))
+store-pm-requires c κs =
+    let s = c .before .before .before .before .before .before .before .before .before .before .before in
+    let m = sym (c .before .before .before .before .memory-of .ensures) ∙ c .before .before .enum-told .given .1 in
+    let run = fits s Memory.Pm m in
+    (s .pre .0, (m, (run, omega (arith, run-most (length (s .args .pm .now) / 4) (pageOf (secondOf (s .args .segment .now))) (addressOf (secondOf (s .args .segment .now))) (lengthOf (firstOf (s .args .segment .now)) - 1) run, s .pre .1 .1))))
 
 enum-told-2 : tie.Need-enum-told-2
 enum-told-2 c = search needs

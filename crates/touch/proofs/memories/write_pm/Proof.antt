@@ -2,10 +2,12 @@
 use Prim.Native.Nat.{ℕ, _/_}
 use mathlib.Core.Path.{_≡_, sym, ap, _∙_}
 use mathlib.Core.Bool.{Bool, true}
+use native.Mathlib.Omega.{arith}
 use lib.ListN.{length}
 use Rattle.image.specs.declared.Memory.{Memory}
 use Rattle.memory.specs.Command.{writable}
 use Rattle.memory.proofs.Command.{writable-tells, write-done, write-abort}
+use Rattle.memory.proofs.Segment.{exact-tells, size-packed}
 use Rattle.codec.specs.Bytes.{wordsOf}
 use Rattle.codec.proofs.Runs.{length-words-of}
 use Rattle.touch.proofs.Held.{rest-none}
@@ -23,7 +25,7 @@ can-write-requires c κs = search needs
 store-pm-requires : tie.Need-store-pm-requires
 store-pm-requires c κs = let a = c .before .before .before .before .before .before .before .args in
     let x = writable-tells Memory.Pm (length (a .pm .now) / 4) (a .segment .now) (sym (c .before .before .before .can-write .ensures) ∙ c .before .before .if1 .taken) in
-    (x .one, (x .own, (x .run, c .before .before .before .before .before .before .before .pre)))
+    (x .one, (x .own, (x .run, omega (arith, size-packed (a .segment .now) (exact-tells (a .segment .now) (x .one)) (x .own), c .before .before .before .before .before .before .before .pre))))
 
 same-length : tie.Need-same-length
 same-length c = search needs

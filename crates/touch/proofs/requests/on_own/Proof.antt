@@ -86,7 +86,7 @@ returns-3 c = λ x beside. let a = c .before .before .before .before .before .be
     filing-request (a .node) (a .clock) (a .link) (a .bc) (a .errors) (a .packet .now) (given (c .before .before .before .before .before .before .before .before .before .before .before .before .before .before .before) x) (lends (c .before .before .before .before .before .before .before .before .before) x beside) (c .before .before .before .before .before .before .before .before .before .before .before .before .before .before .before .pre .1 .0 x beside) (a .id) (c .before .before .before .before .before .before .before .before .before .before .before .before .before .before .before .pre .1 .1 .0) (c .before .before .before .before .if3 .taken) (c .before .before .on-filing .ensures)
 
 on-load-requires : tie.Need-on-load-requires
-on-load-requires c κs = c .before .before .before .before .before .before .before .before .before .before .before .before .before .before .before .before .pre .0 .0
+on-load-requires c κs = (c .before .before .before .before .before .before .before .before .before .before .before .before .before .before .before .before .pre .0 .0, c .before .before .before .before .before .before .before .before .before .before .before .before .before .before .before .before .pre .0 .2)
 
 same-length-5 : tie.Need-same-length-5
 same-length-5 c = search needs

@@ -121,7 +121,7 @@ enum-known-route-2 : tie.Need-enum-known-route-2
 enum-known-route-2 c = search needs
 
 on-last-requires : tie.Need-on-last-requires
-on-last-requires c κs = let f = lasts (c .before .before .before .before .before) (c .before .before .before .route2 .given .1) in (f .0, c .before .before .before .before .before .before .before .before .before .before .before .before .before .before .before .before .pre .0 .5, c .before .before .before .before .before .before .before .before .before .before .before .before .before .before .before .before .pre .0 .0)
+on-last-requires c κs = let f = lasts (c .before .before .before .before .before) (c .before .before .before .route2 .given .1) in (f .0, c .before .before .before .before .before .before .before .before .before .before .before .before .before .before .before .before .pre .0 .5)
 
 enum-told-6 : tie.Need-enum-told-6
 enum-told-6 c = search needs

@@ -4,9 +4,8 @@ use mathlib.Core.Path.{ap, _∙_}
 use native.Mathlib.Omega.{arith}
 use lib.ListN.{length}
 use Rattle.base.specs.Words.{laid}
-use Rattle.flash.proofs.Geometry.{sector-fits}
 use Rattle.codec.specs.Bytes.{bytesOf}
-use Rattle.touch.proofs.InSector.{lent-bytes, stored-out, stored-in}
+use Rattle.touch.proofs.InSector.{sector-within, lent-bytes, stored-out, stored-in}
 use borrow.Author.Needs.{needs}
 use Rattle.touch.proofs.sectors.store_in.Statement.{statement}
 use Rattle.touch.proofs.sectors.store_in.Tie as tie
@@ -15,19 +14,19 @@ sector-size-requires : tie.Need-sector-size-requires
 sector-size-requires c κs = search needs
 
 returns : tie.Need-returns
-returns c = stored-out (c .before .before .before .before .args .flash .now) (c .before .before .before .before .pre) (λ i. omega (arith, c .before .before .before .slice-known .given i)) (c .before .before .before .before .args .sector) (c .before .before .before .before .args .file .now) (omega (arith, c .before .sector-size .ensures, c .if1 .taken))
+returns c = stored-out (c .before .before .before .before .args .flash .now) (λ i. omega (arith, c .before .before .before .slice-known .given i)) (c .before .before .before .before .args .sector) (c .before .before .before .before .args .file .now) (omega (arith, c .before .sector-size .ensures, c .if1 .taken))
 
 sector-start-requires : tie.Need-sector-start-requires
 sector-start-requires c κs = search needs
 
 mul-from : tie.Need-mul-from
-mul-from c = omega (arith, sector-fits 2048 (c .before .before .before .before .before .args .sector), c .sector-start .ensures, c .before .before .sector-size .ensures, c .before .if1 .left)
+mul-from c = omega (arith, sector-within (c .before .before .before .before .before .args .flash .now) (c .before .before .before .before .before .args .sector), c .sector-start .ensures, c .before .before .sector-size .ensures, c .before .if1 .left)
 
 mul-to : tie.Need-mul-to
-mul-to c = omega (arith, sector-fits 2048 (c .before .before .before .before .before .args .sector), c .sector-start .ensures, c .before .before .sector-size .ensures, c .before .if1 .left)
+mul-to c = omega (arith, sector-within (c .before .before .before .before .before .args .flash .now) (c .before .before .before .before .before .args .sector), c .sector-start .ensures, c .before .before .sector-size .ensures, c .before .if1 .left)
 
 add-to : tie.Need-add-to
-add-to c = omega (arith, sector-fits 2048 (c .before .before .before .before .before .args .sector), c .sector-start .ensures, c .before .before .sector-size .ensures, c .before .if1 .left)
+add-to c = omega (arith, sector-within (c .before .before .before .before .before .args .flash .now) (c .before .before .before .before .before .args .sector), c .sector-start .ensures, c .before .before .sector-size .ensures, c .before .if1 .left)
 
 sub-store16 : tie.Need-sub-store16
 sub-store16 c = search needs
@@ -36,7 +35,7 @@ part-store16-start : tie.Need-part-store16-start
 part-store16-start c = search needs
 
 part-store16-end : tie.Need-part-store16-end
-part-store16-end c = omega (arith, sector-fits 2048 (c .before .before .before .before .before .args .sector), c .sector-start .ensures, c .before .before .sector-size .ensures, c .before .if1 .left, (c .before .before .before .before .before .pre))
+part-store16-end c = omega (arith, sector-within (c .before .before .before .before .before .args .flash .now) (c .before .before .before .before .before .args .sector), c .sector-start .ensures, c .before .before .sector-size .ensures, c .before .if1 .left)
 
 store16-requires : tie.Need-store16-requires
 store16-requires c κs = search needs
@@ -50,8 +49,8 @@ returns-2 c = let f = c .before .before .before .before .before .before .before 
     let s = c .before .before .before .before .sector-start in
     let from = s .result * 2 in
     let to = from + length file * 2 in
-    stored-in f (c .before .before .before .before .before .before .before .before .before .pre) (λ i. omega (arith, c .before .before .before .before .before .before .before .before .slice-known .given i)) (c .before .before .before .before .before .before .before .before .before .args .sector) file (omega (arith, c .before .before .before .before .before .before .sector-size .ensures, c .before .before .before .before .before .if1 .left))
-    (lent-bytes f from to file (omega arith) (omega arith) (omega (arith, sector-fits 2048 (c .before .before .before .before .before .before .before .before .before .args .sector), c .before .before .before .before .sector-start .ensures, c .before .before .before .before .before .before .sector-size .ensures, c .before .before .before .before .before .if1 .left, (c .before .before .before .before .before .before .before .before .before .pre))) (c .before .before .store16 .ensures)
+    stored-in f (λ i. omega (arith, c .before .before .before .before .before .before .before .before .slice-known .given i)) (c .before .before .before .before .before .before .before .before .before .args .sector) file (omega (arith, c .before .before .before .before .before .before .sector-size .ensures, c .before .before .before .before .before .if1 .left))
+    (lent-bytes f from to file (omega arith) (omega arith) (omega (arith, sector-within (c .before .before .before .before .before .before .before .before .before .args .flash .now) (c .before .before .before .before .before .before .before .before .before .args .sector), c .before .before .before .before .sector-start .ensures, c .before .before .before .before .before .before .sector-size .ensures, c .before .before .before .before .before .if1 .left)) (c .before .before .store16 .ensures)
     ∙ ap (λ (k : ℕ). laid f (k * 2) (bytesOf 2 file)) (s .ensures))
 
 pub store-in-spec : {M : Type 1} → statement M
