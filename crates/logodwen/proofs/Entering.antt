@@ -1,7 +1,8 @@
 -- An entry that is refused, and one that is taken; and what it tells that no cause of a refusal holds. Assumes nothing.
-use Prim.Native.Nat.{ℕ, _≤_}
+use Prim.Native.Nat.{ℕ, _/_, _≤_}
 use native.Mathlib.Omega.{arith}
 use mathlib.Core.Path.{_≡_, refl, sym, ap, _∙_}
+use mathlib.Core.Logic.{_⊎_, inl, inr, ⊎-elim}
 use mathlib.Core.Bool.{Bool, true, false, _&&_, _||_, not, false≢true}
 use mathlib.Core.List.{List}
 use lib.ListN.{length}
@@ -23,7 +24,7 @@ use Rattle.codec.specs.StateBytes.{encodeOf, nodeIn, alike, areState}
 use Rattle.series.specs.Requests.{Row, rowed}
 use Rattle.series.specs.declared.Rowed.{Rowed}
 use Rattle.logodwen.specs.Number.{fields, answerNumber}
-use Rattle.logodwen.specs.Causes.{isBench, keptOk, recordsOk, linkOk, requestCheck, replyCheck, pollCheck, eraseCheck, slowCheck}
+use Rattle.logodwen.specs.Causes.{bytesOk, lentOk, keptOk, recordsOk, linkOk, requestCheck, replyCheck, pollCheck, eraseCheck, slowCheck}
 use Rattle.codec.proofs.Small.{one-of}
 use Rattle.touch.specs.InBytes.{inBytes}
 use Rattle.logodwen.specs.Entry.{answered, told, entered, listed}
@@ -50,11 +51,28 @@ fine-then : (t : Bool) (r : Refusal) (v : Verdict) → pick t (Verdict.No r) v �
 fine-then true r v e = let z : _≡_ {A = ℕ} 0 1 = cc in absurd (omega arith)
 fine-then false r v e = (refl, e)
 
-bench-size : (state : List ℕ) (flash : ℕ) → (not (eqb flash 32768) || not (keptOk state flash)) ≡ false → flash ≡ 32768
-bench-size state flash h = eqb-true flash 32768 (not-false (eqb flash 32768) (or-neither (not (eqb flash 32768)) (not (keptOk state flash)) h .0))
+-- a flash that is not refused has one of the two counts of bytes, and so one of the two sizes in words
+either-of : (t : Bool) (bytes a b : ℕ) → eqb bytes a ≡ t → (t || eqb bytes b) ≡ true → (bytes ≡ a) ⊎ (bytes ≡ b)
+either-of true bytes a b e h = inl (eqb-true bytes a e)
+either-of false bytes a b e h = inr (eqb-true bytes b h)
+
+pub bytes-tell : (bytes : ℕ) → bytesOk bytes ≡ true → (bytes ≡ 65536) ⊎ (bytes ≡ 524288)
+bytes-tell bytes h = either-of (eqb bytes 65536) bytes 65536 524288 refl h
+
+pub bytes-most : (bytes : ℕ) → bytesOk bytes ≡ true → bytes / 2 ≤ 262144
+bytes-most bytes h = ⊎-elim (λ e. omega (arith, e)) (λ e. omega (arith, e)) (bytes-tell bytes h)
+
+pub bytes-least : (bytes : ℕ) → bytesOk bytes ≡ true → 32 ≤ bytes
+bytes-least bytes h = ⊎-elim (λ e. omega (arith, e)) (λ e. omega (arith, e)) (bytes-tell bytes h)
+
+pub bytes-size : (bytes : ℕ) → bytesOk bytes ≡ true → sizeOk (bytes / 2) ≡ true
+bytes-size bytes h = ⊎-elim (λ e. ap (λ (n : ℕ). sizeOk (n / 2)) e) (λ e. ap (λ (n : ℕ). sizeOk (n / 2)) e) (bytes-tell bytes h)
+
+size-ok : (state : List ℕ) (bytes : ℕ) → (not (bytesOk bytes) || not (keptOk state (bytes / 2))) ≡ false → bytesOk bytes ≡ true
+size-ok state bytes h = not-false (bytesOk bytes) (or-neither (not (bytesOk bytes)) (not (keptOk state (bytes / 2))) h .0)
 
 pub record RequestFine (state : List ℕ) (flash pm dm io area records reply : ℕ) : Type 0 where
-  pub bench : flash ≡ 32768
+  pub sized : bytesOk flash ≡ true
   pub buffer : 12288 ≤ reply
   pub pm-short : pm ≤ 8192
   pub dm-short : dm ≤ 8192
@@ -68,7 +86,7 @@ pub request-fine : (link packet : ℕ) (state : List ℕ) (flash pm dm io area r
     → RequestFine state flash pm dm io area records reply
 unfolding requestCheck
 request-fine link packet state flash pm dm io area records reply h =
-    let a = fine-then (not (eqb flash 32768) || not (keptOk state flash)) _ _ h in
+    let a = fine-then (not (bytesOk flash) || not (keptOk state (flash / 2))) _ _ h in
     let b = fine-then (ltb reply 12288) _ _ (a .1) in
     let c = fine-then (ltb 8192 pm || ltb 8192 dm || ltb 4096 io) _ _ (b .1) in
     let d = fine-then (ltb area 32768) _ _ (c .1) in
@@ -79,7 +97,7 @@ request-fine link packet state flash pm dm io area records reply h =
     let m = or-neither (ltb 8192 pm || ltb 8192 dm) (ltb 4096 io) (c .0) in
     let k = or-neither (ltb 8192 pm) (ltb 8192 dm) (m .0) in
     record {
-      bench = bench-size state flash (a .0);
+      sized = size-ok state flash (a .0);
       buffer = ltb-false reply 12288 (b .0);
       pm-short = ltb-false 8192 pm (k .0);
       dm-short = ltb-false 8192 dm (k .1);
@@ -115,12 +133,12 @@ poll-fine state reply h =
     let b = fine-then (not (areState state)) _ _ (a .1) in
     (ltb-false reply 12288 (a .0), not-false (areState state) (b .0))
 
-pub erase-fine : (state : List ℕ) (flash : ℕ) → eraseCheck state flash ≡ Verdict.Fine → (flash ≡ 32768) × (areState state ≡ true)
+pub erase-fine : (state : List ℕ) (flash : ℕ) → eraseCheck state flash ≡ Verdict.Fine → (bytesOk flash ≡ true) × (areState state ≡ true)
 unfolding eraseCheck
 erase-fine state flash h =
-    let a = fine-then (not (eqb flash 32768) || not (keptOk state flash)) _ _ h in
+    let a = fine-then (not (bytesOk flash) || not (keptOk state (flash / 2))) _ _ h in
     let b = fine-then (not (areState state)) _ _ (a .1) in
-    (bench-size state flash (a .0), not-false (areState state) (b .0))
+    (size-ok state flash (a .0), not-false (areState state) (b .0))
 
 pub slow-fine : (state : List ℕ) (records : ℕ) → slowCheck state records ≡ Verdict.Fine → areState state ≡ true
 unfolding slowCheck
@@ -139,14 +157,18 @@ start-small kind ports subdetector h =
     let k : kindOk kind ≡ true = not-false (kindOk kind) (b .1) in
     (one-of kind 1 2 2 (omega arith) (omega arith) k, leb-true ports 4 (and-right (leb 1 ports) (leb ports 4) p), ltb-false 7 subdetector (a .1))
 
-pub start-done : (kind ports subdetector program version tests clock : ℕ) (flash : List ℕ) → length flash ≡ 32768
+pub start-fine : (kind ports subdetector words : ℕ) → sizeOk words ≡ true → (not (portsOk ports) || not (kindOk kind) || ltb 7 subdetector) ≡ false
+    → startVerdict kind ports subdetector words ≡ Verdict.Fine
+unfolding startVerdict
+start-fine kind ports subdetector words size h = sym (no _ (ap not size) (no _ h refl))
+
+pub start-done : (kind ports subdetector program version tests clock : ℕ) (flash : List ℕ) → sizeOk (length flash) ≡ true
     → (not (portsOk ports) || not (kindOk kind) || ltb 7 subdetector) ≡ false
     → startOf kind ports subdetector program version tests clock flash .answer ≡ Answer.Started
-unfolding startOf startVerdict
+unfolding startOf
 start-done kind ports subdetector program version tests clock flash size h =
-    let sized : not (sizeOk (length flash)) ≡ false = ap (λ (n : ℕ). not (sizeOk n)) size in
-    let fine : Verdict.Fine ≡ startVerdict kind ports subdetector (length flash) = no _ sized (no _ h refl) in
-    ap (λ (v : Verdict). startBy v (given kind ports subdetector program version tests clock (length flash)) flash .answer) (sym fine)
+    ap (λ (v : Verdict). startBy v (given kind ports subdetector program version tests clock (length flash)) flash .answer)
+    (start-fine kind ports subdetector (length flash) size h)
 
 -- a list of requests
 
@@ -158,10 +180,10 @@ pub one-fails : (t u : Bool) → (not t || not u) ≡ true → (t && u) ≡ fals
 one-fails true u e = not-true u e
 one-fails false u e = refl
 
-pub bench-tells : (flash pm dm : ℕ) → isBench flash pm dm ≡ true → (flash ≡ 32768) × (pm ≤ 8192) × (dm ≤ 8192)
-bench-tells flash pm dm h =
-    let a = and-left (eqb flash 32768 && leb pm 8192) (leb dm 8192) h in
-    (eqb-true flash 32768 (and-left (eqb flash 32768) (leb pm 8192) a), leb-true pm 8192 (and-right (eqb flash 32768) (leb pm 8192) a), leb-true dm 8192 (and-right (eqb flash 32768 && leb pm 8192) (leb dm 8192) h))
+pub lent-tells : (bytes pm dm : ℕ) → lentOk bytes pm dm ≡ true → (bytesOk bytes ≡ true) × (pm ≤ 8192) × (dm ≤ 8192)
+lent-tells bytes pm dm h =
+    let a = and-left (bytesOk bytes && leb pm 8192) (leb dm 8192) h in
+    (and-left (bytesOk bytes) (leb pm 8192) a, leb-true pm 8192 (and-right (bytesOk bytes) (leb pm 8192) a), leb-true dm 8192 (and-right (bytesOk bytes && leb pm 8192) (leb dm 8192) h))
 
 pub listed-all : (r : Row) {all : Rowed} {l : Lent} {number : ℕ} {after : List ℕ} → rowed all l ≡ r → number ≡ fields 0 0 0 (all .done) → after ≡ encodeOf (all .node)
     → answered number after l ≡ listed r

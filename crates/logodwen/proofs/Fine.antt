@@ -1,13 +1,13 @@
 -- An entry that is not refused makes a call that is not refused: where the lent bytes pass the border's causes, the state that they stand
 -- for and the lengths pass the node's. Assumes nothing.
-use Prim.Native.Nat.{ℕ, _≤_}
+use Prim.Native.Nat.{ℕ, _/_, _≤_}
 use native.Mathlib.Omega.{arith}
 use mathlib.Core.Path.{_≡_, refl, sym, ap, _∙_}
 use mathlib.Core.Bool.{Bool, true, false, _&&_, _||_, not}
 use mathlib.Core.List.{List, [], _∷_}
 use lib.ListN.{length}
 use lib.Dec.{ltb, leb, eqb}
-use borrow.Author.Tests.{ltb-true, ltb-false, leb-true, le-ltb, lt-leb, eqb-true, eq-eqb, not-false}
+use borrow.Author.Tests.{ltb-true, ltb-false, leb-true, le-ltb, lt-leb, eq-eqb, not-false}
 use Rattle.base.specs.Pick.{pick}
 use Rattle.base.proofs.Pick.{and-right}
 use Rattle.node.specs.Valid.{sizeOk, stateOk}
@@ -16,8 +16,8 @@ use Rattle.node.specs.declared.Verdict.{Verdict}
 use Rattle.node.proofs.Verdicts.{fine-tells, or-neither}
 use Rattle.touch.proofs.Beside.{none-refuses, list-no}
 use Rattle.codec.specs.StateBytes.{sizeIn, portsIn, listedIn, encodeOf, nodeIn, alike, areState}
-use Rattle.logodwen.specs.Causes.{keptOk, recordsOk, linkOk, benchCause, memoriesCause, lengthCause, recordsCause, portCause, bytesCause, requestCheck, replyCheck, pollCheck, eraseCheck, slowCheck}
-use Rattle.logodwen.proofs.Entering.{state-long}
+use Rattle.logodwen.specs.Causes.{bytesOk, keptOk, recordsOk, linkOk, flashCause as sizeCause, memoriesCause, lengthCause, recordsCause, portCause, bytesCause, requestCheck, replyCheck, pollCheck, eraseCheck, slowCheck}
+use Rattle.logodwen.proofs.Entering.{bytes-size, state-long}
 
 -- bytes that pass refusal 5 stand for a state
 pub state-sound : (state : List ℕ) → areState state ≡ true → stateOk (nodeIn state) ≡ true
@@ -35,15 +35,15 @@ where-long state t h e = sym (ap (λ (b : Bool). pick b t true) (eq-eqb (length 
 pub state-no : (state : List ℕ) → bytesCause state .holds ≡ false → stateCause (nodeIn state) .holds ≡ false
 state-no state h = ap not (state-sound state (not-false (areState state) h))
 
-pub flash-no : (state : List ℕ) (flash : ℕ) → bytesCause state .holds ≡ false → benchCause state flash .holds ≡ false
-    → flashCause (nodeIn state) flash .holds ≡ false
+pub flash-no : (state : List ℕ) (bytes : ℕ) → bytesCause state .holds ≡ false → sizeCause state bytes .holds ≡ false
+    → flashCause (nodeIn state) (bytes / 2) .holds ≡ false
 unfolding nodeIn
-flash-no state flash s h =
-    let both = or-neither (not (eqb flash 32768)) (not (keptOk state flash)) h in
-    let bench : flash ≡ 32768 = eqb-true flash 32768 (not-false (eqb flash 32768) (both .0)) in
-    let kept : eqb flash (sizeIn state) ≡ true =
-    where-long state (eqb flash (sizeIn state)) (not-false (areState state) s) (not-false (keptOk state flash) (both .1)) in
-    (λ i. not (sizeOk (bench i)) || not (eqb flash (sizeIn state))) ∙ ap not kept
+flash-no state bytes s h =
+    let both = or-neither (not (bytesOk bytes)) (not (keptOk state (bytes / 2))) h in
+    let size : sizeOk (bytes / 2) ≡ true = bytes-size bytes (not-false (bytesOk bytes) (both .0)) in
+    let kept : eqb (bytes / 2) (sizeIn state) ≡ true =
+    where-long state (eqb (bytes / 2) (sizeIn state)) (not-false (areState state) s) (not-false (keptOk state (bytes / 2)) (both .1)) in
+    λ i. not (size i) || not (kept i)
 
 pub memory-no : (pm dm io : ℕ) → memoriesCause pm dm io .holds ≡ false → memoryCause pm dm io .holds ≡ false
 memory-no pm dm io h =
@@ -78,18 +78,18 @@ records-no state records s h =
 pub request-verdict : (link packet : ℕ) (state : List ℕ) (flash pm dm io area records reply : ℕ)
     → requestCheck link packet state flash pm dm io area records reply ≡ Verdict.Fine
     → (room list : ℕ) → 32768 ≤ room → list ≤ 910 → nodeIn state .listing .entries ≤ list
-    → requestVerdict (nodeIn state) link packet flash pm dm io room list 12288 ≡ Verdict.Fine
+    → requestVerdict (nodeIn state) link packet (flash / 2) pm dm io room list 12288 ≡ Verdict.Fine
 unfolding requestCheck requestVerdict
 request-verdict link packet state flash pm dm io area records reply h room list long most few =
     let n = nodeIn state in
     let none =
     fine-tells
-    (benchCause state flash ∷ replyCause reply ∷ memoriesCause pm dm io ∷ areaCause area ∷ recordsCause state records ∷ portCause state link
+    (sizeCause state flash ∷ replyCause reply ∷ memoriesCause pm dm io ∷ areaCause area ∷ recordsCause state records ∷ portCause state link
     ∷ bytesCause state ∷ busyCause n packet ∷ [])
     h in
     let s = none .1 .1 .1 .1 .1 .1 .0 in
     none-refuses
-    (flashCause n flash ∷ replyCause 12288 ∷ memoryCause pm dm io ∷ areaCause room ∷ listCause n list ∷ linkCause n link ∷ stateCause n
+    (flashCause n (flash / 2) ∷ replyCause 12288 ∷ memoryCause pm dm io ∷ areaCause room ∷ listCause n list ∷ linkCause n link ∷ stateCause n
     ∷ busyCause n packet ∷ [])
     (flash-no state flash s (none .0), (refl, (memory-no pm dm io (none .1 .1 .0), (le-ltb room 32768 long, (list-no n list most few, (link-no state link s (none .1 .1 .1 .1 .1 .0), (state-no state s, (none .1 .1 .1 .1 .1 .1 .1 .0, tt))))))))
 
@@ -108,13 +108,12 @@ poll-verdict state reply h =
     let none = fine-tells (replyCause reply ∷ bytesCause state ∷ pollCause n ∷ []) h in
     none-refuses (replyCause 12288 ∷ stateCause n ∷ pollCause n ∷ []) (refl, (state-no state (none .1 .0), (none .1 .1 .0, tt)))
 
-pub erase-verdict : (state : List ℕ) (flash : ℕ) → eraseCheck state flash ≡ Verdict.Fine → flash ≡ 32768 → eraseVerdict (nodeIn state) 32768 ≡ Verdict.Fine
+pub erase-verdict : (state : List ℕ) (flash : ℕ) → eraseCheck state flash ≡ Verdict.Fine → eraseVerdict (nodeIn state) (flash / 2) ≡ Verdict.Fine
 unfolding eraseCheck eraseVerdict
-erase-verdict state flash h bench =
+erase-verdict state flash h =
     let n = nodeIn state in
-    let none = fine-tells (benchCause state flash ∷ bytesCause state ∷ []) h in
-    ap (eraseVerdict n) (sym bench)
-    ∙ none-refuses (flashCause n flash ∷ stateCause n ∷ []) (flash-no state flash (none .1 .0) (none .0), (state-no state (none .1 .0), tt))
+    let none = fine-tells (sizeCause state flash ∷ bytesCause state ∷ []) h in
+    none-refuses (flashCause n (flash / 2) ∷ stateCause n ∷ []) (flash-no state flash (none .1 .0) (none .0), (state-no state (none .1 .0), tt))
 
 pub slow-verdict : (state : List ℕ) (records : ℕ) → slowCheck state records ≡ Verdict.Fine → slowVerdict (nodeIn state) records ≡ Verdict.Fine
 unfolding slowCheck slowVerdict

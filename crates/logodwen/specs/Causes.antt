@@ -1,7 +1,8 @@
--- When an entry is refused, and by what: 01 'Call refusals', with the limits that 'Covered' sets at the C border, and 8 and 9 of 02,
--- requests 1 and 7. 1, 9 and 4 read the kept size, the entries listed and the ports off the state bytes as they are, where there are 192.
+-- When an entry is refused, and by what: 01 'Call refusals', with the limits that 'Covered' sets at the C border, 8 and 9 of 02,
+-- requests 1 and 7, and 1 by the count of bytes, request 11. 1, 9 and 4 read the kept size, the entries listed and the ports off the state
+-- bytes as they are, where there are 192.
 -- Assumes nothing.
-use Prim.Native.Nat.{ℕ}
+use Prim.Native.Nat.{ℕ, _/_}
 use mathlib.Core.Bool.{Bool, true, _&&_, _||_, not}
 use mathlib.Core.List.{List, [], _∷_}
 use lib.ListN.{length}
@@ -13,12 +14,16 @@ use Rattle.node.specs.declared.Refusal.{Refusal}
 use Rattle.node.specs.declared.Verdict.{Verdict}
 use Rattle.codec.specs.StateBytes.{sizeIn, portsIn, listedIn, nodeIn, areState}
 
--- 1: the flash isn't bench size, or isn't the size used at start.
+-- A flash is lent as 65,536 bytes, bench size, or 524,288, full size. 02, request 11.
+abbrev pub bytesOk : ℕ → Bool
+bytesOk bytes = eqb bytes 65536 || eqb bytes 524288
+
+-- 1: the flash has another count of bytes, or isn't the size used at start, which the state has in words.
 abbrev pub keptOk : List ℕ → ℕ → Bool
 keptOk state flash = pick (eqb (length state) 192) (eqb flash (sizeIn state)) true
 
-abbrev pub benchCause : List ℕ → ℕ → Cause
-benchCause state flash = cause Refusal.FlashSize (not (eqb flash 32768) || not (keptOk state flash))
+abbrev pub flashCause : List ℕ → ℕ → Cause
+flashCause state bytes = cause Refusal.FlashSize (not (bytesOk bytes) || not (keptOk state (bytes / 2)))
 
 -- 3: PM or DM is above 8,192 words, or IO above 4,096; a slave reply is above 32,768.
 abbrev pub memoriesCause : ℕ → ℕ → ℕ → Cause
@@ -27,10 +32,10 @@ memoriesCause pm dm io = cause Refusal.MemorySize (ltb 8192 pm || ltb 8192 dm ||
 abbrev pub lengthCause : ℕ → Cause
 lengthCause packet = cause Refusal.MemorySize (ltb 32768 packet)
 
--- What is lent is within the limits that 'Covered' sets beside the node's own: the flash is bench size, PM and DM are at most 8,192 words. For a list
--- of requests, to all packets of which the same is lent (02, request 9).
-abbrev pub isBench : ℕ → ℕ → ℕ → Bool
-isBench flash pm dm = eqb flash 32768 && leb pm 8192 && leb dm 8192
+-- What is lent is within the border's limits beside the node's own: the flash has one of the counts of bytes, PM and DM are at most 8,192 words.
+-- For a list of requests, to all packets of which the same is lent (02, request 9).
+abbrev pub lentOk : ℕ → ℕ → ℕ → Bool
+lentOk bytes pm dm = bytesOk bytes && leb pm 8192 && leb dm 8192
 
 -- 9: more than 910 records are lent, or fewer than are listed. 02, request 7.
 abbrev pub recordsOk : List ℕ → ℕ → Bool
@@ -50,12 +55,13 @@ portCause state link = cause Refusal.Number (not (linkOk state link))
 abbrev pub bytesCause : List ℕ → Cause
 bytesCause state = cause Refusal.State (not (areState state))
 
--- The entries, by the numbers they are given, the state bytes, and the lengths of what they are lent: in words, and of the Q-List in records.
+-- The entries, by the numbers they are given, the state bytes, and the lengths of what they are lent: in words, of the flash in bytes, and of
+-- the Q-List in records.
 
 unfoldable pub requestCheck : ℕ → ℕ → List ℕ → ℕ → ℕ → ℕ → ℕ → ℕ → ℕ → ℕ → Verdict
 requestCheck link packet state flash pm dm io area records reply =
     firstOf
-    (benchCause state flash ∷ replyCause reply ∷ memoriesCause pm dm io ∷ areaCause area ∷ recordsCause state records ∷ portCause state link
+    (flashCause state flash ∷ replyCause reply ∷ memoriesCause pm dm io ∷ areaCause area ∷ recordsCause state records ∷ portCause state link
     ∷ bytesCause state ∷ busyCause (nodeIn state) packet ∷ [])
 
 unfoldable pub replyCheck : ℕ → ℕ → List ℕ → ℕ → Verdict
@@ -66,7 +72,7 @@ unfoldable pub pollCheck : List ℕ → ℕ → Verdict
 pollCheck state reply = firstOf (replyCause reply ∷ bytesCause state ∷ pollCause (nodeIn state) ∷ [])
 
 unfoldable pub eraseCheck : List ℕ → ℕ → Verdict
-eraseCheck state flash = firstOf (benchCause state flash ∷ bytesCause state ∷ [])
+eraseCheck state flash = firstOf (flashCause state flash ∷ bytesCause state ∷ [])
 
 unfoldable pub slowCheck : List ℕ → ℕ → Verdict
 slowCheck state records = firstOf (recordsCause state records ∷ bytesCause state ∷ [])
@@ -75,7 +81,7 @@ slowCheck state records = firstOf (recordsCause state records ∷ bytesCause sta
 unfoldable pub startCheck : ℕ → ℕ → ℕ → List ℕ → ℕ → Verdict
 startCheck kind ports subdetector state flash =
     firstOf
-    (cause Refusal.FlashSize (not (eqb flash 32768))
+    (cause Refusal.FlashSize (not (bytesOk flash))
     ∷ cause Refusal.Number (not (portsOk ports) || not (kindOk kind) || ltb 7 subdetector)
     ∷ cause Refusal.State (not (eqb (length state) 192))
     ∷ [])

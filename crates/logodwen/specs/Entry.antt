@@ -1,6 +1,7 @@
 -- The seven entries of the C border: what each answers, and the bytes that it leaves in every run that it is lent. An entry is refused
 -- by the first cause that holds, and then every byte stays; or it is the node's call on the words of the lent bytes. 01 'Covered',
--- and 02, requests 1 and 7, which lend a request the area and the Q-List, and 9. Assumes nothing.
+-- and 02, requests 1 and 7, which lend a request the area and the Q-List, 9, and 11: the flash's bytes are the words of the word form, low
+-- byte first, in both sizes. Assumes nothing.
 use Prim.Native.Nat.{ℕ, _/_}
 use mathlib.Core.Bool.{Bool, _&&_, not}
 use mathlib.Core.List.{List, []}
@@ -19,7 +20,7 @@ use Rattle.series.specs.Requests.{Row}
 use Rattle.touch.specs.InBytes.{replyWords, runWords, inBytes}
 use Rattle.rows.specs.Rows.{requestsIn}
 use Rattle.logodwen.specs.Number.{fields, answerNumber}
-use Rattle.logodwen.specs.Causes.{isBench, requestCheck, replyCheck, pollCheck, eraseCheck, slowCheck, startCheck}
+use Rattle.logodwen.specs.Causes.{lentOk, requestCheck, replyCheck, pollCheck, eraseCheck, slowCheck, startCheck}
 
 -- The number answered, the state bytes, and the bytes of the other runs.
 pub record Answered : Type 0 where
@@ -46,14 +47,14 @@ isSet x = not (eqb x 0)
 -- Start. A refused start leaves the state bytes.
 unfoldable pub startEntry : ℕ → ℕ → ℕ → ℕ → ℕ → ℕ → ℕ → List ℕ → List ℕ → Answered
 startEntry kind ports subdetector program version tests clock flash state =
-    entered (startCheck kind ports subdetector state (length flash / 2)) state (lentReply [])
+    entered (startCheck kind ports subdetector state (length flash)) state (lentReply [])
     (outcome (startOf kind ports subdetector program version tests clock (wordsOf 2 flash)) (lentReply []))
 
 -- A request.
 unfoldable pub requestEntry : ℕ → ℕ → ℕ → ℕ → List ℕ → List ℕ → Lent → Answered
 requestEntry clock link bc errors packet state runs =
     entered
-    (requestCheck link (length packet / 2) state (length (runs .flash) / 2) (length (runs .memories .pm) / 4)
+    (requestCheck link (length packet / 2) state (length (runs .flash)) (length (runs .memories .pm) / 4)
     (length (runs .memories .dm) / 2) (length (runs .memories .io) / 2) (length (runs .further .area) / 2)
     (length (runs .further .list) / 14) (length (runs .reply) / 2))
     state runs (requestOf (nodeIn state) clock link bc (isSet errors) (wordsOf 2 packet) (runWords runs))
@@ -72,7 +73,7 @@ pollEntry clock state reply =
 -- Erase progress.
 unfoldable pub eraseEntry : ℕ → List ℕ → List ℕ → Answered
 eraseEntry budget state flash =
-    entered (eraseCheck state (length flash / 2)) state (lentFlash flash) (eraseOf (nodeIn state) budget (wordsOf 2 flash))
+    entered (eraseCheck state (length flash)) state (lentFlash flash) (eraseOf (nodeIn state) budget (wordsOf 2 flash))
 
 -- The slow-control step, on the Q-List: 14 bytes a record. 02, request 7.
 unfoldable pub slowEntry : ℕ → List ℕ → List ℕ → Answered
@@ -88,7 +89,7 @@ listed r = answered (fields 0 0 0 (r .done)) (encodeOf (r .end .node)) (r .end .
 unfoldable pub requestsEntry : ℕ → List ℕ → List ℕ → Lent → Answered
 requestsEntry clock packets state runs =
     pick (fits (wordsOf 2 packets))
-    (pick (isBench (length (runs .flash) / 2) (length (runs .memories .pm) / 4) (length (runs .memories .dm) / 2) && areState state)
+    (pick (lentOk (length (runs .flash)) (length (runs .memories .pm) / 4) (length (runs .memories .dm) / 2) && areState state)
     (listed (requestsIn (nodeIn state) clock packets runs))
     (answered 0 state runs))
     (answered (refusalNumber Refusal.Overrun) state runs)

@@ -1,6 +1,6 @@
 // When an entry is refused: by numbers, lengths and the state bytes alone.
 ghost use mathlib.Core.Path.{_≡_};
-ghost use Rattle.logodwen.specs.Causes.{isBench, keptOk, recordsOk, linkOk, requestCheck, replyCheck, pollCheck, eraseCheck, slowCheck};
+ghost use Rattle.logodwen.specs.Causes.{bytesOk, lentOk, keptOk, recordsOk, linkOk, requestCheck, replyCheck, pollCheck, eraseCheck, slowCheck};
 use codec::state::is_state;
 use codec::state::node_in;
 use codec::words::byte;
@@ -36,11 +36,18 @@ fn link_ok(state: &[u8], link: u32) -> bool
     link < byte(state, 1) as u32
 }
 
-// What is lent to a list of requests is within the limits of the border.
-pub fn is_bench(flash: usize, pm: usize, dm: usize) -> bool
-    ensures { λ r. ⌜ r ≡ isBench flash pm dm ⌝ }
+// A flash has one of the two counts of bytes.
+pub fn bytes_ok(bytes: usize) -> bool
+    ensures { λ r. ⌜ r ≡ bytesOk bytes ⌝ }
 {
-    (flash == 32768) & (pm <= 8192) & (dm <= 8192)
+    (bytes == 65536) | (bytes == 524288)
+}
+
+// What is lent to a list of requests is within the limits of the border.
+pub fn lent_ok(flash: usize, pm: usize, dm: usize) -> bool
+    ensures { λ r. ⌜ r ≡ lentOk flash pm dm ⌝ }
+{
+    bytes_ok(flash) & (pm <= 8192) & (dm <= 8192)
 }
 
 pub fn request_check(
@@ -57,7 +64,7 @@ pub fn request_check(
 ) -> Verdict
     ensures { λ r. ⌜ r ≡ requestCheck link packet (now (state .entry)) flash pm dm io area records reply ⌝ }
 {
-    if (flash != 32768) | !kept_ok(state, flash) {
+    if !bytes_ok(flash) | !kept_ok(state, flash / 2) {
         return Verdict::No(Refusal::FlashSize);
     }
     if reply < 12288 {
@@ -129,7 +136,7 @@ pub fn poll_check(state: &[u8], reply: usize) -> Verdict
 pub fn erase_check(state: &[u8], flash: usize) -> Verdict
     ensures { λ r. ⌜ r ≡ eraseCheck (now (state .entry)) flash ⌝ }
 {
-    if (flash != 32768) | !kept_ok(state, flash) {
+    if !bytes_ok(flash) | !kept_ok(state, flash / 2) {
         return Verdict::No(Refusal::FlashSize);
     }
     if !is_state(state) {

@@ -9,8 +9,9 @@ ghost use Rattle.node.specs.Calls.{lentReply, lentFlash, lentList};
 ghost use Rattle.logodwen.specs.Entry.{answered, startEntry, requestEntry, replyEntry, pollEntry, eraseEntry, slowEntry, requestsEntry};
 use crate::answers::answer_number;
 use crate::answers::done_number;
+use crate::checks::bytes_ok;
 use crate::checks::erase_check;
-use crate::checks::is_bench;
+use crate::checks::lent_ok;
 use crate::checks::poll_check;
 use crate::checks::reply_check;
 use crate::checks::request_check;
@@ -37,7 +38,7 @@ mod taking;
 
 // Start on a flash: the refusal's number, 0 for done.
 #[no_mangle]
-pub extern "C" fn logodwen4_start(
+pub extern "C" fn logodwen5_start(
     kind: u32,
     ports: u32,
     subdetector: u32,
@@ -50,7 +51,7 @@ pub extern "C" fn logodwen4_start(
 ) -> u32
     ensures { λ r. ⌜ answered r (now (state .exit)) (lentReply []) ≡ startEntry kind ports subdetector «program_version» «subdetector_version» «start_tests» clock (now (flash .entry)) (now (state .entry)) ⌝ }
 {
-    if flash.len() / 2 != 32768 {
+    if !bytes_ok(flash.len()) {
         return 1;
     }
     if !((1 <= ports) & (ports <= 4)) | !((kind == 1) | (kind == 2)) | (7 < subdetector) {
@@ -76,7 +77,7 @@ pub extern "C" fn logodwen4_start(
 
 // A request from a link.
 #[no_mangle]
-pub extern "C" fn logodwen4_request(
+pub extern "C" fn logodwen5_request(
     clock: u32,
     link: u32,
     bc: u32,
@@ -97,7 +98,7 @@ pub extern "C" fn logodwen4_request(
         link,
         packet.len() / 2,
         state,
-        flash.len() / 2,
+        flash.len(),
         pm.len() / 4,
         dm.len() / 2,
         io.len() / 2,
@@ -135,7 +136,7 @@ pub extern "C" fn logodwen4_request(
 
 // A list of requests.
 #[no_mangle]
-pub extern "C" fn logodwen4_requests(
+pub extern "C" fn logodwen5_requests(
     clock: u32,
     packets: &[u8],
     state: &mut [u8],
@@ -152,7 +153,7 @@ pub extern "C" fn logodwen4_requests(
     if !fits(packets) {
         return 10;
     }
-    if !is_bench(flash.len() / 2, pm.len() / 4, dm.len() / 2) | !is_state(state) {
+    if !lent_ok(flash.len(), pm.len() / 4, dm.len() / 2) | !is_state(state) {
         return 0;
     }
     let node = node_in(state);
@@ -164,7 +165,7 @@ pub extern "C" fn logodwen4_requests(
 
 // A slave's reply.
 #[no_mangle]
-pub extern "C" fn logodwen4_reply(
+pub extern "C" fn logodwen5_reply(
     clock: u32,
     slave: u32,
     bc: u32,
@@ -204,7 +205,7 @@ pub extern "C" fn logodwen4_reply(
 
 // A poll, while a request waits for a slave.
 #[no_mangle]
-pub extern "C" fn logodwen4_poll(clock: u32, state: &mut [u8], reply: &mut [u8]) -> u64
+pub extern "C" fn logodwen5_poll(clock: u32, state: &mut [u8], reply: &mut [u8]) -> u64
     ensures { λ r. ⌜ answered r (now (state .exit)) (lentReply (now (reply .exit))) ≡ pollEntry clock (now (state .entry)) (now (reply .entry)) ⌝ }
 {
     let verdict = poll_check(state, reply.len() / 2);
@@ -223,10 +224,10 @@ pub extern "C" fn logodwen4_poll(clock: u32, state: &mut [u8], reply: &mut [u8])
 
 // Erase progress.
 #[no_mangle]
-pub extern "C" fn logodwen4_erase(budget: u64, state: &mut [u8], flash: &mut [u8]) -> u64
+pub extern "C" fn logodwen5_erase(budget: u64, state: &mut [u8], flash: &mut [u8]) -> u64
     ensures { λ r. ⌜ answered r (now (state .exit)) (lentFlash (now (flash .exit))) ≡ eraseEntry budget (now (state .entry)) (now (flash .entry)) ⌝ }
 {
-    let verdict = erase_check(state, flash.len() / 2);
+    let verdict = erase_check(state, flash.len());
     match verdict {
         Verdict::Fine => {
             let node = node_in(state);
@@ -242,7 +243,7 @@ pub extern "C" fn logodwen4_erase(budget: u64, state: &mut [u8], flash: &mut [u8
 
 // A slow-control step, on the Q-List.
 #[no_mangle]
-pub extern "C" fn logodwen4_slow(clock: u32, state: &mut [u8], list: &mut [u8]) -> u64
+pub extern "C" fn logodwen5_slow(clock: u32, state: &mut [u8], list: &mut [u8]) -> u64
     ensures { λ r. ⌜ answered r (now (state .exit)) (lentList (now (list .exit))) ≡ slowEntry clock (now (state .entry)) (now (list .entry)) ⌝ }
 {
     let verdict = slow_check(state, list.len() / 14);

@@ -68,7 +68,7 @@ fn take(
     list: &mut [u8],
     reply: &mut [u8],
 ) -> Turn
-    requires { ⌜ (length (now flash) / 2 ≡ 32768) × (12288 ≤ length (now reply) / 2) × (length (now pm) / 4 ≤ 8192) × (length (now dm) / 2 ≤ 8192) × (length (now io) / 2 ≤ 4096) × (32768 ≤ length (now area) / 2) × (length (now list) / 14 ≤ 910) × (node .listing .entries ≤ length (now list) / 14) ⌝ }
+    requires { ⌜ (length (now flash) / 2 ≤ 262144) × (12288 ≤ length (now reply) / 2) × (length (now pm) / 4 ≤ 8192) × (length (now dm) / 2 ≤ 8192) × (length (now io) / 2 ≤ 4096) × (32768 ≤ length (now area) / 2) × (length (now list) / 14 ≤ 910) × (node .listing .entries ≤ length (now list) / 14) ⌝ }
     requires { ⌜ ((x : Further) → Beside node x → requestVerdict node link (length (now packet) / 2) (length (now flash) / 2) (length (now pm) / 4) (length (now dm) / 2) (length (now io) / 2) (length (x .area) / 2) (length (x .list) / 14) 12288 ≡ Verdict.Fine) ⌝ }
     ensures { λ r. ⌜ outcome r (lent (now (flash .exit)) (memories (now (pm .exit)) (now (dm .exit)) (now (io .exit))) (further (now (area .exit)) (now (list .exit))) (now (reply .exit))) ≡ inBytes (requestOf node clock link bc false (wordsOf 2 (now (packet .entry))) (runWords (lent (now (flash .entry)) (memories (now (pm .entry)) (now (dm .entry)) (now (io .entry))) (further (now (area .entry)) (now (list .entry))) (now (reply .entry))))) (lent (now (flash .entry)) (memories (now (pm .entry)) (now (dm .entry)) (now (io .entry))) (further (now (area .entry)) (now (list .entry))) (now (reply .entry))) ⌝ }
 {
@@ -108,7 +108,7 @@ fn call(
     list: &mut [u8],
     reply: &mut [u8],
 ) -> Turn
-    requires { ⌜ (length (now flash) / 2 ≡ 32768) × (12288 ≤ length (now reply) / 2) × (length (now pm) / 4 ≤ 8192) × (length (now dm) / 2 ≤ 8192) ⌝ }
+    requires { ⌜ (length (now flash) / 2 ≤ 262144) × (12288 ≤ length (now reply) / 2) × (length (now pm) / 4 ≤ 8192) × (length (now dm) / 2 ≤ 8192) ⌝ }
     ensures { λ r. ⌜ outcome r (lent (now (flash .exit)) (memories (now (pm .exit)) (now (dm .exit)) (now (io .exit))) (further (now (area .exit)) (now (list .exit))) (now (reply .exit))) ≡ inBytes (requestOf node clock link bc false (wordsOf 2 (now (packet .entry))) (runWords (lent (now (flash .entry)) (memories (now (pm .entry)) (now (dm .entry)) (now (io .entry))) (further (now (area .entry)) (now (list .entry))) (now (reply .entry))))) (lent (now (flash .entry)) (memories (now (pm .entry)) (now (dm .entry)) (now (io .entry))) (further (now (area .entry)) (now (list .entry))) (now (reply .entry))) ⌝ }
 {
     let verdict = request_verdict(
@@ -193,7 +193,7 @@ fn step(
     replies: &mut [u8],
 ) -> Stepped
     requires { ⌜ endAt (wordsOf 2 (now packets)) at ≤ length (now packets) / 2 ⌝ }
-    requires { ⌜ (length (now flash) / 2 ≡ 32768) × (length (now pm) / 4 ≤ 8192) × (length (now dm) / 2 ≤ 8192) ⌝ }
+    requires { ⌜ (length (now flash) / 2 ≤ 262144) × (length (now pm) / 4 ≤ 8192) × (length (now dm) / 2 ≤ 8192) ⌝ }
     ensures { λ r. ⌜ stepped r (lent (now (flash .exit)) (memories (now (pm .exit)) (now (dm .exit)) (now (io .exit))) (further (now (area .exit)) (now (list .exit))) (now (replies .exit))) ≡ stepIn clock (now (packets .entry)) (kept node (lent (now (flash .entry)) (memories (now (pm .entry)) (now (dm .entry)) (now (io .entry))) (further (now (area .entry)) (now (list .entry))) (now (replies .entry))) filled) (packetAt (wordsOf 2 (now (packets .entry))) at) ⌝ }
 {
     let bc = packet_word(packets, at + 1) as u32;
@@ -241,7 +241,7 @@ pub fn on_requests(
     replies: &mut [u8],
 ) -> Rowed
     requires { ⌜ fits (wordsOf 2 (now packets)) ≡ true ⌝ }
-    requires { ⌜ (length (now flash) / 2 ≡ 32768) × (length (now pm) / 4 ≤ 8192) × (length (now dm) / 2 ≤ 8192) ⌝ }
+    requires { ⌜ (length (now flash) / 2 ≤ 262144) × (length (now pm) / 4 ≤ 8192) × (length (now dm) / 2 ≤ 8192) ⌝ }
     ensures { λ r. ⌜ rowed r (lent (now (flash .exit)) (memories (now (pm .exit)) (now (dm .exit)) (now (io .exit))) (further (now (area .exit)) (now (list .exit))) (now (replies .exit))) ≡ requestsIn node clock (now (packets .entry)) (lent (now (flash .entry)) (memories (now (pm .entry)) (now (dm .entry)) (now (io .entry))) (further (now (area .entry)) (now (list .entry))) (now (replies .entry))) ⌝ }
 {
     let mut kept = node;

@@ -56,7 +56,7 @@ step-requires : tie.Need-step-requires Inv-loop μ-loop
 step-requires c κs =
     let s = c .before .before .before .before .before .before .before .before .before .before .before .before .before .before .before .before .before in
     let w = c .before .before .before .before .before .before .before .before .loop in
-    (fits-here (c .before .before .before .before .before .before .before) .0, (ap (_/ 2) (w .inv .3) ∙ s .pre .1 .0, omega (arith, w .inv .4, s .pre .1 .1), omega (arith, w .inv .5, s .pre .1 .2)))
+    (fits-here (c .before .before .before .before .before .before .before) .0, (omega (arith, w .inv .3, s .pre .1 .0), omega (arith, w .inv .4, s .pre .1 .1), omega (arith, w .inv .5, s .pre .1 .2)))
 
 same-length : tie.Need-same-length Inv-loop μ-loop
 same-length c = c .before .before .before .before .before .before .before .before .before .before .before .before .before .before .before .before .step .kept .1 .1 .1 .1 .1 .0 ∙ c .before .before .before .before .before .before .before .before .before .before .before .before .before .before .before .before .before .before .before .before .before .before .before .before .before .loop .inv .3

@@ -1,4 +1,4 @@
--- `logodwen::logodwen4_reply` meets its contract. Assumes nothing.
+-- `logodwen::logodwen5_reply` meets its contract. Assumes nothing.
 use mathlib.Core.Path.{sym, ap, _∙_}
 use Prim.Native.Nat.{_/_}
 use lib.ListN.{length}
@@ -13,8 +13,8 @@ use Rattle.node.specs.Refusals.{replyVerdict}
 use Rattle.node.specs.Calls.{replyOf, lentReply}
 use Rattle.node.specs.declared.Node.{Node}
 use borrow.Author.Needs.{needs}
-use Rattle.logodwen.proofs.logodwen4_reply.Statement.{statement}
-use Rattle.logodwen.proofs.logodwen4_reply.Tie as tie
+use Rattle.logodwen.proofs.logodwen5_reply.Statement.{statement}
+use Rattle.logodwen.proofs.logodwen5_reply.Tie as tie
 
 reply-check-requires : tie.Need-reply-check-requires
 reply-check-requires c κs = search needs
@@ -64,8 +64,8 @@ returns-2 : tie.Need-returns-2
 unfolding replyEntry
 returns-2 c = entered-refused (replyCheck (c .before .before .before .before .before .before .before .before .before .args .slave) (length (c .before .before .before .before .before .before .before .before .before .args .packet .now) / 2) (c .before .before .before .before .before .before .before .before .before .args .state .now) (length (c .before .before .before .before .before .before .before .before .before .args .reply .now) / 2)) (c .before .before .before .before .before .before .before .before .before .args .state .now) (lentReply (c .before .before .before .before .before .before .before .before .before .args .reply .now)) (replyOf (nodeIn (c .before .before .before .before .before .before .before .before .before .args .state .now)) (c .before .before .before .before .before .before .before .before .before .args .clock) (c .before .before .before .before .before .before .before .before .before .args .slave) (c .before .before .before .before .before .before .before .before .before .args .bc) (isSet (c .before .before .before .before .before .before .before .before .before .args .receive-error)) (c .before .before .before .before .before .before .before .before .before .args .rx-status) (c .before .before .before .before .before .before .before .before .before .args .rx-address) (wordsOf 2 (c .before .before .before .before .before .before .before .before .before .args .packet .now)) (replyWords (c .before .before .before .before .before .before .before .before .before .args .reply .now))) (c .before .before .verdict .given .0 .0) (sym (c .before .before .before .before .reply-check .ensures) ∙ c .before .before .verdict .given .1) (c .refusal-number .ensures)
 
-pub logodwen4-reply-spec : {M : Type 1} → statement M
-logodwen4-reply-spec =
+pub logodwen5-reply-spec : {M : Type 1} → statement M
+logodwen5-reply-spec =
     tie.close
     (tie.spec
     reply-check-requires

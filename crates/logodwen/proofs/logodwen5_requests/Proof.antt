@@ -1,4 +1,4 @@
--- `logodwen::logodwen4_requests` meets its contract. Assumes nothing.
+-- `logodwen::logodwen5_requests` meets its contract. Assumes nothing.
 use Prim.Native.Nat.{_/_}
 use mathlib.Core.Path.{_≡_, refl, sym, ap, _∙_}
 use mathlib.Core.Bool.{Bool, true, _&&_}
@@ -12,28 +12,28 @@ use Rattle.codec.specs.Bytes.{wordsOf}
 use Rattle.codec.specs.StateBytes.{nodeIn, areState}
 use Rattle.series.specs.Packets.{fits}
 use Rattle.rows.specs.Rows.{requestsIn}
-use Rattle.logodwen.specs.Causes.{isBench}
+use Rattle.logodwen.specs.Causes.{lentOk}
 use Rattle.logodwen.specs.Entry.{requestsEntry}
-use Rattle.logodwen.proofs.Entering.{state-long, both-hold, one-fails, bench-tells, listed-all}
+use Rattle.logodwen.proofs.Entering.{state-long, both-hold, one-fails, lent-tells, bytes-most, listed-all}
 use borrow.Author.Needs.{needs}
-use Rattle.logodwen.proofs.logodwen4_requests.Statement.{statement}
-use Rattle.logodwen.proofs.logodwen4_requests.Tie as tie
+use Rattle.logodwen.proofs.logodwen5_requests.Statement.{statement}
+use Rattle.logodwen.proofs.logodwen5_requests.Tie as tie
 
 -- what is lent, and whether it is within the border's limits
 abbrev given : tie.Start → Lent
 given s = lent (s .args .flash .now) (memories (s .args .pm .now) (s .args .dm .now) (s .args .io .now)) (further (s .args .area .now) (s .args .list .now)) (s .args .replies .now)
 
-abbrev bench : tie.Start → Bool
-bench s = isBench (length (s .args .flash .now) / 2) (length (s .args .pm .now) / 4) (length (s .args .dm .now) / 2)
+abbrev within : tie.Start → Bool
+within s = lentOk (length (s .args .flash .now)) (length (s .args .pm .now) / 4) (length (s .args .dm .now) / 2)
 
 fit : (c : tie.Else1) → fits (wordsOf 2 (c .before .before .before .before .before .before .before .before .before .before .before .args .packets .now)) ≡ true
 fit c = sym (c .before .fits2 .ensures) ∙ not-false (c .before .fits2 .result) (c .if1 .left)
 
-passed : (c : tie.Else2) → (bench (c .before .before .before .before .before .before .before .before .before .before .before .before .before .before .before) && areState (c .before .before .before .before .before .before .before .before .before .before .before .before .before .before .before .args .state .now)) ≡ true
-passed c = sym (λ i. c .before .before .before .is-bench .ensures i && c .before .is-state .ensures i) ∙ both-hold (c .before .before .before .is-bench .result) (c .before .is-state .result) (c .if2 .left)
+passed : (c : tie.Else2) → (within (c .before .before .before .before .before .before .before .before .before .before .before .before .before .before .before) && areState (c .before .before .before .before .before .before .before .before .before .before .before .before .before .before .before .args .state .now)) ≡ true
+passed c = sym (λ i. c .before .before .before .lent-ok .ensures i && c .before .is-state .ensures i) ∙ both-hold (c .before .before .before .lent-ok .result) (c .before .is-state .result) (c .if2 .left)
 
 long : (c : tie.Else2) → length (c .before .before .before .before .before .before .before .before .before .before .before .before .before .before .before .args .state .now) ≡ 192
-long c = state-long (c .before .before .before .before .before .before .before .before .before .before .before .before .before .before .before .args .state .now) (and-right (bench (c .before .before .before .before .before .before .before .before .before .before .before .before .before .before .before)) (areState (c .before .before .before .before .before .before .before .before .before .before .before .before .before .before .before .args .state .now)) (passed c))
+long c = state-long (c .before .before .before .before .before .before .before .before .before .before .before .before .before .before .before .args .state .now) (and-right (within (c .before .before .before .before .before .before .before .before .before .before .before .before .before .before .before)) (areState (c .before .before .before .before .before .before .before .before .before .before .before .before .before .before .before .args .state .now)) (passed c))
 
 fits-requires : tie.Need-fits-requires
 fits-requires c κs = search needs
@@ -42,8 +42,8 @@ returns : tie.Need-returns
 unfolding requestsEntry
 returns c = no _ (sym (c .before .fits2 .ensures) ∙ not-true (c .before .fits2 .result) (c .if1 .taken)) refl
 
-is-bench-requires : tie.Need-is-bench-requires
-is-bench-requires c κs = search needs
+lent-ok-requires : tie.Need-lent-ok-requires
+lent-ok-requires c κs = search needs
 
 is-state-requires : tie.Need-is-state-requires
 is-state-requires c κs = search needs
@@ -55,7 +55,7 @@ returns-2 : tie.Need-returns-2
 unfolding requestsEntry
 returns-2 c =
     yes _ (fit (c .before .before .before .before))
-    (no _ (sym (λ i. c .before .before .before .is-bench .ensures i && c .before .is-state .ensures i) ∙ one-fails (c .before .before .before .is-bench .result) (c .before .is-state .result) (c .if2 .taken)) refl)
+    (no _ (sym (λ i. c .before .before .before .lent-ok .ensures i && c .before .is-state .ensures i) ∙ one-fails (c .before .before .before .lent-ok .result) (c .before .is-state .result) (c .if2 .taken)) refl)
 
 node-in-requires : tie.Need-node-in-requires
 node-in-requires c κs = long (c .before)
@@ -63,7 +63,8 @@ node-in-requires c κs = long (c .before)
 on-requests-requires : tie.Need-on-requests-requires
 on-requests-requires c κs =
     let s = c .before .before .before .before .before .before .before .before .before .before .before .before .before .before .before .before .before .before .before .before .before .before .before .before in
-    (fit (c .before .before .before .before .before .before .before .before .before .before .before .before .before), bench-tells (length (s .args .flash .now) / 2) (length (s .args .pm .now) / 4) (length (s .args .dm .now) / 2) (and-left (bench s) (areState (s .args .state .now)) (passed (c .before .before .before .before .before .before .before .before .before))))
+    let tells = lent-tells (length (s .args .flash .now)) (length (s .args .pm .now) / 4) (length (s .args .dm .now) / 2) (and-left (within s) (areState (s .args .state .now)) (passed (c .before .before .before .before .before .before .before .before .before))) in
+    (fit (c .before .before .before .before .before .before .before .before .before .before .before .before .before), (bytes-most (length (s .args .flash .now)) (tells .0), tells .1, tells .2))
 
 encode-requires : tie.Need-encode-requires
 encode-requires c κs = long (c .before .before .before .before .before .before .before .before .before .before .before .before .before .before .before .before .before .before .before .before .before .before .before .before .before .before)
@@ -105,13 +106,13 @@ returns-3 c =
     (listed-all (requestsIn (nodeIn (a .state .now)) (a .clock) (a .packets .now) (given s))
     (c .before .before .before .before .before .before .before .before .before .before .before .before .before .before .before .before .before .before .before .before .on-requests .ensures ∙ ap (λ (n : Node). requestsIn n (a .clock) (a .packets .now) (given s)) (c .before .before .before .before .before .before .before .before .before .before .before .before .before .before .before .before .before .before .before .before .before .before .before .before .before .before .before .before .node-in .ensures)) (c .done-number .ensures) (c .before .before .before .encode .ensures)))
 
-pub logodwen4-requests-spec : {M : Type 1} → statement M
-logodwen4-requests-spec =
+pub logodwen5-requests-spec : {M : Type 1} → statement M
+logodwen5-requests-spec =
     tie.close
     (tie.spec
     fits-requires
     returns
-    is-bench-requires
+    lent-ok-requires
     is-state-requires
     same-length
     returns-2

@@ -1,4 +1,4 @@
--- `logodwen::logodwen4_request` meets its contract. Assumes nothing.
+-- `logodwen::logodwen5_request` meets its contract. Assumes nothing.
 use Prim.Native.Nat.{_/_, _≤_}
 use mathlib.Core.Path.{_≡_, sym, ap, subst, _∙_}
 use lib.ListN.{length}
@@ -13,11 +13,11 @@ use Rattle.codec.specs.StateBytes.{nodeIn}
 use Rattle.logodwen.specs.Causes.{requestCheck}
 use Rattle.touch.specs.InBytes.{runWords, inBytes}
 use Rattle.logodwen.specs.Entry.{isSet, requestEntry}
-use Rattle.logodwen.proofs.Entering.{RequestFine, entered-fine, entered-refused, state-long, request-fine}
+use Rattle.logodwen.proofs.Entering.{RequestFine, bytes-most, entered-fine, entered-refused, state-long, request-fine}
 use Rattle.logodwen.proofs.Fine.{records-listed, request-verdict}
 use borrow.Author.Needs.{needs}
-use Rattle.logodwen.proofs.logodwen4_request.Statement.{statement}
-use Rattle.logodwen.proofs.logodwen4_request.Tie as tie
+use Rattle.logodwen.proofs.logodwen5_request.Statement.{statement}
+use Rattle.logodwen.proofs.logodwen5_request.Tie as tie
 
 -- what is lent, whether it is refused, and the node's call
 abbrev given : tie.Start → Lent
@@ -26,16 +26,16 @@ given s = lent (s .args .flash .now) (memories (s .args .pm .now) (s .args .dm .
 abbrev checked : tie.Start → Verdict
 checked s =
     let a = s .args in
-    requestCheck (a .link) (length (a .packet .now) / 2) (a .state .now) (length (a .flash .now) / 2) (length (a .pm .now) / 4) (length (a .dm .now) / 2) (length (a .io .now) / 2) (length (a .area .now) / 2) (length (a .list .now) / 14) (length (a .reply .now) / 2)
+    requestCheck (a .link) (length (a .packet .now) / 2) (a .state .now) (length (a .flash .now)) (length (a .pm .now) / 4) (length (a .dm .now) / 2) (length (a .io .now) / 2) (length (a .area .now) / 2) (length (a .list .now) / 14) (length (a .reply .now) / 2)
 
 abbrev called : tie.Start → Node → Outcome
 called s n = let a = s .args in requestOf n (a .clock) (a .link) (a .bc) (isSet (a .receive-error)) (wordsOf 2 (a .packet .now)) (runWords (given s))
 
 fine : (s : tie.Start) → checked s ≡ Verdict.Fine
-    → RequestFine (s .args .state .now) (length (s .args .flash .now) / 2) (length (s .args .pm .now) / 4) (length (s .args .dm .now) / 2) (length (s .args .io .now) / 2) (length (s .args .area .now) / 2) (length (s .args .list .now) / 14) (length (s .args .reply .now) / 2)
+    → RequestFine (s .args .state .now) (length (s .args .flash .now)) (length (s .args .pm .now) / 4) (length (s .args .dm .now) / 2) (length (s .args .io .now) / 2) (length (s .args .area .now) / 2) (length (s .args .list .now) / 14) (length (s .args .reply .now) / 2)
 fine s h =
     let a = s .args in
-    request-fine (a .link) (length (a .packet .now) / 2) (a .state .now) (length (a .flash .now) / 2) (length (a .pm .now) / 4) (length (a .dm .now) / 2) (length (a .io .now) / 2) (length (a .area .now) / 2) (length (a .list .now) / 14) (length (a .reply .now) / 2) h
+    request-fine (a .link) (length (a .packet .now) / 2) (a .state .now) (length (a .flash .now)) (length (a .pm .now) / 4) (length (a .dm .now) / 2) (length (a .io .now) / 2) (length (a .area .now) / 2) (length (a .list .now) / 14) (length (a .reply .now) / 2) h
 
 request-check-requires : tie.Need-request-check-requires
 request-check-requires c κs = search needs
@@ -52,9 +52,9 @@ take-requires c κs = let a = c .before .before .before .before .before .before 
     let f = fine (c .before .before .before .before .before .before .before .before .before .before .before .before .before .before .before .before .before .before .before .before .before .before) check in
     let n = c .before .before .before .before .before .before .before .node-in .ensures in
     let few = records-listed (a .state .now) (length (a .list .now) / 14) (f .bytes) (f .listed) in (
-      (f .bench, f .buffer, f .pm-short, f .dm-short, f .io-short, f .room, f .most, subst (λ (x : Node). x .listing .entries ≤ length (a .list .now) / 14) (sym n) few),
+      (bytes-most (length (a .flash .now)) (f .sized), f .buffer, f .pm-short, f .dm-short, f .io-short, f .room, f .most, subst (λ (x : Node). x .listing .entries ≤ length (a .list .now) / 14) (sym n) few),
       λ x beside. ap (λ (y : Node). requestVerdict y (a .link) (length (a .packet .now) / 2) (length (a .flash .now) / 2) (length (a .pm .now) / 4) (length (a .dm .now) / 2) (length (a .io .now) / 2) (length (x .area) / 2) (length (x .list) / 14) 12288) n
-          ∙ request-verdict (a .link) (length (a .packet .now) / 2) (a .state .now) (length (a .flash .now) / 2) (length (a .pm .now) / 4) (length (a .dm .now) / 2) (length (a .io .now) / 2) (length (a .area .now) / 2) (length (a .list .now) / 14) (length (a .reply .now) / 2) check (length (x .area) / 2) (length (x .list) / 14) (beside .room) (beside .most) (subst (λ (y : Node). y .listing .entries ≤ length (x .list) / 14) n (beside .listed)),
+          ∙ request-verdict (a .link) (length (a .packet .now) / 2) (a .state .now) (length (a .flash .now)) (length (a .pm .now) / 4) (length (a .dm .now) / 2) (length (a .io .now) / 2) (length (a .area .now) / 2) (length (a .list .now) / 14) (length (a .reply .now) / 2) check (length (x .area) / 2) (length (x .list) / 14) (beside .room) (beside .most) (subst (λ (y : Node). y .listing .entries ≤ length (x .list) / 14) n (beside .listed)),
     )
 
 encode-requires : tie.Need-encode-requires
@@ -110,8 +110,8 @@ unfolding requestEntry
 returns-2 c = let s = c .before .before .before .before .before .before .before .before .before .before .before .before .before .before .before in
     entered-refused (checked s) (s .args .state .now) (given s) (called s (nodeIn (s .args .state .now))) (c .before .before .verdict .given .0 .0) (sym (c .before .before .before .before .request-check .ensures) ∙ c .before .before .verdict .given .1) (c .refusal-number .ensures)
 
-pub logodwen4-request-spec : {M : Type 1} → statement M
-logodwen4-request-spec =
+pub logodwen5-request-spec : {M : Type 1} → statement M
+logodwen5-request-spec =
     tie.close
     (tie.spec
     request-check-requires
