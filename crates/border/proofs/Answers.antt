@@ -52,7 +52,7 @@ use Rattle.logodwen.specs.Number.{fields, answerNumber}
 use Rattle.touch.specs.InBytes.{memoryWords, replyWords, furtherWords}
 use Rattle.logodwen.specs.Entry.{isSet}
 use Rattle.codec.proofs.Runs.{length-words, length-words-of}
-use Rattle.logodwen.proofs.Entering.{request-fine, reply-fine, poll-fine, erase-fine, slow-fine}
+use Rattle.logodwen.proofs.Entering.{bytes-most, request-fine, reply-fine, poll-fine, erase-fine, slow-fine}
 use Rattle.codec.proofs.Small.{size-most}
 use Rattle.logodwen.proofs.Fine.{state-sound, records-listed}
 use Rattle.border.specs.Exactly.{entries}
@@ -185,7 +185,7 @@ poll-bounds n clock reply ok b =
     (λ _. hears-bounds (n .given .ports) (n .pending) n clock silent [] reply ok b) (λ _. tt)
 
 -- a step of an erasure
-erase-bounds : (u : ℕ) (e : Erasing) (budget : ℕ) → u ≤ 2048 → eraseCount u e budget ≤ 4096
+erase-bounds : (u : ℕ) (e : Erasing) (budget : ℕ) → u ≤ 16384 → eraseCount u e budget ≤ 32768
 unfolding eraseCount
 erase-bounds u Erasing.Nothing budget h = omega arith
 erase-bounds u (Erasing.Sector p) budget h = omega (arith, size-most u (p .sector))
@@ -248,11 +248,11 @@ entry-bounds (Entry.Poll clock reply) state flash m t =
     judged-bounds (pollVerdict n (length buffer)) n (lentReply buffer) (pollEffect n clock buffer)
     (poll-bounds n clock buffer (state-pending state (f .1)) (reply-most reply)) t
 entry-bounds (Entry.Erase budget) state flash m t =
-    let f = erase-fine state (length flash / 2) (m .fine) in
+    let f = erase-fine state (length flash) (m .fine) in
     let n = nodeIn state in
     let words = wordsOf 2 flash in
     judged-bounds (eraseVerdict n (length words)) n (lentFlash words) (eraseEffect n budget words)
-    (erase-bounds (unitOf words) (n .erasing) budget (omega (arith, length-words-of 2 flash, f .0))) t
+    (erase-bounds (unitOf words) (n .erasing) budget (omega (arith, length-words-of 2 flash, bytes-most (length flash) (f .0)))) t
 entry-bounds (Entry.Slow clock list) state flash m t =
     let n = nodeIn state in
     let words = wordsOf 2 list in

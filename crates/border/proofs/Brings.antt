@@ -1,6 +1,6 @@
 -- What the state bytes say of the write that stands, and what a request that brings a file brings: the words of the file's bytes. Assumes
 -- nothing.
-use Prim.Native.Nat.{ℕ, zero, suc, _+_, _*_, _/_, _%_, _≤_}
+use Prim.Native.Nat.{ℕ, zero, suc, _*_, _/_, _%_, _≤_}
 use native.Mathlib.Omega.{arith}
 use mathlib.Core.Path.{_≡_, refl, sym, ap, _∙_, subst}
 use mathlib.Core.Bool.{Bool, true, false, _&&_, _||_}
@@ -114,8 +114,3 @@ module _ (state : List ℕ) (link bc : ℕ) (packet : List ℕ) (x : Further) (b
   pub brings-told : areState state ≡ true → 32768 ≤ length (x .area) / 2 → (file : List ℕ) → Brings state link bc packet (x .area) file → Brought state link bc packet x file
   brings-told h room file (Brings.Whole f b e) = whole-brought f b e
   brings-told h room file (Brings.Last b s) = last-brought b s h room
-
--- its packet has at most two bytes more than the file
-pub brings-most : (state : List ℕ) (link bc : ℕ) (packet area file : List ℕ) → Brings state link bc packet area file → length packet ≤ length file + 2
-brings-most state link bc packet area file (Brings.Whole f b e) = omega (arith, ap length e)
-brings-most state link bc packet area file (Brings.Last b s) = omega (arith, length-append (take (numberAt 4 176 state * 2) area) packet)

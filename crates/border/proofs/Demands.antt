@@ -17,6 +17,7 @@ use Rattle.border.proofs.Listing.{repetitions-conserved, listed-lent, r
 use Rattle.border.proofs.OneSector.{one-sector, no-bit-rises}
 use Rattle.border.proofs.Series.{list-refused}
 use Rattle.border.proofs.OneByOne.{one-by-one}
+use Rattle.border.proofs.SameContents.{as-words}
 
 pub demands : Demands entries
 demands =
@@ -25,6 +26,7 @@ demands =
       list-refused = list-refused;
       always-state = always-state;
       nothing-cut = nothing-cut;
+      as-words = as-words;
       writes = writes;
       reads-back = reads-back;
       never-corrupted = never-corrupted;

@@ -1,7 +1,6 @@
 -- Erasures over bytes, and what is written: by the node's theorems, which the entries come to. Assumes nothing.
 use Prim.Native.Nat.{ℕ, min, _+_, _*_, _/_, _%_, _≤_, _<_}
 use native.Mathlib.Nat.{add-zero}
-use native.Mathlib.Decide.{ℕ-discrete}
 use native.Mathlib.Omega.{arith}
 use mathlib.Core.Path.{_≡_, refl, sym, ap, _∙_, subst}
 use mathlib.Core.Logic.{_⊎_, inl, inr, ⊎-elim}
@@ -44,8 +43,8 @@ use Rattle.codec.specs.StateBytes.{sizeIn, nodeIn, progressIn}
 use Rattle.logodwen.specs.Number.{fields, answerNumber}
 use Rattle.touch.specs.InBytes.{memoryWords, replyWords, furtherWords}
 use Rattle.logodwen.specs.Entry.{isSet}
-use Rattle.codec.proofs.Runs.{length-bytes, length-words-of}
-use Rattle.logodwen.proofs.Entering.{request-fine, erase-fine}
+use Rattle.codec.proofs.Runs.{length-bytes, length-words-of, length-store}
+use Rattle.logodwen.proofs.Entering.{bytes-tell}
 use Rattle.codec.proofs.ThereAndBack.{bytes-kept}
 use Rattle.node.specs.Route.{bcOf}
 use Rattle.demands.proofs.Commands.{command-whole}
@@ -54,14 +53,14 @@ use Rattle.border.specs.Exactly.{entries, eraseCauses}
 use Rattle.border.specs.Host.{Entry, InC, answerOf, numberAfter, stateAfter, flashAfter, onWords, isDone, Step as HostStep}
 use Rattle.border.specs.Kept.{erasingIn}
 use Rattle.border.specs.Answers.{Says, answerIn}
-use Rattle.border.specs.Files.{sectorIn, sectorByte}
+use Rattle.border.specs.Files.{sectorIn, unitIn, sectorByte}
 use Rattle.border.specs.Flash.{stepByte}
 use Rattle.border.specs.Erasing.{blankBytes, Begins, GoesOn, Follows, ErasureFollows, isStart, budgetOf, countOf, Course, HasSet, Erases, Lays, LaysFile, LaysHeader, FlashFollows}
 use Rattle.border.proofs.Runs.{store-laid}
 use Rattle.border.proofs.Exactly.{done-low, refusal-low, refused-exactly}
 use Rattle.border.proofs.OfState.{state-bytes-exactly}
 use Rattle.border.proofs.Flash.{flash-size}
-use Rattle.border.proofs.Sectors.{empty-bytes, sector-bytes}
+use Rattle.border.proofs.Sectors.{empty-bytes, unit-is, sector-bytes}
 use Rattle.border.proofs.Steps.{Step, Made, entry-step, start-taken, refusal-undone, done-made, done-taken, undone-left, undone-flash}
 use Rattle.border.proofs.Stands.{Stands, lends, made-moves, hosted-stands}
 use Rattle.border.proofs.Answers.{nothing-cut, ended-answer}
@@ -74,15 +73,11 @@ blank-is : (k : ℕ) → bytesOf 2 (blanks k) ≡ blankBytes k
 blank-is k = empty-bytes (blanks k) (empty-blanks k) ∙ ap blankBytes (length-replicate {A = ℕ} k 0xFFFF)
 
 -- words laid in a sector are bytes laid in it
-module _ (flash : List ℕ) (b : Below 256 flash) (bench : length flash / 2 ≡ 32768) where
-  pub unit : unitOf (wordsOf 2 flash) ≡ 2048
-  unit = ap (λ (k : ℕ). k / 16) (length-words-of 2 flash ∙ bench)
-
-  sector-laid : (s : ℕ) (words : List ℕ) → length words ≤ sizeOf (unitOf (wordsOf 2 flash)) s
-      → storeWords 2 (laid (wordsOf 2 flash) (startOf (unitOf (wordsOf 2 flash)) s) words) flash ≡ laid flash (sectorByte s) (bytesOf 2 words)
-  sector-laid s words room =
-      store-laid flash (startOf (unitOf (wordsOf 2 flash)) s) words b (omega (arith, sector-fits (unitOf (wordsOf 2 flash)) s))
-      ∙ ap (λ (u : ℕ). laid flash (startOf u s * 2) (bytesOf 2 words)) unit
+sector-laid : (flash : List ℕ) → Below 256 flash → (s : ℕ) (words : List ℕ) → length words ≤ sizeOf (unitOf (wordsOf 2 flash)) s
+    → storeWords 2 (laid (wordsOf 2 flash) (startOf (unitOf (wordsOf 2 flash)) s) words) flash ≡ laid flash (sectorByte flash s) (bytesOf 2 words)
+sector-laid flash b s words room =
+    store-laid flash (startOf (unitOf (wordsOf 2 flash)) s) words b (omega (arith, sector-fits (unitOf (wordsOf 2 flash)) s))
+    ∙ ap (λ (u : ℕ). laid flash (startOf u s * 2) (bytesOf 2 words)) (unit-is flash)
 
 -- an entry that is made leaves what its call does
 module _ (e : Entry) (state flash : List ℕ) (c : InC e) (st : Stands state flash) (m : Made e state flash) where
@@ -125,10 +120,9 @@ module _ (state flash : List ℕ) (st : Stands state flash) (clock link bc error
   -- what it lays
   lays-bytes : Made asks state flash → (s : ℕ) (words : List ℕ) → WordsLay (lent (wordsOf 2 flash) (memoryWords m) (furtherWords x) (replyWords reply)) does s words → Lays flash (answerOf entries asks state flash) s words
   lays-bytes made s words l =
-      let bench = request-fine link _ state _ _ _ _ _ _ _ (made .fine) .bench in
       record {
         number = made .number ∙ ap answerNumber (l .answer);
-        bytes = made .words (st .below) ∙ ap (λ (x : List ℕ). storeWords 2 x flash) (l .flash) ∙ sector-laid flash (st .below) bench s words (l .room);
+        bytes = made .words (st .below) ∙ ap (λ (x : List ℕ). storeWords 2 x flash) (l .flash) ∙ sector-laid flash (st .below) s words (l .room);
       }
 
   request-lays : (answerOf entries asks state flash .runs .flash ≡ flash)
@@ -149,24 +143,24 @@ pub flash-follows : FlashFollows entries
 flash-follows state flash hosted clock link bc errors packet m x reply = request-lays state flash (hosted-stands hosted) clock link bc errors packet m x reply
 
 -- the bytes that a step sets, by what the state bytes say is being erased
-set-bytes : (state flash : List ℕ) → Below 256 flash → length flash / 2 ≡ 32768 → (budget : ℕ) (t : Bool) → eqb (sectorIn state) 0 ≡ t
+set-bytes : (state flash : List ℕ) → Below 256 flash → (budget : ℕ) (t : Bool) → eqb (sectorIn state) 0 ≡ t
     → Blank (pick t Erasing.Nothing (Erasing.Sector (progressIn state))) (wordsOf 2 flash)
     → storeWords 2 (erased (wordsOf 2 flash) (pick t Erasing.Nothing (Erasing.Sector (progressIn state))) budget) flash
-    ≡ laid flash (stepByte state) (blankBytes (eraseCount 2048 (pick t Erasing.Nothing (Erasing.Sector (progressIn state))) budget))
+    ≡ laid flash (stepByte state flash) (blankBytes (eraseCount (unitIn flash) (pick t Erasing.Nothing (Erasing.Sector (progressIn state))) budget))
 unfolding erased eraseCount
-set-bytes state flash b bench budget true e blank = bytes-kept 2 flash b ∙ laid-none flash (stepByte state)
-set-bytes state flash b bench budget false e blank =
+set-bytes state flash b budget true e blank = bytes-kept 2 flash b ∙ laid-none flash (stepByte state flash)
+set-bytes state flash b budget false e blank =
     let p : Progress = progressIn state in
     let words : List ℕ = wordsOf 2 flash in
-    let u = unit flash b bench in
+    let u = unit-is flash in
     let count : ℕ = min budget (restOf (unitOf words) p) in
     let below = blank .1 .below in
     let r = length-replicate {A = ℕ} count 0xFFFF in
-    let at : (startOf 2048 (p .sector) + p .done) * 2 ≡ stepByte state = omega arith in
+    let at : (startOf (unitIn flash) (p .sector) + p .done) * 2 ≡ stepByte state flash = omega arith in
     store-laid flash (startOf (unitOf words) (p .sector) + p .done) (blanks count) b (omega (arith, sector-fits (unitOf words) (p .sector)))
     ∙ ap (laid flash ((startOf (unitOf words) (p .sector) + p .done) * 2)) (blank-is count)
     ∙ ap (λ (k : ℕ). laid flash ((startOf k (p .sector) + p .done) * 2) (blankBytes (min budget (restOf k p)))) u
-    ∙ ap (λ (k : ℕ). laid flash k (blankBytes (min budget (restOf 2048 p)))) at
+    ∙ ap (λ (k : ℕ). laid flash k (blankBytes (min budget (restOf (unitIn flash) p)))) at
 
 -- an erase entry
 module _ (state flash : List ℕ) (st : Stands state flash) (budget : ℕ) where
@@ -176,8 +170,7 @@ module _ (state flash : List ℕ) (st : Stands state flash) (budget : ℕ) where
   erase-goes-on : InC step → isDone (numberAfter entries step state flash) ≡ true → GoesOn budget state flash (answerOf entries step state flash)
   erase-goes-on c done =
       let made = done-made step state flash done in
-      let bench = erase-fine state (length flash / 2) (made .fine) .0 in
-      let u = unit flash (st .below) bench in
+      let u = unit-is flash in
       let g = words-follow .erase (nodeIn state) budget (wordsOf 2 flash) (done-taken (answerIn step state flash) (ap isDone (sym (made .number)) ∙ done)) in
       record {
         erasing = erasing-after step state flash c st made ∙ g .erasing ∙ (λ i. erasingAfter (u i) (erasing-is state i) budget);
@@ -186,7 +179,7 @@ module _ (state flash : List ℕ) (st : Stands state flash) (budget : ℕ) where
             made .words (st .below)
             ∙ ap (λ (x : List ℕ). storeWords 2 x flash) (g .words)
             ∙ ap (λ (e : Erasing). storeWords 2 (erased (wordsOf 2 flash) e budget) flash) (erasing-is state)
-            ∙ set-bytes state flash (st .below) bench budget (eqb (sectorIn state) 0) refl
+            ∙ set-bytes state flash (st .below) budget (eqb (sectorIn state) 0) refl
             (subst (λ (e : Erasing). Blank e (wordsOf 2 flash)) (erasing-is state) (reached-sound (st .reached) .fresh .blank));
       }
 
@@ -238,13 +231,6 @@ size-is : (state : List ℕ) → nodeIn state .given .«flash_words» ≡ sizeIn
 unfolding nodeIn
 size-is state = refl
 
-odd-size : (n : ℕ) → n / 2 ≡ 32768 → (n ≡ 65536 → ⊥) → n ≡ 65537
-odd-size n h e = by (ℕ-discrete n 65537)
-  where
-    by : Dec (n ≡ 65537) → n ≡ 65537
-    by (Dec.yes q) = q
-    by (Dec.no q) = absurd (e (omega arith))
-
 -- erase progress is never refused: the bytes are a state's, and the flash has the size used at start
 erase-done : (state flash : List ℕ) → Stands state flash → (budget : ℕ) → isDone (numberAfter entries (Entry.Erase budget) state flash) ≡ true
 erase-done state flash st budget = eq-eqb (number % 256) 0 (none (number % 256) (refused-exactly .erase budget state flash .0 (number % 256) .0 refl))
@@ -255,12 +241,8 @@ erase-done state flash st budget = eq-eqb (number % 256) 0 (none (number % 256) 
     size : length flash / 2 ≡ sizeIn state
     size = sym (length-words-of 2 flash) ∙ sym (reached-sound (st .reached) .valid .size) ∙ size-is state
 
-    even : Dec (length flash ≡ 65536) → (length flash ≡ 65536) ⊎ (length flash ≡ 65537)
-    even (Dec.yes e) = inl e
-    even (Dec.no e) = inr (odd-size (length flash) (st .bench) e)
-
     none : (i : ℕ) → FirstOf (eraseCauses state flash) i → i ≡ 0
-    none i (inl h) = absurd (⊎-elim (λ k. k (even (ℕ-discrete (length flash) 65536))) (λ k. k .1 size) (h .1))
+    none i (inl h) = absurd (⊎-elim (λ k. k (bytes-tell (length flash) (st .sized))) (λ k. k .1 size) (h .1))
     none i (inr h) = ⊎-elim (λ k. absurd (k .1 (state-bytes-exactly .passes state .0 (st .bytes)))) (λ k. sym (k .1)) (h .1)
 
 -- what a number counts is what the answer does
@@ -326,6 +308,7 @@ record Carried (size : ℕ) (state flash later after : List ℕ) (given counted 
   stands : Stands later after
   course : WordsCourse logodwen size (nodeIn state) (wordsOf 2 flash) (nodeIn later) (wordsOf 2 after) given counted
   stored : after ≡ storeWords 2 (wordsOf 2 after) flash
+  same : length (wordsOf 2 after) ≡ length (wordsOf 2 flash)
 
 -- the budget and the start of an entry are those of its call
 budget-is : (e : Entry) → budgetOf e ≡ budgetWords (onWords e)
@@ -371,6 +354,7 @@ module _ (size : ℕ) (state flash : List ℕ) where
             ∙ ap (storeWords 2 left) (k .stored)
             ∙ store-again left (wordsOf 2 now) flash same
             ∙ ap (λ (x : List ℕ). storeWords 2 x flash) (sym (moved .words));
+        same = ap length (moved .words) ∙ same ∙ k .same;
       }
 
   -- nothing given and nothing counted
@@ -396,7 +380,7 @@ module _ (size : ℕ) (state flash : List ℕ) where
       none (Entry.Slow clock list) q = refl
 
   course-carried : {later after : List ℕ} {given counted : ℕ} → Stands state flash → Course entries size state flash later after given counted → CarriedTo later after given counted
-  course-carried st Course.Begun = record { stands = st; course = WordsCourse.Begun; stored = sym (bytes-kept 2 flash (st .below)) }
+  course-carried st Course.Begun = record { stands = st; course = WordsCourse.Begun; stored = sym (bytes-kept 2 flash (st .below)); same = refl }
   course-carried st (Course.Then {later = later} {now = now} {given = given} {counted = counted} r less (HostStep.Made e c) s) = by (isDone (numberAfter entries e later now)) refl (course-carried st r)
     where
       by : (t : Bool) → isDone (numberAfter entries e later now) ≡ t → CarriedTo later now given counted
@@ -409,28 +393,28 @@ module _ (size : ℕ) (state flash : List ℕ) where
       subst (λ (x : List ℕ). CarriedTo later x (given + 0) (counted + 0)) (sym (undone-flash e other now h)) (none-carried later now given counted (course-carried st r))
 
 -- where it has come, by bytes
-has-set : (state flash later after : List ℕ) (s given counted : ℕ) → length flash / 2 ≡ 32768 → Below 256 flash → Carried (sizeOf 2048 s) state flash later after given counted
+has-set : (state flash later after : List ℕ) (s given counted : ℕ) → Below 256 flash → Carried (sizeOf (unitIn flash) s) state flash later after given counted
     → WordsHaveSet s (wordsOf 2 flash) (nodeIn later) (wordsOf 2 after) given counted → HasSet s flash later after given counted
-has-set state flash later after s given counted bench b k h =
-    let u = unit flash b bench in
-    let size : sizeOf (unitOf (wordsOf 2 flash)) s ≡ sizeOf 2048 s = ap (λ (x : ℕ). sizeOf x s) u in
+has-set state flash later after s given counted b k h =
+    let size : sizeOf (unitOf (wordsOf 2 flash)) s ≡ sizeOf (unitIn flash) s = ap (λ (x : ℕ). sizeOf x s) (unit-is flash) in
     let set : ℕ = min given (sizeOf (unitOf (wordsOf 2 flash)) s) in
     let r = length-replicate {A = ℕ} set 0xFFFF in
     let bytes =
     k .stored
     ∙ ap (λ (x : List ℕ). storeWords 2 x flash) (h .words)
-    ∙ sector-laid flash b bench s (blanks set) (omega arith)
-    ∙ ap (laid flash (sectorByte s)) (blank-is set)
-    ∙ ap (λ (x : ℕ). laid flash (sectorByte s) (blankBytes (min given x))) size in
+    ∙ sector-laid flash b s (blanks set) (omega arith)
+    ∙ ap (laid flash (sectorByte flash s)) (blank-is set)
+    ∙ ap (λ (x : ℕ). laid flash (sectorByte flash s) (blankBytes (min given x))) size in
+    let stays : length after ≡ length flash = ap length (k .stored) ∙ length-store 2 (wordsOf 2 after) flash (omega (arith, k .same, length-words-of 2 flash)) in
     record {
       bytes = bytes;
       count = h .count ∙ ap (min given) size;
       going = λ q. sym (erasing-is later) ∙ h .going (omega arith);
       over = λ q. idle-byte later (h .over (omega arith));
       empty = λ q.
-          sector-bytes after (k .stands .below) (k .stands .bench) s
+          sector-bytes after (k .stands .below) s
           ∙ empty-bytes (sectorOf (wordsOf 2 after) s) (h .empty (omega arith))
-          ∙ ap (λ (x : ℕ). replicate (x * 2) 0xFF) (length-sector (wordsOf 2 after) s ∙ ap (λ (x : ℕ). sizeOf x s) (unit after (k .stands .below) (k .stands .bench)));
+          ∙ ap (λ (x : ℕ). replicate (x * 2) 0xFF) (length-sector (wordsOf 2 after) s ∙ ap (λ (x : ℕ). sizeOf x s) (unit-is after) ∙ ap (λ (x : ℕ). sizeOf (x / 32) s) stays);
     }
 
 pub erases : Erases entries
@@ -454,9 +438,9 @@ erases =
           let b = begins-bytes state flash st clock link bc errors packet m x reply c made
           (words-erase .begins (nodeIn state) clock link bc (isSet errors) (wordsOf 2 packet) (lent (wordsOf 2 flash) (memoryWords m) (furtherWords x) (replyWords reply)) command (ended-answer erase state flash h)) in
           let begun : Stands (stateAfter entries erase state flash) flash = subst (Stands (stateAfter entries erase state flash)) (b .kept) (moved .stands) in
-          let k = course-carried (sizeOf 2048 s) (stateAfter entries erase state flash) flash begun course in
-          let u = unit flash (st .below) (st .bench) in
-          has-set (stateAfter entries erase state flash) flash later after s given counted (st .bench) (st .below) k
+          let k = course-carried (sizeOf (unitIn flash) s) (stateAfter entries erase state flash) flash begun course in
+          let u = unit-is flash in
+          has-set (stateAfter entries erase state flash) flash later after s given counted (st .below) k
           (words-erase .sets (nodeIn state) clock link bc (isSet errors) (wordsOf 2 packet) (lent (wordsOf 2 flash) (memoryWords m) (furtherWords x) (replyWords reply)) s command (ended-answer erase state flash h) named
           (nodeIn later) (wordsOf 2 after) given counted
           (subst (λ (n : Node). WordsCourse logodwen (sizeOf (unitOf (wordsOf 2 flash)) s) n (wordsOf 2 flash) (nodeIn later) (wordsOf 2 after) given counted) (moved .node)

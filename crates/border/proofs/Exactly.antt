@@ -3,7 +3,7 @@
 use Prim.Native.Nat.{ℕ, _*_, _/_, _%_, _≤_, _<_}
 use native.Mathlib.Omega.{arith}
 use mathlib.Core.Path.{_≡_, refl, sym, ap, _∙_}
-use mathlib.Core.Logic.{_⊎_, inl, inr}
+use mathlib.Core.Logic.{_⊎_}
 use mathlib.Core.Bool.{Bool, true, false, _||_, not, false≢true}
 use mathlib.Core.List.{List, [], _∷_}
 use lib.ListN.{length}
@@ -35,29 +35,18 @@ use Rattle.demands.proofs.Taken.{verdictOn, requestEffect, request-taken, reply
 use Rattle.codec.specs.Bytes.{numberAt, wordsOf}
 use Rattle.codec.specs.StateBytes.{sizeIn, portsIn, listedIn, tallyOf, waitIn, nodeIn}
 use Rattle.logodwen.specs.Number.{answerNumber}
-use Rattle.logodwen.specs.Causes.{benchCause as benchTest, memoriesCause as memoriesTest, lengthCause as lengthTest, recordsCause as recordsTest, portCause as portTest, bytesCause as bytesTest, requestCheck, replyCheck, pollCheck, eraseCheck, slowCheck, startCheck}
+use Rattle.logodwen.specs.Causes.{bytesOk, flashCause as sizeTest, memoriesCause as memoriesTest, lengthCause as lengthTest, recordsCause as recordsTest, portCause as portTest, bytesCause as bytesTest, requestCheck, replyCheck, pollCheck, eraseCheck, slowCheck, startCheck}
 use Rattle.touch.specs.InBytes.{replyWords, runWords}
 use Rattle.logodwen.specs.Entry.{Answered, entered, isSet, startEntry, requestEntry, replyEntry, pollEntry, eraseEntry, slowEntry}
 use Rattle.codec.specs.declared.Wait.{Wait}
-use Rattle.border.specs.Exactly.{entries, Above, BenchSize, Pends, Asks, startCauses, requestCauses, replyCauses, pollCauses, eraseCauses, slowCauses, Exactly, Unchanged, RefusedExactly}
+use Rattle.border.specs.Exactly.{entries, Above, FlashSize, Pends, Asks, startCauses, requestCauses, replyCauses, pollCauses, eraseCauses, slowCauses, Exactly, Unchanged, RefusedExactly}
 use Rattle.border.proofs.Fine.{request-fine, reply-fine, poll-fine, erase-fine, slow-fine, start-fine}
 use Rattle.border.proofs.OfState.{state-bytes-tell}
 
--- tests on words decide causes on bytes
+-- tests on words, and on the count of a flash's bytes, decide causes on bytes
 
-bench-tells : (flash : List ℕ) → Tells (eqb (length flash / 2) 32768) (BenchSize flash)
-bench-tells flash = same-tells long words (eqb-tells (length flash / 2) 32768)
-  where
-    long : length flash / 2 ≡ 32768 → BenchSize flash
-    long h = by (eqb (length flash) 65536) (eqb-tells (length flash) 65536)
-      where
-        by : (t : Bool) → Tells t (length flash ≡ 65536) → BenchSize flash
-        by true p = inl (p .told refl)
-        by false p = inr (let odd : length flash ≡ 65536 → ⊥ = λ e. false≢true (p .tells e) in omega (arith, odd))
-
-    words : BenchSize flash → length flash / 2 ≡ 32768
-    words (inl e) = omega arith
-    words (inr e) = omega arith
+size-tells : (flash : List ℕ) → Tells (bytesOk (length flash)) (FlashSize flash)
+size-tells flash = or-tells (eqb-tells (length flash) 65536) (eqb-tells (length flash) 524288)
 
 -- what is looked at only where the state bytes are 192
 where-tells : {t u : Bool} {A B : Type 0} → Tells t A → Tells u B → Tells (not (pick t u true)) (A × (B → ⊥))
@@ -72,10 +61,10 @@ where-tells {t} {u} {A} {B} p q = record { told = left t p; tells = right t p }
     right false p′ x = absurd (false≢true (p′ .tells (x .0)))
 
 flash-tells : (state flash : List ℕ)
-    → Tells (benchTest state (length flash / 2) .holds)
-    ((BenchSize flash → ⊥) ⊎ ((length state ≡ 192) × (length flash / 2 ≡ sizeIn state → ⊥)))
+    → Tells (sizeTest state (length flash) .holds)
+    ((FlashSize flash → ⊥) ⊎ ((length state ≡ 192) × (length flash / 2 ≡ sizeIn state → ⊥)))
 flash-tells state flash =
-    or-tells (not-tells (bench-tells flash)) (where-tells (eqb-tells (length state) 192) (eqb-tells (length flash / 2) (sizeIn state)))
+    or-tells (not-tells (size-tells flash)) (where-tells (eqb-tells (length state) 192) (eqb-tells (length flash / 2) (sizeIn state)))
 
 short-tells : (words : ℕ) (run : List ℕ) → Tells (ltb (length run / 2) words) (length run < 2 * words)
 short-tells words run = same-tells (λ h. omega arith) (λ h. omega arith) (ltb-tells (length run / 2) words)
@@ -194,12 +183,12 @@ request-exactly clock link bc errors packet state runs =
     let e = isSet errors in
     let words = wordsOf 2 packet in
     let lent = runWords runs in
-    let flash = length (runs .flash) / 2 in
+    let flash = length (runs .flash) in
     let pm = length (runs .memories .pm) / 4 in
     let dm = length (runs .memories .dm) / 2 in
     let io = length (runs .memories .io) / 2 in
     entered-exactly
-    (benchTest state flash ∷ replyTest (length (runs .reply) / 2) ∷ memoriesTest pm dm io ∷ areaTest (length (runs .further .area) / 2)
+    (sizeTest state flash ∷ replyTest (length (runs .reply) / 2) ∷ memoriesTest pm dm io ∷ areaTest (length (runs .further .area) / 2)
     ∷ recordsTest state (length (runs .further .list) / 14) ∷ portTest state link ∷ bytesTest state ∷ busyTest n (length packet / 2) ∷ [])
     (requestCauses link packet state runs) state runs (requestOf n clock link bc e words lent)
     (λ h. judged-taken (verdictOn n link words lent) n lent (requestEffect n clock link bc e words lent)
@@ -283,7 +272,7 @@ unfolding eraseEntry eraseOf eraseCheck
 erase-exactly budget state flash =
     let n = nodeIn state in
     let words = wordsOf 2 flash in
-    entered-exactly (benchTest state (length flash / 2) ∷ bytesTest state ∷ []) (eraseCauses state flash) state (lentFlash flash)
+    entered-exactly (sizeTest state (length flash) ∷ bytesTest state ∷ []) (eraseCauses state flash) state (lentFlash flash)
     (eraseOf n budget words)
     (λ h. judged-taken (eraseVerdict n (length words)) n (lentFlash words) (eraseEffect n budget words) refl (erase-fine state flash h))
     ((refl, flash-tells state flash), ((refl, not-tells (state-bytes-tell state)), tt))
@@ -319,7 +308,7 @@ start-exactly kind ports subdetector program version tests clock flash state =
 
     causes : List Test
     causes =
-        test Refusal.FlashSize (not (eqb (length flash / 2) 32768))
+        test Refusal.FlashSize (not (bytesOk (length flash)))
         ∷ test Refusal.Number (not (portsOk ports) || not (kindOk kind) || ltb 7 subdetector)
         ∷ test Refusal.State (not (eqb (length state) 192))
         ∷ []
@@ -333,7 +322,7 @@ start-exactly kind ports subdetector program version tests clock flash state =
     exactly : Exactly (startCauses kind ports subdetector flash state) (a .number % 256) × Unchanged a state (lentReply [])
     exactly =
         entered-exactly causes (startCauses kind ports subdetector flash state) state (lentReply []) o (λ h. ap isRefused (done h)) (
-          (refl, not-tells (bench-tells flash)),
+          (refl, not-tells (size-tells flash)),
           (
             (refl, or-tells (or-tells (not-tells (ports-tells ports)) (not-tells (kind-tells kind))) (ltb-tells 7 subdetector)),
             ((refl, not-tells (eqb-tells (length state) 192)), tt),

@@ -3,12 +3,12 @@
 use Prim.Native.Nat.{ℕ, _/_, _≤_}
 use native.Mathlib.Omega.{arith}
 use mathlib.Core.Path.{_≡_, ap, _∙_}
-use mathlib.Core.Bool.{Bool, false, _||_, not}
+use mathlib.Core.Bool.{Bool, true, false, _||_, not}
 use mathlib.Core.List.{List, [], _∷_}
 use lib.ListN.{length, take}
 use lib.Seq.{length-take-le}
 use lib.Dec.{ltb, eqb}
-use borrow.Author.Tests.{ltb-false, eqb-true, not-false}
+use borrow.Author.Tests.{ltb-false, not-false}
 use Rattle.node.specs.Effect.{Lent}
 use Rattle.node.specs.Valid.{sizeOk, kindOk, portsOk}
 use Rattle.node.specs.Refusals.{cause, flashCause, replyCause, memoryCause, areaCause, listCause, linkCause, slaveCause, stateCause, busyCause, pollCause, unaskedCause, requestVerdict, replyVerdict, pollVerdict, eraseVerdict, slowVerdict, startVerdict}
@@ -19,10 +19,11 @@ use Rattle.qlist.specs.Words.{recordsIn}
 use Rattle.demands.proofs.Taken.{verdictOn}
 use Rattle.codec.specs.Bytes.{wordsOf}
 use Rattle.codec.specs.StateBytes.{nodeIn}
-use Rattle.logodwen.specs.Causes.{benchCause, memoriesCause, lengthCause, recordsCause, portCause, bytesCause, requestCheck, replyCheck, pollCheck, eraseCheck, slowCheck, startCheck}
+use Rattle.logodwen.specs.Causes.{bytesOk, flashCause as sizeCause, memoriesCause, lengthCause, recordsCause, portCause, bytesCause, requestCheck, replyCheck, pollCheck, eraseCheck, slowCheck, startCheck}
 use Rattle.touch.specs.InBytes.{replyWords, runWords}
 use Rattle.codec.proofs.Runs.{length-words-of}
 use Rattle.touch.proofs.Beside.{none-refuses}
+use Rattle.logodwen.proofs.Entering.{bytes-size}
 use Rattle.logodwen.proofs.Fine.{state-no, flash-no, memory-no, records-no, link-no, slow-verdict}
 
 -- the lent part of a reply buffer that passes refusal 2 is long enough
@@ -41,7 +42,7 @@ records-are list = omega (arith, length-words-of 2 list)
 -- the six entries
 
 pub request-fine : (link : ℕ) (packet state : List ℕ) (runs : Lent)
-    → requestCheck link (length packet / 2) state (length (runs .flash) / 2) (length (runs .memories .pm) / 4)
+    → requestCheck link (length packet / 2) state (length (runs .flash)) (length (runs .memories .pm) / 4)
     (length (runs .memories .dm) / 2) (length (runs .memories .io) / 2) (length (runs .further .area) / 2)
     (length (runs .further .list) / 14) (length (runs .reply) / 2)
     ≡ Verdict.Fine
@@ -49,7 +50,7 @@ pub request-fine : (link : ℕ) (packet state : List ℕ) (runs : Lent)
 unfolding requestCheck requestVerdict
 request-fine link packet state runs h =
     let n = nodeIn state in
-    let flash = length (runs .flash) / 2 in
+    let flash = length (runs .flash) in
     let pm = length (runs .memories .pm) / 4 in
     let dm = length (runs .memories .dm) / 2 in
     let io = length (runs .memories .io) / 2 in
@@ -57,7 +58,7 @@ request-fine link packet state runs h =
     let records = length (runs .further .list) / 14 in
     let none =
     fine-tells
-    (benchCause state flash ∷ replyCause (length (runs .reply) / 2) ∷ memoriesCause pm dm io ∷ areaCause area ∷ recordsCause state records ∷ portCause state link
+    (sizeCause state flash ∷ replyCause (length (runs .reply) / 2) ∷ memoriesCause pm dm io ∷ areaCause area ∷ recordsCause state records ∷ portCause state link
     ∷ bytesCause state ∷ busyCause n (length packet / 2) ∷ [])
     h in
     let s = none .1 .1 .1 .1 .1 .1 .0 in
@@ -65,7 +66,7 @@ request-fine link packet state runs h =
     (length-words-of 2 (runs .memories .dm) i) (length-words-of 2 (runs .memories .io) i) (length-words-of 2 (runs .further .area) i)
     (records-are (runs .further .list) i) (length (replyWords (runs .reply))))
     ∙ none-refuses
-    (flashCause n flash ∷ replyCause (length (replyWords (runs .reply))) ∷ memoryCause pm dm io ∷ areaCause area ∷ listCause n records ∷ linkCause n link
+    (flashCause n (flash / 2) ∷ replyCause (length (replyWords (runs .reply))) ∷ memoryCause pm dm io ∷ areaCause area ∷ listCause n records ∷ linkCause n link
     ∷ stateCause n ∷ busyCause n (length packet / 2) ∷ []) (
       flash-no state flash s (none .0),
       (
@@ -95,45 +96,42 @@ poll-fine state reply h =
     none-refuses (replyCause (length (replyWords reply)) ∷ stateCause n ∷ pollCause n ∷ [])
     (buffer-no reply (none .0), (state-no state (none .1 .0), (none .1 .1 .0, tt)))
 
-pub erase-fine : (state flash : List ℕ) → eraseCheck state (length flash / 2) ≡ Verdict.Fine
+pub erase-fine : (state flash : List ℕ) → eraseCheck state (length flash) ≡ Verdict.Fine
     → eraseVerdict (nodeIn state) (length (wordsOf 2 flash)) ≡ Verdict.Fine
 unfolding eraseCheck eraseVerdict
 erase-fine state flash h =
     let n = nodeIn state in
-    let none = fine-tells (benchCause state (length flash / 2) ∷ bytesCause state ∷ []) h in
+    let none = fine-tells (sizeCause state (length flash) ∷ bytesCause state ∷ []) h in
     ap (eraseVerdict n) (length-words-of 2 flash)
     ∙ none-refuses (flashCause n (length flash / 2) ∷ stateCause n ∷ [])
-    (flash-no state (length flash / 2) (none .1 .0) (none .0), (state-no state (none .1 .0), tt))
+    (flash-no state (length flash) (none .1 .0) (none .0), (state-no state (none .1 .0), tt))
 
 pub slow-fine : (state list : List ℕ) → slowCheck state (length list / 14) ≡ Verdict.Fine → slowVerdict (nodeIn state) (recordsIn (wordsOf 2 list)) ≡ Verdict.Fine
 slow-fine state list h = ap (slowVerdict (nodeIn state)) (records-are list) ∙ slow-verdict state (length list / 14) h
 
-pub start-bench : (kind ports subdetector : ℕ) (state flash : List ℕ)
-    → startCheck kind ports subdetector state (length flash / 2) ≡ Verdict.Fine → length flash / 2 ≡ 32768
+pub start-sized : (kind ports subdetector : ℕ) (state flash : List ℕ)
+    → startCheck kind ports subdetector state (length flash) ≡ Verdict.Fine → bytesOk (length flash) ≡ true
 unfolding startCheck
-start-bench kind ports subdetector state flash h =
-    let words = length flash / 2 in
+start-sized kind ports subdetector state flash h =
     let numbers : Bool = not (portsOk ports) || not (kindOk kind) || ltb 7 subdetector in
     let none =
     fine-tells
-    (cause Refusal.FlashSize (not (eqb words 32768)) ∷ cause Refusal.Number numbers
+    (cause Refusal.FlashSize (not (bytesOk (length flash))) ∷ cause Refusal.Number numbers
     ∷ cause Refusal.State (not (eqb (length state) 192)) ∷ [])
     h in
-    eqb-true words 32768 (not-false (eqb words 32768) (none .0))
+    not-false (bytesOk (length flash)) (none .0)
 
 pub start-fine : (kind ports subdetector : ℕ) (state flash : List ℕ)
-    → startCheck kind ports subdetector state (length flash / 2) ≡ Verdict.Fine
+    → startCheck kind ports subdetector state (length flash) ≡ Verdict.Fine
     → startVerdict kind ports subdetector (length (wordsOf 2 flash)) ≡ Verdict.Fine
 unfolding startCheck startVerdict
 start-fine kind ports subdetector state flash h =
-    let words = length flash / 2 in
     let numbers : Bool = not (portsOk ports) || not (kindOk kind) || ltb 7 subdetector in
     let none =
     fine-tells
-    (cause Refusal.FlashSize (not (eqb words 32768)) ∷ cause Refusal.Number numbers
+    (cause Refusal.FlashSize (not (bytesOk (length flash))) ∷ cause Refusal.Number numbers
     ∷ cause Refusal.State (not (eqb (length state) 192)) ∷ [])
     h in
-    let bench = start-bench kind ports subdetector state flash h in
-    let sized : not (sizeOk words) ≡ false = ap (λ (n : ℕ). not (sizeOk n)) bench in
+    let sized : not (sizeOk (length flash / 2)) ≡ false = ap not (bytes-size (length flash) (start-sized kind ports subdetector state flash h)) in
     ap (startVerdict kind ports subdetector) (length-words-of 2 flash)
-    ∙ none-refuses (cause Refusal.FlashSize (not (sizeOk words)) ∷ cause Refusal.Number numbers ∷ []) (sized, (none .1 .0, tt))
+    ∙ none-refuses (cause Refusal.FlashSize (not (sizeOk (length flash / 2))) ∷ cause Refusal.Number numbers ∷ []) (sized, (none .1 .0, tt))

@@ -463,7 +463,7 @@ module _ (r : GroupRun entries) where
   long =
       let m = r .memories in
       let f =
-      request-fine (r .link) (length (r .packet) / 2) (r .state) (length (r .flash) / 2) (length (m .pm) / 4) (length (m .dm) / 2)
+      request-fine (r .link) (length (r .packet) / 2) (r .state) (length (r .flash)) (length (m .pm) / 4) (length (m .dm) / 2)
       (length (m .io) / 2) (length (r .further .area) / 2) (length (r .further .list) / 14) (length (r .buffer) / 2) (made .fine) in
       omega (arith, f .buffer)
 

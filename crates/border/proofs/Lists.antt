@@ -1,8 +1,9 @@
 -- What a list of requests keeps of a node and its flash bytes: a state that is reached, with that flash; each packet that is done is a request.
 -- Assumes nothing.
 use Prim.Native.Nat.{ℕ, _+_, _*_, _/_, _<_}
+use native.Mathlib.Omega.{arith}
 use mathlib.Core.Path.{_≡_, sym, ap, _∙_, subst}
-use mathlib.Core.Bool.{false}
+use mathlib.Core.Bool.{true, false}
 use mathlib.Core.List.{List, [], _∷_}
 use lib.ListN.{length, drop}
 use Rattle.base.specs.Words.{Below, part}
@@ -17,9 +18,10 @@ use Rattle.demands.specs.Machine.{Call, logodwen, flashOf}
 use Rattle.demands.specs.Reached.{Step as Called, Reached}
 use Rattle.demands.proofs.Lists.{reply-case}
 use Rattle.codec.specs.Bytes.{wordsOf, storeWords}
-use Rattle.codec.proofs.Runs.{length-words-of}
+use Rattle.codec.proofs.Runs.{length-words-of, length-store}
 use Rattle.touch.specs.InBytes.{memoryWords, furtherWords, replyWords, runWords}
 use Rattle.rows.specs.Rows.{stepIn}
+use Rattle.logodwen.specs.Causes.{bytesOk}
 use Rattle.border.proofs.Runs.{words-of-below, stored-words, stored-below}
 use Rattle.border.proofs.Flash.{flash-below, flash-size}
 use Rattle.border.proofs.Typed.{Small, call-small}
@@ -29,7 +31,7 @@ pub record Keeps (n : Node) (flash : List ℕ) : Type 0 where
   pub reached : Reached logodwen n (wordsOf 2 flash)
   pub small : Small n
   pub below : Below 256 flash
-  pub bench : length flash / 2 ≡ 32768
+  pub sized : bytesOk (length flash) ≡ true
 
 -- with the area's bytes, which a write in packets reads
 pub record In (k : Kept) : Type 0 where
@@ -66,7 +68,7 @@ module _ (clock : ℕ) (packets : List ℕ) (now : clock < 4294967296) (small : 
           reached = subst (Reached logodwen (asked .turn .node)) (sym read) (Reached.Then (h .keeps .reached) (Called.Made call packet-below));
           small = call-small call (k .node) (wordsOf 2 flash) now (h .keeps .small);
           below = stored-below left flash (h .keeps .below);
-          bench = sym (length-words-of 2 (storeWords 2 left flash)) ∙ ap length read ∙ size ∙ h .keeps .bench;
+          sized = ap bytesOk (length-store 2 left flash (omega (arith, size))) ∙ h .keeps .sized;
         }
 
   pub step-keeps : (k : Kept) (p : Packet) → In k → In (stepIn clock packets k p .after)

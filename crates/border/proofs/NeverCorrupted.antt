@@ -99,9 +99,9 @@ unfolding isSector
 entry-within s i p l = let most = leb-true s 10 (and-right (leb 3 s) (leb s 10) p) in omega arith
 
 -- a good file that a command names by words, it names by bytes
-module _ (state flash : List ℕ) (h : areState state ≡ true) (b : Below 256 flash) (bench : length flash / 2 ≡ 32768) (s : ℕ) where
+module _ (state flash : List ℕ) (h : areState state ≡ true) (b : Below 256 flash) (s : ℕ) where
   fresh-is : entryFor (nodeIn state .erasing) s (sectorOf (wordsOf 2 flash) s) ≡ entryFor (erasingIn state) s (wordsOf 2 (inSector flash s))
-  fresh-is = λ i. entryFor (erasing-is state i) s (sym (sector-words flash b bench s) i)
+  fresh-is = λ i. entryFor (erasing-is state i) s (sym (sector-words flash b s) i)
 
   byte-same : (i : ℕ) → isSector s ≡ true → i < 8
       → getD (nodeIn state .directory) (entryPlace s + i / 2) 0
@@ -141,7 +141,7 @@ module _ (state flash : List ℕ) (h : areState state ≡ true) (b : Below 256 f
     blank-byte : (i : ℕ) → length file * 2 ≤ i → i < length (inSector flash s) → getD (inSector flash s) i 0 ≡ 0xFF
     blank-byte i p q =
         let words : List ℕ = sectorOf (wordsOf 2 flash) s in
-        let e = sector-bytes flash b bench s in
+        let e = sector-bytes flash b s in
         let j : ℕ = i / 2 - length file in
         let place : length file + j ≡ i / 2 = omega arith in
         let within : j < length (drop (length file) words) = omega (arith, length-drop (length file) words, ap length e, length-bytes 2 words) in
@@ -159,7 +159,7 @@ module _ (state flash : List ℕ) (h : areState state ≡ true) (b : Below 256 f
           valid = subst IsFile (sym file-is) (names .valid);
           stands =
               ap (λ (k : ℕ). take k (inSector flash s)) long
-              ∙ ap (take (length file * 2)) (sector-bytes flash b bench s)
+              ∙ ap (take (length file * 2)) (sector-bytes flash b s)
               ∙ sym (bytes-take (length file) (sectorOf (wordsOf 2 flash) s))
               ∙ ap (bytesOf 2) (names .stands);
           blank = λ i p q. blank-byte i (omega (arith, long)) q;
@@ -188,12 +188,12 @@ asked-is {packet} {header} (inr e) =
     let k = ap length e in
     record { word = 0x462E; words = ap (wordsOf 2) e ∙ load-words header; command = λ bc b i. (eqb (b i) 3 && false) || (eqb (b i) 3 && true); size = omega arith }
 
--- a request that is done, on a flash of bench size
+-- a request that is done
 module _ (clock link bc errors : ℕ) (packet state flash : List ℕ) (m : Memories) (x : Further) (reply : List ℕ) where
   abbrev asks : Entry
   asks = Entry.Request clock link bc errors packet m x reply
 
-  fine : Made asks state flash → RequestFine state (length flash / 2) (length (m .pm) / 4) (length (m .dm) / 2) (length (m .io) / 2) (length (x .area) / 2) (length (x .list) / 14) (length reply / 2)
+  fine : Made asks state flash → RequestFine state (length flash) (length (m .pm) / 4) (length (m .dm) / 2) (length (m .io) / 2) (length (x .area) / 2) (length (x .list) / 14) (length reply / 2)
   fine made = request-fine link _ state _ _ _ _ _ _ _ (made .fine)
 
   -- nothing laid leaves the reply
@@ -219,7 +219,7 @@ aborts clock link bc packet header state flash m x reply s c b p one whole free 
     let does =
     words-never .aborts (nodeIn state) clock link bc false (wordsOf 2 packet) (runWords (lent flash m x reply)) s command d
     (length-words-of 2 packet ∙ size) (no-erasing state quiet) (named-by state packet header (a .word) (a .words) ∙ named)
-    (λ file names. bad (bytesOf 2 file) (names-bytes state flash (f .bytes) b (f .bench) s packet header (a .word) (a .words) file names)) in
+    (λ file names. bad (bytesOf 2 file) (names-bytes state flash (f .bytes) b s packet header (a .word) (a .words) file names)) in
     made .does
     ∙ ap (λ (o : Outcome). told (inBytes o (lent flash m x reply))) does
     ∙ (λ i. answered abortNumber (fault-bytes state (f .bytes) i)
@@ -253,10 +253,10 @@ hands-out clock link bc errors header state flash m x reply code words c b whole
         record {
           sector = did .sector;
           file = bytesOf 2 (did .file);
-          names = names-bytes state flash (f .bytes) b (f .bench) (did .sector) (fileRead header) header 0x052E (read-words header) (did .file) (did .names);
+          names = names-bytes state flash (f .bytes) b (did .sector) (fileRead header) header 0x052E (read-words header) (did .file) (did .names);
           is =
               handed-bytes clock link bc errors (fileRead header) m x reply state flash done c b (did .file) (omega arith) (did .is)
-              ∙ ap (handed state (lent flash m x reply)) (sym (file-is state flash (f .bytes) b (f .bench) (did .sector) (fileRead header) header 0x052E (read-words header) (did .file) (did .names)));
+              ∙ ap (handed state (lent flash m x reply)) (sym (file-is state flash (f .bytes) b (did .sector) (fileRead header) header 0x052E (read-words header) (did .file) (did .names)));
         }
 
     by : isDone number ≡ true → (a : Answer) → answerIn read state flash ≡ a → Says number a × Bounds a → Did handed state header (lent flash m x reply) (answerOf entries read state flash)
@@ -304,13 +304,13 @@ loads clock link bc errors header state flash m x reply c b whole h = by (isDone
         record {
           sector = did .sector;
           file = bytesOf 2 (did .file);
-          names = names-bytes state flash (f .bytes) b (f .bench) (did .sector) (fileLoad header) header 0x462E (load-words header) (did .file) (did .names);
+          names = names-bytes state flash (f .bytes) b (did .sector) (fileLoad header) header 0x462E (load-words header) (did .file) (did .names);
           is =
               made .does
               ∙ ap (λ (o : Outcome). told (inBytes o (lent flash m x reply))) (did .is)
               ∙ (λ i. answered endNumber (encoded-decoded state (f .bytes) i)
               (lent (bytes-kept 2 flash b i) (memoriesLeft (allStored (fileSegments (did .file)) (memoryWords m)) m) (further-kept x (c .8) (c .9) i) (reply-stays clock link bc errors (fileLoad header) state flash m x reply (c .10) (f .buffer) i)))
-              ∙ ap (loaded state (lent flash m x reply)) (sym (file-is state flash (f .bytes) b (f .bench) (did .sector) (fileLoad header) header 0x462E (load-words header) (did .file) (did .names)));
+              ∙ ap (loaded state (lent flash m x reply)) (sym (file-is state flash (f .bytes) b (did .sector) (fileLoad header) header 0x462E (load-words header) (did .file) (did .names)));
         }
 
     changed : isDone (numberAfter entries load state flash) ≡ true → (does .turn .answer ≡ end) ⊎ (does .after .memories ≡ memoryWords m → ⊥)

@@ -5,11 +5,11 @@ use mathlib.Core.Path.{_≡_, refl, sym, ap, _∙_, subst}
 use mathlib.Core.Bool.{Bool, true, false, not, _&&_, false≢true}
 use mathlib.Core.List.{List, [], _∷_, _++_}
 use lib.ListN.{length, length-drop}
-use lib.Dec.{leb, ltb, eqb}
-use borrow.Author.Tests.{eq-eqb, leb-true, leb-false, le-leb, ltb-false}
+use lib.Dec.{leb, ltb}
+use borrow.Author.Tests.{leb-true, leb-false, le-leb, ltb-false}
 use Rattle.base.specs.Pick.{pick}
 use Rattle.base.specs.Words.{Below, part, laid}
-use Rattle.base.proofs.Pick.{yes, no, pick-case, and-left, and-right}
+use Rattle.base.proofs.Pick.{yes, no, pick-case, and-left}
 use Rattle.flash.proofs.Entries.{length-directory}
 use Rattle.group.specs.declared.Reply.{Reply}
 use Rattle.memory.specs.Segment.{Memories}
@@ -33,9 +33,9 @@ use Rattle.codec.proofs.ThereAndBack.{encoded-decoded}
 use Rattle.touch.specs.InBytes.{runWords, runsLeft, inBytes}
 use Rattle.rows.specs.Rows.{onwardIn, stepIn, requestsIn}
 use Rattle.logodwen.specs.Number.{answerNumber}
-use Rattle.logodwen.specs.Causes.{isBench}
+use Rattle.logodwen.specs.Causes.{lentOk}
 use Rattle.logodwen.specs.Entry.{Answered, answered, entered, listed, requestEntry, requestsEntry}
-use Rattle.logodwen.proofs.Entering.{request-fine}
+use Rattle.logodwen.proofs.Entering.{lent-tells, request-fine}
 use Rattle.border.specs.Exactly.{entries}
 use Rattle.border.specs.Series.{Kept as HostKept, kept as hostKept, entryFor, isReply, after, oneByOne, OneByOne}
 use Rattle.border.proofs.Runs.{words-of-below}
@@ -124,7 +124,7 @@ module _ (clock : ℕ) (packets : List ℕ) (k : Kept) (p : Packet) where
         let long : 12288 ≤ length (lends .reply) / 2 = omega (arith, room, length-drop ((k .filled + 2) * 2) (k .runs .reply)) in
         subst (λ (o : Outcome). Makes entry o lends) same
         (entry-makes clock (p .link) (p .bc) (part packets (p .from * 2) (p .words * 2)) held lends
-        (record { bytes = bytes-are; bench = h .keeps .bench; pm-short = w .pm; dm-short = w .dm }) long)
+        (record { bytes = bytes-are; sized = h .keeps .sized; pm-short = w .pm; dm-short = w .dm }) long)
 
     -- it is done where the host goes on after its entry ..
     step-on : stepIn clock packets k p .on ≡ (not left && isReply (entry .number))
@@ -234,18 +234,14 @@ and-false false u e = refl
 
 module _ (clock : ℕ) (packets state : List ℕ) (runs : Lent) where
   abbrev within : Bool
-  within = isBench (length (runs .flash) / 2) (length (runs .memories .pm) / 4) (length (runs .memories .dm) / 2) && areState state
+  within = lentOk (length (runs .flash)) (length (runs .memories .pm) / 4) (length (runs .memories .dm) / 2) && areState state
 
   within-tells : within ≡ true → Within (kept (nodeIn state) runs 0)
   within-tells e =
-      let flash : Bool = eqb (length (runs .flash) / 2) 32768 in
-      let pm : Bool = leb (length (runs .memories .pm) / 4) 8192 in
-      let dm : Bool = leb (length (runs .memories .dm) / 2) 8192 in
-      let bench = and-left (flash && pm && dm) (areState state) e in
-      record {
-        pm = leb-true (length (runs .memories .pm) / 4) 8192 (and-right flash pm (and-left (flash && pm) dm bench));
-        dm = leb-true (length (runs .memories .dm) / 2) 8192 (and-right (flash && pm) dm bench);
-      }
+      let pm : ℕ = length (runs .memories .pm) / 4 in
+      let dm : ℕ = length (runs .memories .dm) / 2 in
+      let limits = lent-tells (length (runs .flash)) pm dm (and-left (lentOk (length (runs .flash)) pm dm) (areState state) e) in
+      record { pm = limits .1; dm = limits .2 }
 
   beyond-refused : (p : Packet) → within ≡ false → isReply (entryFor entries clock packets (hostKept state runs 0) p .number) ≡ false
   unfolding requestEntry
@@ -263,7 +259,7 @@ module _ (clock : ℕ) (packets state : List ℕ) (runs : Lent) where
       by : (v : Verdict) → checkOn (p .link) bytes state lends0 ≡ v → isReply (entered v state lends0 o .number) ≡ false
       by Verdict.Fine q =
           let fine = request-fine (p .link) _ state _ _ _ _ _ _ _ q in
-          absurd (false≢true (sym h ∙ (λ i. eq-eqb (length (runs .flash) / 2) 32768 (fine .bench) i && le-leb (length (runs .memories .pm) / 4) 8192 (fine .pm-short) i
+          absurd (false≢true (sym h ∙ (λ i. fine .sized i && le-leb (length (runs .memories .pm) / 4) 8192 (fine .pm-short) i
           && le-leb (length (runs .memories .dm) / 2) 8192 (fine .dm-short) i && fine .bytes i)))
       by (Verdict.No r) q = refusal-none r
 
@@ -293,7 +289,7 @@ one-by-one state flash hosted clock packets m x replies c whole =
     by true e =
         let s = hosted-stands hosted in
         let limits = within-tells clock packets state runs e in
-        let in-first : In first = record { keeps = record { reached = s .reached; small = s .small; below = s .below; bench = s .bench }; area = c .5 } in
+        let in-first : In first = record { keeps = record { reached = s .reached; small = s .small; below = s .below; sized = s .sized }; area = c .5 } in
         let fit : fitAt list 0 ≡ true = sym (fit-first list) ∙ whole-fits list whole in
         let all = all-equal clock packets (c .0) (c .1) (length list) 0 first 0 (omega arith) fit in-first limits in
         let read = encoded-decoded state (s .bytes) in

@@ -22,14 +22,14 @@ use Rattle.demands.proofs.Flash.{one-sector as words-one-sector, no-bit-rises a
 use Rattle.codec.specs.Bytes.{digitsOf, wordsOf, bytesOf, storeWords}
 use Rattle.codec.specs.StateBytes.{nodeIn, progressIn}
 use Rattle.codec.proofs.Runs.{length-bytes, length-words-of}
-use Rattle.logodwen.proofs.Entering.{request-fine, erase-fine}
 use Rattle.codec.proofs.ThereAndBack.{bytes-kept}
 use Rattle.border.specs.Exactly.{entries}
 use Rattle.border.specs.Host.{Entry, flashAfter, onWords}
-use Rattle.border.specs.Files.{sectorIn}
+use Rattle.border.specs.Files.{sectorIn, unitIn}
 use Rattle.border.specs.Flash.{siteIn, SameByte, Within, OneSector, InStep, SetByErasing, NoBitRises}
 use Rattle.border.proofs.Flash.{flash-size}
-use Rattle.border.proofs.Steps.{Made, Step, entry-step}
+use Rattle.border.proofs.Sectors.{unit-is}
+use Rattle.border.proofs.Steps.{Step, entry-step}
 use Rattle.border.proofs.Kept.{erasing-is}
 
 -- a byte of words stored: the low or the high one of its word
@@ -106,35 +106,33 @@ module _ (bytes new : List ℕ) (b : Below 256 bytes) (size : length new ≡ len
       by (Dec.no q) = ap (λ (x : ℕ). bitOf x k) (stored-odd bytes new size i (omega arith)) ∙ z
 
   -- words that stay within a sector stay so as bytes
-  stored-within : (x : Found) → length (wordsOf 2 bytes) ≡ 32768 → WithinWords x (wordsOf 2 bytes) new
+  stored-within : (x : Found) → WithinWords x (wordsOf 2 bytes) new
       → Within x bytes (storeWords 2 new bytes)
-  stored-within Found.Nothing l w = ap (λ (x : List ℕ). storeWords 2 x bytes) w ∙ bytes-kept 2 bytes b
-  stored-within (Found.At s) l w =
-      let unit : unitOf (wordsOf 2 bytes) ≡ 2048 = ap (λ (n : ℕ). n / 16) l in
-      let start : startOf (unitOf (wordsOf 2 bytes)) s ≡ startOf 2048 s = ap (λ (u : ℕ). startOf u s) unit in
-      let room : sizeOf (unitOf (wordsOf 2 bytes)) s ≡ sizeOf 2048 s = ap (λ (u : ℕ). sizeOf u s) unit in
+  stored-within Found.Nothing w = ap (λ (x : List ℕ). storeWords 2 x bytes) w ∙ bytes-kept 2 bytes b
+  stored-within (Found.At s) w =
+      let unit = unit-is bytes in
+      let start : startOf (unitOf (wordsOf 2 bytes)) s ≡ startOf (unitIn bytes) s = ap (λ (u : ℕ). startOf u s) unit in
+      let room : sizeOf (unitOf (wordsOf 2 bytes)) s ≡ sizeOf (unitIn bytes) s = ap (λ (u : ℕ). sizeOf u s) unit in
       record {
         size = stored-size bytes new size;
         before = λ i h. same-byte i (w .0 .before (i / 2) (omega arith));
         behind = λ i h. same-byte i (w .0 .behind (i / 2) (omega arith));
         first = λ i h. same-byte i (w .1 (i / 2) (omega arith));
-        odd = λ i h. stored-odd bytes new size i (omega arith);
       }
 
 within-none : (x : Found) (bytes : List ℕ) → Within x bytes bytes
 within-none Found.Nothing bytes = refl
 within-none (Found.At s) bytes =
-    record { size = refl; before = λ i h. refl; behind = λ i h. refl; first = λ i h. refl; odd = λ i h. refl }
+    record { size = refl; before = λ i h. refl; behind = λ i h. refl; first = λ i h. refl }
 
 -- the words after a call are as many as before
 words-size : (e : Entry) (state flash : List ℕ)
     → length (flashOf logodwen (onWords e) (nodeIn state) (wordsOf 2 flash)) ≡ length (wordsOf 2 flash)
 words-size e state flash = flash-size (onWords e) (nodeIn state) (wordsOf 2 flash)
 
--- an entry that makes its call on a flash of bench size
-made-within : (e : Entry) (state flash : List ℕ) → Below 256 flash → (Made e state flash → length flash / 2 ≡ 32768)
-    → Within (siteIn e state flash) flash (flashAfter entries e state flash)
-made-within e state flash b bench = by (entry-step e state flash)
+-- an entry that makes its call, or leaves all
+made-within : (e : Entry) (state flash : List ℕ) → Below 256 flash → Within (siteIn e state flash) flash (flashAfter entries e state flash)
+made-within e state flash b = by (entry-step e state flash)
   where
     by : Step e state flash → Within (siteIn e state flash) flash (flashAfter entries e state flash)
     by (Step.Leaves l) =
@@ -142,47 +140,42 @@ made-within e state flash b bench = by (entry-step e state flash)
     by (Step.Makes m) =
         subst (λ (x : List ℕ). Within (siteIn e state flash) flash x) (sym (m .words b))
         (stored-within flash (flashOf logodwen (onWords e) (nodeIn state) (wordsOf 2 flash)) b (words-size e state flash)
-        (siteIn e state flash) (length-words-of 2 flash ∙ bench m) (words-one-sector (onWords e) (nodeIn state) (wordsOf 2 flash)))
-
-erase-bench : (budget : ℕ) (state flash : List ℕ) → Made (Entry.Erase budget) state flash → length flash / 2 ≡ 32768
-erase-bench budget state flash m = erase-fine state (length flash / 2) (m .fine) .0
+        (siteIn e state flash) (words-one-sector (onWords e) (nodeIn state) (wordsOf 2 flash)))
 
 pub one-sector : OneSector entries
 one-sector (Entry.Start kind ports subdetector program version tests clock) state flash b = refl
 one-sector (Entry.Request clock link bc errors packet m x reply) state flash b =
     made-within (Entry.Request clock link bc errors packet m x reply) state flash b
-    (λ d. request-fine link (length packet / 2) state (length flash / 2) (length (m .pm) / 4) (length (m .dm) / 2) (length (m .io) / 2)
-    (length (x .area) / 2) (length (x .list) / 14) (length reply / 2) (d .fine) .bench)
 one-sector (Entry.Reply clock slave bc errors status address packet reply) state flash b = refl
 one-sector (Entry.Poll clock reply) state flash b = refl
-one-sector (Entry.Erase budget) state flash b = made-within (Entry.Erase budget) state flash b (erase-bench budget state flash)
+one-sector (Entry.Erase budget) state flash b = made-within (Entry.Erase budget) state flash b
 one-sector (Entry.Slow clock list) state flash b = refl
 
 -- a step sets just the bytes of the words that it sets
-step-bytes : (budget : ℕ) (state flash : List ℕ) (i : ℕ) → Made (Entry.Erase budget) state flash
-    → InWords (nodeIn state .erasing) (wordsOf 2 flash) budget (i / 2) → InStep state budget i
-step-bytes budget state flash i m h =
+step-bytes : (budget : ℕ) (state flash : List ℕ) (i : ℕ) → InWords (nodeIn state .erasing) (wordsOf 2 flash) budget (i / 2)
+    → InStep state flash budget i
+step-bytes budget state flash i h =
     by (eqb (sectorIn state) 0) (subst (λ (x : Erasing). InWords x (wordsOf 2 flash) budget (i / 2)) (erasing-is state) h)
   where
-    unit : unitOf (wordsOf 2 flash) ≡ 2048
-    unit = ap (λ (n : ℕ). n / 16) (length-words-of 2 flash ∙ erase-bench budget state flash m)
+    unit : unitOf (wordsOf 2 flash) ≡ unitIn flash
+    unit = unit-is flash
 
     by : (t : Bool) → InWords (pick t Erasing.Nothing (Erasing.Sector (progressIn state))) (wordsOf 2 flash) budget (i / 2)
-        → InStep state budget i
+        → InStep state flash budget i
     by true q = absurd q
     by false q =
         let start = ap (λ (u : ℕ). startOf u (sectorIn state)) unit in
         let count = ap (λ (u : ℕ). min budget (restOf u (progressIn state))) unit in
         (omega arith, omega arith)
 
-set-bytes : (e : Entry) (state flash : List ℕ) (i : ℕ) → Made e state flash
-    → SetWords (onWords e) (nodeIn state) (wordsOf 2 flash) (i / 2) → SetByErasing e state i
-set-bytes (Entry.Start kind ports subdetector program version tests clock) state flash i m h = h
-set-bytes (Entry.Request clock link bc errors packet m x reply) state flash i d h = h
-set-bytes (Entry.Reply clock slave bc errors status address packet reply) state flash i m h = h
-set-bytes (Entry.Poll clock reply) state flash i m h = h
-set-bytes (Entry.Erase budget) state flash i m h = step-bytes budget state flash i m h
-set-bytes (Entry.Slow clock list) state flash i m h = h
+set-bytes : (e : Entry) (state flash : List ℕ) (i : ℕ) → SetWords (onWords e) (nodeIn state) (wordsOf 2 flash) (i / 2)
+    → SetByErasing e state flash i
+set-bytes (Entry.Start kind ports subdetector program version tests clock) state flash i h = h
+set-bytes (Entry.Request clock link bc errors packet m x reply) state flash i h = h
+set-bytes (Entry.Reply clock slave bc errors status address packet reply) state flash i h = h
+set-bytes (Entry.Poll clock reply) state flash i h = h
+set-bytes (Entry.Erase budget) state flash i h = step-bytes budget state flash i h
+set-bytes (Entry.Slow clock list) state flash i h = h
 
 pub no-bit-rises : NoBitRises entries
 no-bit-rises e state flash b i k h o z = by (entry-step e state flash)
@@ -193,5 +186,5 @@ no-bit-rises e state flash b i k h o z = by (entry-step e state flash)
         ap (λ (x : List ℕ). bitOf (getD x i 0) k) (m .words b)
         ∙ falls flash (flashOf logodwen (onWords e) (nodeIn state) (wordsOf 2 flash)) b (words-size e state flash) i k h
         (words-no-bit-rises (onWords e) (nodeIn state) (wordsOf 2 flash) (i / 2) (i % 2 * 8 + k) (omega arith)
-        (λ q. o (set-bytes e state flash i m q)))
+        (λ q. o (set-bytes e state flash i q)))
         z

@@ -1,5 +1,5 @@
 -- What File Write stored reads back over bytes: by the node's theorem, which the entries come to. Assumes nothing.
-use Prim.Native.Nat.{ℕ, _+_, _*_, _/_, _%_, _≤_}
+use Prim.Native.Nat.{ℕ, _+_, _*_, _%_, _≤_}
 use native.Mathlib.Omega.{arith}
 use mathlib.Core.Path.{_≡_, refl, sym, ap, _∙_, subst}
 use mathlib.Core.Bool.{true, false, _&&_}
@@ -24,15 +24,14 @@ use Rattle.codec.specs.StateBytes.{nodeIn}
 use Rattle.touch.specs.InBytes.{memoryWords, furtherWords, replyWords}
 use Rattle.logodwen.specs.Entry.{isSet}
 use Rattle.codec.proofs.Runs.{length-words-of}
-use Rattle.logodwen.proofs.Entering.{request-fine}
-use Rattle.codec.proofs.Small.{size-most}
+use Rattle.logodwen.proofs.Entering.{bytes-least, request-fine}
 use Rattle.border.specs.Exactly.{entries}
 use Rattle.border.specs.Host.{Entry, InC, numberAfter, stateAfter, flashAfter, isDone}
 use Rattle.border.specs.Answers.{endNumber, handed}
 use Rattle.border.specs.Files.{fileRead, nameIn, sectorIn, sectorByte}
 use Rattle.border.specs.ReadsBack.{Runs, Reads, Written, ReadsBack}
 use Rattle.border.proofs.Runs.{words-of-below, words-two, first-word, words-bytes-of, store-laid}
-use Rattle.border.proofs.Sectors.{unused-bytes, takes-words, takes-bytes}
+use Rattle.border.proofs.Sectors.{unit-is, unused-bytes, takes-words, takes-bytes}
 use Rattle.border.proofs.Steps.{Made, done-made}
 use Rattle.border.proofs.Stands.{Stands, Moved, made-moves, hosted-stands}
 use Rattle.border.proofs.Brings.{Brought, brings-told}
@@ -94,7 +93,7 @@ module _ (state flash : List ℕ) (st : Stands state flash) (clock link bc error
   named : nameIn file ≡ fileName sent
   named = sym (ap fileName sent-is ∙ name-words file (b .even))
 
-  -- it was written, by the words of a flash of bench size
+  -- it was written, by the words of the flash
   written : WordsWritten logodwen words sent o
   written =
       words-back (nodeIn state) words (st .reached) clock link bc (isSet errors) (wordsOf 2 packet) (memoryWords m) (furtherWords x) (replyWords reply)
@@ -103,21 +102,13 @@ module _ (state flash : List ℕ) (st : Stands state flash) (clock link bc error
   abbrev s : ℕ
   s = written .sector
 
-  bench : length flash / 2 ≡ 32768
-  bench =
-      request-fine link (length packet / 2) state (length flash / 2) (length (m .pm) / 4) (length (m .dm) / 2)
-      (length (m .io) / 2) (length (x .area) / 2) (length (x .list) / 14) (length reply / 2) (made .fine) .bench
-
-  unit : unitOf words ≡ 2048
-  unit = ap (λ (k : ℕ). k / 16) (length-words-of 2 flash ∙ bench)
-
-  short : length sent ≤ 12286
-  short = omega (arith, written .takes .room, size-most (unitOf words) s, unit)
+  least : 32 ≤ length flash
+  least = bytes-least (length flash) (st .sized)
 
   -- its bytes stand there
-  file-stands : flash₁ ≡ laid flash (sectorByte s) file
+  file-stands : flash₁ ≡ laid flash (sectorByte flash s) file
   file-stands =
-      let start : startOf (unitOf words) s * 2 ≡ sectorByte s = ap (λ (u : ℕ). startOf u s * 2) unit in
+      let start : startOf (unitOf words) s * 2 ≡ sectorByte flash s = ap (λ (u : ℕ). startOf u s * 2) (unit-is flash) in
       let room : startOf (unitOf words) s + length sent ≤ length words = omega (arith, written .takes .room, sector-fits (unitOf words) s) in
       made .words (st .below)
       ∙ ap (λ (x : List ℕ). storeWords 2 x flash) (written .stands)
@@ -125,7 +116,10 @@ module _ (state flash : List ℕ) (st : Stands state flash) (clock link bc error
       ∙ (λ i. laid flash (start i) (sent-bytes i))
 
   -- and a File Read finds them
-  module _ (later after : List ℕ) (run : Runs entries s (nameIn file) state₁ flash₁ later after) (quiet : sectorIn later ≡ 0) where
+  module _ (later after : List ℕ) (run : Runs entries s (nameIn file) state₁ flash₁ later after) (quiet : sectorIn later ≡ 0) (few : length file ≤ 2 * 12286) where
+    short : length sent ≤ 12286
+    short = omega (arith, count, few)
+
     follows : Follows s (nameIn file) state₁ flash₁ later after
     follows = run-follows (moved .stands) run
 
@@ -152,10 +146,10 @@ module _ (state flash : List ℕ) (st : Stands state flash) (clock link bc error
   file-written =
       record {
         valid = subst IsFile sent-is (written .valid);
-        unused = unused-bytes flash (st .below) bench (nameIn file) (subst (λ (x : ℕ). WordsUnused x words) (sym named) (written .unused));
+        unused = unused-bytes flash (st .below) least (nameIn file) (subst (λ (x : ℕ). WordsUnused x words) (sym named) (written .unused));
         sector = s;
-        takes = takes-bytes flash (st .below) bench file (length sent) s count (written .takes);
-        lowest = λ t l x. written .lowest t l (takes-words flash (st .below) bench file (length sent) t count x);
+        takes = takes-bytes flash (st .below) file (length sent) s count (written .takes);
+        lowest = λ t l x. written .lowest t l (takes-words flash (st .below) file (length sent) t count x);
         stands = file-stands;
         reads = file-reads;
       }

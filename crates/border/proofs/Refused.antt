@@ -6,7 +6,7 @@ use mathlib.Core.Bool.{Bool, true, false, _||_, not}
 use mathlib.Core.List.{List, [], _∷_}
 use lib.ListN.{length}
 use lib.Dec.{ltb, eqb}
-use borrow.Author.Tests.{ltb-false, leb-false, le-ltb, lt-ltb, le-leb, eq-eqb, not-false}
+use borrow.Author.Tests.{ltb-false, leb-false, le-ltb, lt-ltb, le-leb, not-false}
 use Rattle.base.specs.Pick.{pick}
 use Rattle.base.proofs.Pick.{pick-case}
 use Rattle.node.specs.Effect.{Lent}
@@ -20,13 +20,13 @@ use Rattle.codec.specs.StateBytes.{sizeIn, portsIn, listedIn, nodeIn, areState}
 use Rattle.codec.proofs.Runs.{length-words-of}
 use Rattle.touch.specs.InBytes.{replyWords, runWords}
 use Rattle.touch.proofs.Beside.{none-refuses}
-use Rattle.logodwen.specs.Causes.{keptOk, recordsOk, benchCause, memoriesCause, recordsCause, portCause, bytesCause, requestCheck}
+use Rattle.logodwen.specs.Causes.{bytesOk, keptOk, recordsOk, flashCause as sizeCause, memoriesCause, recordsCause, portCause, bytesCause, requestCheck}
 use Rattle.border.proofs.Fine.{records-are}
 
 -- a run of bytes and a state within the border's limits
 pub record Limited (state : List ℕ) (flash pm dm : ℕ) : Type 0 where
   pub bytes : areState state ≡ true
-  pub bench : flash ≡ 32768
+  pub sized : bytesOk flash ≡ true
   pub pm-short : pm ≤ 8192
   pub dm-short : dm ≤ 8192
 
@@ -35,12 +35,12 @@ where-so : (state : List ℕ) {t : Bool} → t ≡ true → pick (eqb (length st
 where-so state e = pick-case (λ (b : Bool). b ≡ true) (eqb (length state) 192) (λ _. e) (λ _. refl)
 
 module _ (state : List ℕ) where
-  bench-no : (flash : ℕ) → flash ≡ 32768 → flashCause (nodeIn state) flash .holds ≡ false → benchCause state flash .holds ≡ false
+  size-no : (bytes : ℕ) → bytesOk bytes ≡ true → flashCause (nodeIn state) (bytes / 2) .holds ≡ false → sizeCause state bytes .holds ≡ false
   unfolding nodeIn
-  bench-no flash bench h =
-      let both = or-neither (not (sizeOk flash)) (not (eqb flash (sizeIn state))) h in
-      let kept : keptOk state flash ≡ true = where-so state (not-false (eqb flash (sizeIn state)) (both .1)) in
-      λ i. not (eq-eqb flash 32768 bench i) || not (kept i)
+  size-no bytes sized h =
+      let both = or-neither (not (sizeOk (bytes / 2))) (not (eqb (bytes / 2) (sizeIn state))) h in
+      let kept : keptOk state (bytes / 2) ≡ true = where-so state (not-false (eqb (bytes / 2) (sizeIn state)) (both .1)) in
+      λ i. not (sized i) || not (kept i)
 
   memories-no : (pm dm io : ℕ) → pm ≤ 8192 → dm ≤ 8192 → memoryCause pm dm io .holds ≡ false → memoriesCause pm dm io .holds ≡ false
   memories-no pm dm io p d h =
@@ -59,29 +59,29 @@ module _ (state : List ℕ) where
   port-no link h = ap not (where-so state (lt-ltb link (portsIn state) (leb-false (portsIn state) link h)))
 
   check-fine : (link packet flash pm dm io area records buffer reply : ℕ) → Limited state flash pm dm → 12288 ≤ reply
-      → requestVerdict (nodeIn state) link packet flash pm dm io area records buffer ≡ Verdict.Fine
+      → requestVerdict (nodeIn state) link packet (flash / 2) pm dm io area records buffer ≡ Verdict.Fine
       → requestCheck link packet state flash pm dm io area records reply ≡ Verdict.Fine
   unfolding requestVerdict requestCheck
   check-fine link packet flash pm dm io area records buffer reply l long h =
       let n = nodeIn state in
       let none =
       fine-tells
-      (flashCause n flash ∷ replyCause buffer ∷ memoryCause pm dm io ∷ areaCause area ∷ listCause n records ∷ linkCause n link ∷ stateCause n
+      (flashCause n (flash / 2) ∷ replyCause buffer ∷ memoryCause pm dm io ∷ areaCause area ∷ listCause n records ∷ linkCause n link ∷ stateCause n
       ∷ busyCause n packet ∷ [])
       h in
       none-refuses
-      (benchCause state flash ∷ replyCause reply ∷ memoriesCause pm dm io ∷ areaCause area ∷ recordsCause state records ∷ portCause state link
+      (sizeCause state flash ∷ replyCause reply ∷ memoriesCause pm dm io ∷ areaCause area ∷ recordsCause state records ∷ portCause state link
       ∷ bytesCause state ∷ busyCause n packet ∷ [])
-      (bench-no flash (l .bench) (none .0), (le-ltb reply 12288 long, (memories-no pm dm io (l .pm-short) (l .dm-short) (none .1 .1 .0), (none .1 .1 .1 .0, (records-no records (none .1 .1 .1 .1 .0), (port-no link (none .1 .1 .1 .1 .1 .0), (ap not (l .bytes), (none .1 .1 .1 .1 .1 .1 .1 .0, tt))))))))
+      (size-no flash (l .sized) (none .0), (le-ltb reply 12288 long, (memories-no pm dm io (l .pm-short) (l .dm-short) (none .1 .1 .0), (none .1 .1 .1 .0, (records-no records (none .1 .1 .1 .1 .0), (port-no link (none .1 .1 .1 .1 .1 .0), (ap not (l .bytes), (none .1 .1 .1 .1 .1 .1 .1 .0, tt))))))))
 
 -- the entry's verdict on bytes, by the call's on their words
 abbrev pub checkOn : ℕ → List ℕ → List ℕ → Lent → Verdict
 checkOn link packet state runs =
-    requestCheck link (length packet / 2) state (length (runs .flash) / 2) (length (runs .memories .pm) / 4) (length (runs .memories .dm) / 2)
+    requestCheck link (length packet / 2) state (length (runs .flash)) (length (runs .memories .pm) / 4) (length (runs .memories .dm) / 2)
     (length (runs .memories .io) / 2) (length (runs .further .area) / 2) (length (runs .further .list) / 14) (length (runs .reply) / 2)
 
 pub request-passes : (link : ℕ) (packet state : List ℕ) (runs : Lent)
-    → Limited state (length (runs .flash) / 2) (length (runs .memories .pm) / 4) (length (runs .memories .dm) / 2) → 12288 ≤ length (runs .reply) / 2
+    → Limited state (length (runs .flash)) (length (runs .memories .pm) / 4) (length (runs .memories .dm) / 2) → 12288 ≤ length (runs .reply) / 2
     → verdictOn (nodeIn state) link (wordsOf 2 packet) (runWords runs) ≡ Verdict.Fine → checkOn link packet state runs ≡ Verdict.Fine
 request-passes link packet state runs l long h =
     let same : requestVerdict (nodeIn state) link (length packet / 2) (length (runs .flash) / 2) (length (runs .memories .pm) / 4)
@@ -91,6 +91,6 @@ request-passes link packet state runs l long h =
     λ i. requestVerdict (nodeIn state) link (sym (length-words-of 2 packet) i) (sym (length-words-of 2 (runs .flash)) i) (sym (length-words-of 4 (runs .memories .pm)) i)
     (sym (length-words-of 2 (runs .memories .dm)) i) (sym (length-words-of 2 (runs .memories .io)) i) (sym (length-words-of 2 (runs .further .area)) i)
     (sym (records-are (runs .further .list)) i) (length (replyWords (runs .reply))) in
-    check-fine state link (length packet / 2) (length (runs .flash) / 2) (length (runs .memories .pm) / 4) (length (runs .memories .dm) / 2)
+    check-fine state link (length packet / 2) (length (runs .flash)) (length (runs .memories .pm) / 4) (length (runs .memories .dm) / 2)
     (length (runs .memories .io) / 2) (length (runs .further .area) / 2) (length (runs .further .list) / 14) (length (replyWords (runs .reply)))
     (length (runs .reply) / 2) l long (same ∙ h)

@@ -86,7 +86,7 @@ fine-no : (r : Refusal) → Verdict.Fine ≡ Verdict.No r → ⊥
 fine-no r e = let z : _≡_ {A = ℕ} 0 1 = cc in omega arith
 
 pub entry-makes : (clock link bc : ℕ) (packet state : List ℕ) (runs : Lent)
-    → Limited state (length (runs .flash) / 2) (length (runs .memories .pm) / 4) (length (runs .memories .dm) / 2) → 12288 ≤ length (runs .reply) / 2
+    → Limited state (length (runs .flash)) (length (runs .memories .pm) / 4) (length (runs .memories .dm) / 2) → 12288 ≤ length (runs .reply) / 2
     → Makes (requestEntry clock link bc 0 packet state runs) (requestOf (nodeIn state) clock link bc false (wordsOf 2 packet) (runWords runs)) runs
 unfolding requestEntry
 entry-makes clock link bc packet state runs limited long = by (checkOn link packet state runs) refl

@@ -19,7 +19,7 @@ use Rattle.demands.specs.Files.{Unused as WordsUnused, Takes as WordsTake}
 use Rattle.codec.specs.Bytes.{valueOf, digitsOf, numberAt, wordsOf, bytesOf}
 use Rattle.codec.proofs.Runs.{length-bytes, length-words-of}
 use Rattle.codec.proofs.ThereAndBack.{words-read, bytes-kept}
-use Rattle.border.specs.Files.{sectorByte, sectorBytes, inSector, Unused, Takes}
+use Rattle.border.specs.Files.{unitIn, sectorByte, sectorBytes, inSector, Unused, Takes}
 use Rattle.border.proofs.Runs.{words-of-below, words-two, bytes-take, bytes-drop, laid-front}
 use Rattle.border.proofs.Flash.{sector-below}
 
@@ -55,14 +55,18 @@ first-of [] h = absurd (omega arith)
 first-of (a ∷ []) h = absurd (omega arith)
 first-of (a ∷ b ∷ bytes) h = ap firstOf (words-two a b bytes)
 
-size-some : (s : ℕ) → isSector s ≡ true → 1 ≤ sizeOf 2048 s
+size-some : (u s : ℕ) → 1 ≤ u → isSector s ≡ true → 1 ≤ sizeOf u s
 unfolding bySector
-size-some s h =
-    subst (λ (t : Bool). 1 ≤ pick t (pick (eqb s 3) 2048 4096) 0) (sym h)
+size-some u s some h =
+    subst (λ (t : Bool). 1 ≤ pick t (pick (eqb s 3) u (u * 2)) 0) (sym h)
     (pick-case (λ (x : ℕ). 1 ≤ x) (eqb s 3) (λ _. omega arith) (λ _. omega arith))
 
--- a flash of bench size: what its sectors have, by bytes and by words
-module _ (flash : List ℕ) (b : Below 256 flash) (bench : length flash / 2 ≡ 32768) where
+-- U by bytes is U by words
+pub unit-is : (flash : List ℕ) → unitOf (wordsOf 2 flash) ≡ unitIn flash
+unit-is flash = omega (arith, length-words-of 2 flash)
+
+-- what the sectors of a flash have, by bytes and by words
+module _ (flash : List ℕ) (b : Below 256 flash) where
   abbrev words : List ℕ
   words = wordsOf 2 flash
 
@@ -71,41 +75,40 @@ module _ (flash : List ℕ) (b : Below 256 flash) (bench : length flash / 2 ≡ 
   sector-bytes s =
       let all : List ℕ = bytesOf 2 words in
       let rest : List ℕ = drop (0 + length all) flash in
-      let start : ℕ = startOf 2048 s in
-      let size : ℕ = sizeOf 2048 s in
+      let start : ℕ = startOf (unitIn flash) s in
+      let size : ℕ = sizeOf (unitIn flash) s in
       let long = length-bytes 2 words in
       let count = length-words-of 2 flash in
-      let fits = sector-fits 2048 s in
-      let unit : unitOf words ≡ 2048 = ap (λ (n : ℕ). n / 16) (count ∙ bench) in
+      let fits = sector-fits (unitIn flash) s in
       let whole : all ++ rest ≡ flash = sym (laid-front flash all) ∙ bytes-kept 2 flash b in
       let behind = length-drop (start * 2) all in
       sym (ap (λ (x : List ℕ). part x (start * 2) (size * 2)) whole)
       ∙ ap (take (size * 2)) (drop-append-le (start * 2) all rest (omega arith))
       ∙ take-append-le (size * 2) (drop (start * 2) all) rest (omega arith)
       ∙ sym (bytes-take size (drop start words) ∙ ap (take (size * 2)) (bytes-drop start words))
-      ∙ ap (λ (u : ℕ). bytesOf 2 (part words (startOf u s) (sizeOf u s))) (sym unit)
+      ∙ ap (λ (u : ℕ). bytesOf 2 (part words (startOf u s) (sizeOf u s))) (sym (unit-is flash))
 
   pub sector-words : (s : ℕ) → wordsOf 2 (inSector flash s) ≡ sectorOf words s
   sector-words s =
       ap (wordsOf 2) (sector-bytes s) ∙ words-read 2 (omega arith) (sectorOf words s) (sector-below words s (words-of-below flash b))
 
-  sized : (s : ℕ) → sizeOf (unitOf words) s ≡ sizeOf 2048 s
-  sized s = ap (λ (n : ℕ). sizeOf (n / 16) s) (length-words-of 2 flash ∙ bench)
+  sized : (s : ℕ) → sizeOf (unitOf words) s ≡ sizeOf (unitIn flash) s
+  sized s = ap (λ (u : ℕ). sizeOf u s) (unit-is flash)
 
-  long : (s : ℕ) → length (sectorOf words s) ≡ sizeOf 2048 s
+  long : (s : ℕ) → length (sectorOf words s) ≡ sizeOf (unitIn flash) s
   long s = length-sector words s ∙ sized s
 
-  first-is : (s : ℕ) → isSector s ≡ true → firstOf (sectorOf words s) ≡ numberAt 2 (sectorByte s) flash
-  first-is s h =
-      let some = size-some s h in
-      let size : length (inSector flash s) ≡ sizeOf 2048 s * 2 =
+  first-is : 32 ≤ length flash → (s : ℕ) → isSector s ≡ true → firstOf (sectorOf words s) ≡ numberAt 2 (sectorByte flash s) flash
+  first-is least s h =
+      let some = size-some (unitIn flash) s (omega arith) h in
+      let size : length (inSector flash s) ≡ sizeOf (unitIn flash) s * 2 =
       ap length (sector-bytes s) ∙ length-bytes 2 (sectorOf words s) ∙ ap (λ (k : ℕ). k * 2) (long s) in
       ap firstOf (sym (sector-words s))
       ∙ first-of (inSector flash s) (omega arith)
-      ∙ ap valueOf (take-take 2 (sectorBytes s) (drop (sectorByte s) flash) (omega arith))
+      ∙ ap valueOf (take-take 2 (sectorBytes flash s) (drop (sectorByte flash s) flash) (omega arith))
 
-  pub unused-words : (name : ℕ) → Unused name flash → WordsUnused name words
-  unused-words name u s h = ap (isNamed name) (first-is s h) ∙ u s h
+  pub unused-words : 32 ≤ length flash → (name : ℕ) → Unused name flash → WordsUnused name words
+  unused-words least name u s h = ap (isNamed name) (first-is least s h) ∙ u s h
 
   pub takes-words : (file : List ℕ) (count s : ℕ) → length file ≡ count * 2 → Takes flash (length file) s → WordsTake words count s
   takes-words file count s e t =
@@ -127,5 +130,5 @@ module _ (flash : List ℕ) (b : Below 256 flash) (bench : length flash / 2 ≡ 
         room = omega (arith, t .room, e, sized s);
       }
 
-  pub unused-bytes : (name : ℕ) → WordsUnused name words → Unused name flash
-  unused-bytes name u s h = ap (isNamed name) (sym (first-is s h)) ∙ u s h
+  pub unused-bytes : 32 ≤ length flash → (name : ℕ) → WordsUnused name words → Unused name flash
+  unused-bytes least name u s h = ap (isNamed name) (sym (first-is least s h)) ∙ u s h

@@ -13,7 +13,7 @@ use Rattle.demands.specs.Series.{Whole}
 use Rattle.demands.proofs.Series.{fits-whole, whole-fits}
 use Rattle.codec.specs.Bytes.{wordsOf}
 use Rattle.codec.specs.StateBytes.{areState}
-use Rattle.logodwen.specs.Causes.{isBench}
+use Rattle.logodwen.specs.Causes.{lentOk}
 use Rattle.logodwen.specs.Entry.{Answered, requestsEntry}
 use Rattle.border.specs.Exactly.{entries, Exactly, Unchanged}
 use Rattle.border.specs.Series.{ListRefused}
@@ -22,7 +22,7 @@ pub list-refused : ListRefused entries
 unfolding requestsEntry
 list-refused clock packets state runs =
     pick-case P (fits words)
-    (λ q. pick-case P (isBench (length (runs .flash) / 2) (length (runs .memories .pm) / 4) (length (runs .memories .dm) / 2) && areState state)
+    (λ q. pick-case P (lentOk (length (runs .flash)) (length (runs .memories .pm) / 4) (length (runs .memories .dm) / 2) && areState state)
     (λ _. done (fits-whole words q) (omega arith)) (λ _. done (fits-whole words q) refl))
     (λ q.
     let broken : Whole words → ⊥ = λ w. false≢true (sym q ∙ whole-fits words w) in

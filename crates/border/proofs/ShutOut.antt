@@ -49,6 +49,7 @@ use Rattle.border.specs.ClosedRun.{blank, file, zeros, fresh, sends, sta
 use Rattle.border.specs.ShutOut.{refusing, scanning, cutting, hasty, lying, rogue, ShutOut}
 use Rattle.border.proofs.ClosedRun.{tested, none, blank-bytes, starts-in, closed-run}
 use Rattle.border.proofs.GroupShutOut.{forgets-slaves}
+use Rattle.border.proofs.FlashShutOut.{sees-bench, reads-high-first}
 
 -- what always refuses answers the same to Write and to Read
 refuses : (number : ℕ) → ClosedRun (refusing number) → ⊥
@@ -114,7 +115,7 @@ second-byte : (says : ℕ → ℕ) → getD (flashAfter (hasty says) (Entry.Eras
 unfolding laid isSector bySector eraseCount erased masksOk stateOk eraseVerdict eraseOf valueOf digitsOf wordsIn wordsOf bytesOf packed encodeOf nodeIn alike areState eraseCheck eraseEntry
 second-byte says = refl
 
-not-in-step : InStep begun 1 4098 → ⊥
+not-in-step : InStep begun (zeros 65536) 1 4098 → ⊥
 unfolding laid bySector isSector valueOf
 not-in-step q = omega (arith, q .1)
 
@@ -163,4 +164,6 @@ shut-out =
       erases-unasked = erases-unasked;
       stores-nothing = stores-nothing;
       forgets-slaves = forgets-slaves;
+      sees-bench = sees-bench;
+      reads-high-first = reads-high-first;
     }

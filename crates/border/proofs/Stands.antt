@@ -1,5 +1,6 @@
 -- The bytes that a host has stand for a state that is reached, with the flash that is reached with it. Assumes nothing.
 use Prim.Native.Nat.{ℕ, _/_}
+use native.Mathlib.Omega.{arith}
 use mathlib.Core.Path.{_≡_, refl, sym, ap, _∙_, subst}
 use mathlib.Core.Bool.{true, false, _&&_, false≢true}
 use mathlib.Core.List.{List}
@@ -19,15 +20,15 @@ use Rattle.demands.proofs.Sound.{reached-sound}
 use Rattle.codec.specs.Bytes.{wordsOf}
 use Rattle.codec.specs.StateBytes.{encodeOf, nodeIn, areState}
 use Rattle.codec.specs.Kept.{Typed}
-use Rattle.codec.proofs.Runs.{length-words-of}
+use Rattle.codec.proofs.Runs.{length-words-of, length-store}
 use Rattle.rows.specs.Rows.{requestsIn}
 use Rattle.codec.proofs.ThereAndBack.{decoded-encoded}
-use Rattle.logodwen.specs.Causes.{isBench}
+use Rattle.logodwen.specs.Causes.{bytesOk, lentOk}
 use Rattle.logodwen.specs.Entry.{Answered, requestsEntry}
 use Rattle.border.specs.Exactly.{entries}
 use Rattle.border.specs.Host.{Entry, InC, numberAfter, stateAfter, flashAfter, onWords, isDone, InList, Step as HostStep, Hosted}
 use Rattle.border.proofs.Runs.{words-of-below, stored-words, stored-below}
-use Rattle.border.proofs.Fine.{start-bench}
+use Rattle.border.proofs.Fine.{start-sized}
 use Rattle.border.proofs.Flash.{Areas16, flash-below, flash-size}
 use Rattle.border.proofs.Typed.{Small, Clocked, start-small, call-small, small-typed}
 use Rattle.border.proofs.Lists.{In, row-keeps}
@@ -38,7 +39,7 @@ pub record Stands (state flash : List ℕ) : Type 0 where
   pub small : Small (nodeIn state)
   pub bytes : areState state ≡ true
   pub below : Below 256 flash
-  pub bench : length flash / 2 ≡ 32768
+  pub sized : bytesOk (length flash) ≡ true
 
 -- so every part of the state has its size
 pub stands-typed : (state flash : List ℕ) → Stands state flash → Typed (nodeIn state)
@@ -59,7 +60,7 @@ module _ (n : Node) (words state : List ℕ) (r : Reached logodwen n words) (s :
   encoded-state = ap areState e ∙ encoded .0
 
 reached-stands : (n : Node) (words state flash : List ℕ) → Reached logodwen n words → Small n → Below 65536 words
-    → state ≡ encodeOf n → wordsOf 2 flash ≡ words → Below 256 flash → length flash / 2 ≡ 32768 → Stands state flash
+    → state ≡ encodeOf n → wordsOf 2 flash ≡ words → Below 256 flash → bytesOk (length flash) ≡ true → Stands state flash
 reached-stands n words state flash r s b e w f k =
     let node : n ≡ nodeIn state = sym (encoded-node n words state r s b e) in
     record {
@@ -67,7 +68,7 @@ reached-stands n words state flash r s b e w f k =
       small = subst Small node s;
       bytes = encoded-state n words state r s b e;
       below = f;
-      bench = k;
+      sized = k;
     }
 
 -- what the C types say of the node's call
@@ -118,7 +119,7 @@ made-moves e state flash c s m =
       words = read;
       stands =
           reached-stands next left (stateAfter entries e state flash) (flashAfter entries e state flash) reached small below (m .node) read
-          bytes (sym (length-words-of 2 (flashAfter entries e state flash)) ∙ ap length read ∙ size ∙ s .bench);
+          bytes (ap bytesOk (ap length after ∙ length-store 2 left flash (omega (arith, size))) ∙ s .sized);
     }
 
 -- every entry hands them on
@@ -165,7 +166,7 @@ first-begun kind ports subdetector program version tests clock state flash c b h
         record {
           taken = taken;
           node = encoded-node node words after reached small below encodes;
-          stands = reached-stands node words after flash reached small below encodes refl b (start-bench kind ports subdetector state flash (m .fine));
+          stands = reached-stands node words after flash reached small below encodes refl b (start-sized kind ports subdetector state flash (m .fine));
         }
 
 -- a list of requests hands them on: refused or with no packet done it leaves them
@@ -175,11 +176,11 @@ list-stands : (state flash : List ℕ) (clock : ℕ) (packets : List ℕ) (m : M
 unfolding requestsEntry requestsIn
 list-stands state flash clock packets m x replies c s =
     let P : Answered → Type 0 = λ (a : Answered). Stands (a .state) (a .runs .flash) in
-    let first : In (beginning (nodeIn state) (lent flash m x replies) 0) = record { keeps = record { reached = s .reached; small = s .small; below = s .below; bench = s .bench }; area = c .5 } in
+    let first : In (beginning (nodeIn state) (lent flash m x replies) 0) = record { keeps = record { reached = s .reached; small = s .small; below = s .below; sized = s .sized }; area = c .5 } in
     let end = row-keeps clock packets (c .0) (c .1) (packetsIn (wordsOf 2 packets)) (beginning (nodeIn state) (lent flash m x replies) 0) first .keeps in
     pick-case P (fits (wordsOf 2 packets))
-    (λ _. pick-case P (isBench (length flash / 2) (length (m .pm) / 4) (length (m .dm) / 2) && areState state)
-    (λ _. reached-stands _ _ _ _ (end .reached) (end .small) (words-of-below _ (end .below)) refl refl (end .below) (end .bench)) (λ _. s))
+    (λ _. pick-case P (lentOk (length flash) (length (m .pm) / 4) (length (m .dm) / 2) && areState state)
+    (λ _. reached-stands _ _ _ _ (end .reached) (end .small) (words-of-below _ (end .below)) refl refl (end .below) (end .sized)) (λ _. s))
     (λ _. s)
 
 -- a step of the host hands them on

@@ -32,14 +32,14 @@ use Rattle.border.proofs.Exactly.{refused-exactly}
 
 abbrev pub checkOf : Entry → List ℕ → List ℕ → Verdict
 checkOf (Entry.Start kind ports subdetector program version tests clock) state flash =
-    startCheck kind ports subdetector state (length flash / 2)
+    startCheck kind ports subdetector state (length flash)
 checkOf (Entry.Request clock link bc errors packet m x reply) state flash =
-    requestCheck link (length packet / 2) state (length flash / 2) (length (m .pm) / 4) (length (m .dm) / 2) (length (m .io) / 2)
+    requestCheck link (length packet / 2) state (length flash) (length (m .pm) / 4) (length (m .dm) / 2) (length (m .io) / 2)
     (length (x .area) / 2) (length (x .list) / 14) (length reply / 2)
 checkOf (Entry.Reply clock slave bc errors status address packet reply) state flash =
     replyCheck slave (length packet / 2) state (length reply / 2)
 checkOf (Entry.Poll clock reply) state flash = pollCheck state (length reply / 2)
-checkOf (Entry.Erase budget) state flash = eraseCheck state (length flash / 2)
+checkOf (Entry.Erase budget) state flash = eraseCheck state (length flash)
 checkOf (Entry.Slow clock list) state flash = slowCheck state (length list / 14)
 
 abbrev pub runsOf : Entry → List ℕ → Lent
@@ -82,7 +82,7 @@ answer-is (Entry.Slow clock list) state flash = refl
 
 -- .. the next state, where a start that is fine is done ..
 pub start-begins : (kind ports subdetector program version tests clock : ℕ) (state flash : List ℕ)
-    → startCheck kind ports subdetector state (length flash / 2) ≡ Verdict.Fine
+    → startCheck kind ports subdetector state (length flash) ≡ Verdict.Fine
     → startOf kind ports subdetector program version tests clock (wordsOf 2 flash) .answer ≡ Answer.Started
 unfolding startOf
 start-begins kind ports subdetector program version tests clock state flash h =
@@ -90,7 +90,7 @@ start-begins kind ports subdetector program version tests clock state flash h =
     ap (λ (v : Verdict). startBy v g (wordsOf 2 flash) .answer) (start-fine kind ports subdetector state flash h)
 
 pub start-taken : (kind ports subdetector program version tests clock : ℕ) (state flash : List ℕ)
-    → startCheck kind ports subdetector state (length flash / 2) ≡ Verdict.Fine
+    → startCheck kind ports subdetector state (length flash) ≡ Verdict.Fine
     → isRefused (startOf kind ports subdetector program version tests clock (wordsOf 2 flash) .answer) ≡ false
 start-taken kind ports subdetector program version tests clock state flash h =
     ap isRefused (start-begins kind ports subdetector program version tests clock state flash h)
@@ -136,6 +136,7 @@ pub record Made (e : Entry) (state flash : List ℕ) : Type 0 where
 -- all as it was
 pub record Left (e : Entry) (state flash : List ℕ) : Type 0 where
   pub refusal : Refusal
+  pub verdict : checkOf e state flash ≡ Verdict.No refusal
   pub number : numberAfter entries e state flash ≡ refusalNumber refusal
   pub node : stateAfter entries e state flash ≡ state
   pub words : flashAfter entries e state flash ≡ flash
@@ -161,6 +162,7 @@ entry-step e state flash = by (checkOf e state flash) refl
         let is = entry-is e state flash ∙ ap (λ (v : Verdict). entered v state (runsOf e flash) (outcomeOf e state flash)) h in
         Step.Leaves (record {
           refusal = r;
+          verdict = h;
           number = ap (λ (a : Answered). a .number) is;
           node = ap (λ (a : Answered). a .state) is;
           words = ap (λ (a : Answered). flashLeft e a flash) is ∙ flash-left e (refusalNumber r) state flash;

@@ -43,7 +43,7 @@ Says number (Answer.Slow (Slow.Handed place)) = InBits number 6 0 0 place
 Says number (Answer.Slow Slow.Nothing) = InBits number 7 0 0 0
 
 -- How large they can be: BC is two bits, a reply has at most 12,288 words, a slave is at most 23, one or two words are stripped, an
--- erase step sets at most a sector of 4,096 words, and the place of an entry is below 910.
+-- erase step sets at most a sector, which at full size has up to 32,768 words (02, request 11), and the place of an entry is below 910.
 abbrev pub Bounds : Answer → Type 0
 Bounds (Answer.Refused r) = ⊥
 Bounds Answer.Started = Unit {0}
@@ -51,7 +51,7 @@ Bounds (Answer.Reply r) = (r .bc < 4) × (r .words ≤ 12288)
 Bounds (Answer.Ask a) = (a .slave ≤ 23) × ((a .from ≡ 1) ⊎ (a .from ≡ 2))
 Bounds (Answer.Next s) = s ≤ 23
 Bounds Answer.Waiting = Unit {0}
-Bounds (Answer.Erased count) = count ≤ 4096
+Bounds (Answer.Erased count) = count ≤ 32768
 Bounds (Answer.Slow (Slow.Handed place)) = place < 910
 Bounds (Answer.Slow Slow.Nothing) = Unit {0}
 

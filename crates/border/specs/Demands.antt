@@ -1,7 +1,7 @@
 -- What the house was promised of the C library, on one page: the sentences of the three demands in their order, and beneath each the
--- statements that stand for it, over the bytes that a host lends and keeps. They are those of the node (demands/specs/Demands), and the
--- answer's number beside them. That every entry gets an answer, and that it is the node's call on the words of the bytes, is the contract of
--- the six entries and of the list of requests, which has no condition. Assumes nothing.
+-- statements that stand for it, over the bytes that a host lends and keeps, the flash in either of its sizes (02, request 11). They are those of
+-- the node (demands/specs/Demands), and the answer's number beside them. That every entry gets an answer, and that it is the node's call on the
+-- words of the bytes, is the contract of the six entries and of the list of requests, which has no condition. Assumes nothing.
 use Rattle.border.specs.Exactly.{Entries, RefusedExactly}
 use Rattle.border.specs.Kept.{AlwaysState, NoStaleRecord, LengthsShown, SummaryIsTrue}
 use Rattle.border.specs.Answers.{NothingCut}
@@ -14,6 +14,7 @@ use Rattle.border.specs.Ends.{EachLowersOrStores, AlwaysEnds, NeverAsked
 use Rattle.border.specs.Captures.{DataIsAccepted}
 use Rattle.border.specs.Flash.{OneSector, NoBitRises}
 use Rattle.border.specs.Series.{ListRefused, OneByOne}
+use Rattle.border.specs.SameContents.{AsWords}
 use Rattle.border.specs.Listing.{RepetitionsConserved, ListedLent, RepetitionsAt}
 use Rattle.border.specs.ClosedRun.{ClosedRun}
 
@@ -26,8 +27,10 @@ pub record Demands (E : Entries) : Type 0 where
   pub always-state : AlwaysState E
   -- The number has the node's answer in its bits, whole.
   pub nothing-cut : NothingCut E
+  -- A flash that is lent as bytes, of either size, is to every entry what words of the same contents are to the word form (02, request 11).
+  pub as-words : AsWords E
   -- 2 Fidelity. What is written reads back: a file that fits is answered END; whatever is answered END stands in the flash, and reads back
-  -- until it is erased or its attribute set.
+  -- until it is erased or its attribute set, if it has up to 12,286 words.
   pub writes : Writes E
   pub reads-back : ReadsBack E
   -- A corrupted file is never handed out or loaded.

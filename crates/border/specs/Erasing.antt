@@ -1,6 +1,6 @@
 -- Demands 2 and 3 over bytes, of erasures and of what is written: what is being erased, and what the flash is changed to, follows the
--- commands; and an erasure sets what its progress is given, whatever entries come between. Of all bytes that a host can have. 01 'Flash'.
--- Assumes nothing.
+-- commands; and an erasure sets what its progress is given, whatever entries come between. Of all bytes that a host can have, in both sizes of
+-- a flash. 01 'Flash', and 02, request 11. Assumes nothing.
 use Prim.Native.Nat.{ℕ, min, _+_, _*_, _/_, _%_, _≤_, _<_}
 use mathlib.Core.Path.{_≡_}
 use mathlib.Core.Logic.{_⊎_}
@@ -30,7 +30,7 @@ use Rattle.border.specs.Exactly.{Entries}
 use Rattle.border.specs.Host.{Entry, InC, answerOf, numberAfter, stateAfter, isDone, Step, Hosted}
 use Rattle.border.specs.Kept.{erasingIn}
 use Rattle.border.specs.Answers.{endNumber}
-use Rattle.border.specs.Files.{Stands, sectorIn, sectorByte, sectorBytes, inSector}
+use Rattle.border.specs.Files.{Stands, sectorIn, unitIn, sectorByte, sectorBytes, inSector}
 use Rattle.border.specs.Flash.{stepByte}
 
 -- So many words FFFF, in bytes.
@@ -56,9 +56,9 @@ pub record Begins (state flash : List ℕ) (bc : ℕ) (packet : List ℕ) (a : A
 -- What an erase entry that is done has done: the erasure goes on, and the bytes of so many words are set, and the words counted, as the
 -- budget says, or the rest.
 pub record GoesOn (budget : ℕ) (state flash : List ℕ) (a : Answered) : Type 0 where
-  pub erasing : erasingIn (a .state) ≡ erasingAfter 2048 (erasingIn state) budget
-  pub number : a .number ≡ fields 0 0 0 (eraseCount 2048 (erasingIn state) budget)
-  pub bytes : a .runs .flash ≡ laid flash (stepByte state) (blankBytes (eraseCount 2048 (erasingIn state) budget))
+  pub erasing : erasingIn (a .state) ≡ erasingAfter (unitIn flash) (erasingIn state) budget
+  pub number : a .number ≡ fields 0 0 0 (eraseCount (unitIn flash) (erasingIn state) budget)
+  pub bytes : a .runs .flash ≡ laid flash (stepByte state flash) (blankBytes (eraseCount (unitIn flash) (erasingIn state) budget))
 
 -- What is being erased follows the commands: nothing is after a start; a request leaves it, or is an Erase that begins it; a slave's reply,
 -- a poll and a slow-control step leave it; an erase entry goes on with it.
@@ -120,15 +120,14 @@ pub data Course (E : Entries) (size : ℕ) (state flash : List ℕ) : List ℕ �
 -- Where it has come: the bytes of the words set are FF, from the low end, as many as the budgets sum to or the sector has, and every other
 -- byte is as before; the counts sum to them; while words are left it goes on; then all bytes of the sector are FF and the erasure is over.
 pub record HasSet (s : ℕ) (flash later after : List ℕ) (given counted : ℕ) : Type 0 where
-  pub bytes : after ≡ laid flash (sectorByte s) (blankBytes (min given (sizeOf 2048 s)))
-  pub count : counted ≡ min given (sizeOf 2048 s)
-  pub going : given < sizeOf 2048 s → erasingIn later ≡ Erasing.Sector (progress s given)
-  pub over : sizeOf 2048 s ≤ given → sectorIn later ≡ 0
-  pub empty : sizeOf 2048 s ≤ given → inSector after s ≡ replicate (sectorBytes s) 0xFF
+  pub bytes : after ≡ laid flash (sectorByte flash s) (blankBytes (min given (sizeOf (unitIn flash) s)))
+  pub count : counted ≡ min given (sizeOf (unitIn flash) s)
+  pub going : given < sizeOf (unitIn flash) s → erasingIn later ≡ Erasing.Sector (progress s given)
+  pub over : sizeOf (unitIn flash) s ≤ given → sectorIn later ≡ 0
+  pub empty : sizeOf (unitIn flash) s ≤ given → inSector after s ≡ replicate (sectorBytes flash s) 0xFF
 
 -- An Erase that names a sector, done, without receive errors, from a link of which no write stands, is answered END, unless an erasure is in
--- progress; one that is
--- answered END has begun the erasure of that sector; and whatever entries follow, it sets what its progress is given.
+-- progress; one that is answered END has begun the erasure of that sector; and whatever entries follow, it sets what its progress is given.
 pub record Erases (E : Entries) : Type 0 where
   pub starts : (state flash : List ℕ) → Hosted E state flash → (clock link bc : ℕ) (packet : List ℕ) (m : Memories) (x : Further) (reply : List ℕ) (s : ℕ)
       → let erase : Entry = Entry.Request clock link bc 0 packet m x reply in
@@ -141,14 +140,14 @@ pub record Erases (E : Entries) : Type 0 where
   pub sets : (state flash : List ℕ) → Hosted E state flash → (clock link bc errors : ℕ) (packet : List ℕ) (m : Memories) (x : Further) (reply : List ℕ) (s : ℕ)
       → let erase : Entry = Entry.Request clock link bc errors packet m x reply in
       InC erase → isCommand 0x47 bc (wordsOf 2 packet) ≡ true → numberAfter E erase state flash ≡ endNumber → erasesIn state packet ≡ Found.At s
-      → (later after : List ℕ) (given counted : ℕ) → Course E (sizeOf 2048 s) (stateAfter E erase state flash) flash later after given counted
+      → (later after : List ℕ) (given counted : ℕ) → Course E (sizeOf (unitIn flash) s) (stateAfter E erase state flash) flash later after given counted
       → HasSet s flash later after given counted
 
 -- A File Write has laid its file where the placing rule says, or an Attribute Set another header word, by 01's rule, over that of a good
 -- file; its number is END.
 pub record Lays (flash : List ℕ) (a : Answered) (s : ℕ) (words : List ℕ) : Type 0 where
   pub number : a .number ≡ endNumber
-  pub bytes : a .runs .flash ≡ laid flash (sectorByte s) (bytesOf 2 words)
+  pub bytes : a .runs .flash ≡ laid flash (sectorByte flash s) (bytesOf 2 words)
 
 pub record LaysFile (state flash : List ℕ) (link bc : ℕ) (packet : List ℕ) (x : Further) (a : Answered) : Type 0 where
   pub command : isWrite (nodeIn state) link bc (wordsOf 2 packet) ≡ true

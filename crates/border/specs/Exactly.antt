@@ -1,6 +1,7 @@
 -- Refused exactly, over the bytes that a host lends: the low byte of the number that an entry answers is the number of the first cause
 -- that holds, and 0 where none does; and a refused entry leaves every byte. 01 'Call refusals', each cause in the words of its table, with
--- the limits that 'Covered' sets at the C border; 8 and 9 are of 02, requests 1 and 7. Assumes nothing.
+-- the limits that 'Covered' sets at the C border; 8 and 9 are of 02, requests 1 and 7, and 1 is by the count of bytes, request 11.
+-- Assumes nothing.
 use Prim.Native.Nat.{ℕ, _+_, _*_, _/_, _%_, _≤_, _<_}
 use mathlib.Core.Path.{_≡_}
 use mathlib.Core.Logic.{_⊎_, _↔_}
@@ -43,9 +44,10 @@ entries =
 abbrev pub Above : ℕ → ℕ → List ℕ → Type 0
 Above k words run = k * (words + 1) ≤ length run
 
--- 1: bench size, 32,768 words, with an odd byte behind them or without.
-abbrev pub BenchSize : List ℕ → Type 0
-BenchSize flash = (length flash ≡ 65536) ⊎ (length flash ≡ 65537)
+-- 1: a flash is lent as 65,536 bytes, bench size, or as 524,288, full size. Any other count is neither, one with an odd byte over included.
+-- 02, request 11.
+abbrev pub FlashSize : List ℕ → Type 0
+FlashSize flash = (length flash ≡ 65536) ⊎ (length flash ≡ 524288)
 
 -- 5: the bytes are those of a state: they are the bytes of some node whose state is one of 01's, with numbers of the sizes of their types.
 pub record OfState (bytes : List ℕ) : Type 0 where
@@ -61,10 +63,10 @@ Pends state = (numberAt 1 15 state ≡ 1) ⊎ (numberAt 1 15 state ≡ 2)
 abbrev pub Asks : List ℕ → ℕ → Type 0
 Asks state slave = Pends state × (numberAt 1 29 state ≡ slave)
 
--- The rows that more than one entry has: 1, with the size used at start as bytes 20-23 keep it where the state bytes are 192; 2; 9, of records of 14
--- bytes, with the entries listed as the two bytes at 188 count them where the state bytes are 192; and 5.
+-- The rows that more than one entry has: 1, with the size used at start, in words, as bytes 20-23 keep it where the state bytes are 192; 2; 9,
+-- of records of 14 bytes, with the entries listed as the two bytes at 188 count them where the state bytes are 192; and 5.
 abbrev pub flashCause : List ℕ → List ℕ → Cause
-flashCause state flash = cause 1 ((BenchSize flash → ⊥) ⊎ ((length state ≡ 192) × (length flash / 2 ≡ sizeIn state → ⊥)))
+flashCause state flash = cause 1 ((FlashSize flash → ⊥) ⊎ ((length state ≡ 192) × (length flash / 2 ≡ sizeIn state → ⊥)))
 
 abbrev pub replyCause : List ℕ → Cause
 replyCause reply = cause 2 (length reply < 2 * 12288)
@@ -78,7 +80,7 @@ stateCause state = cause 5 (OfState state → ⊥)
 -- The table, each row where the entry has that input. At start what stands in the state bytes isn't looked at, but there must be 192.
 abbrev pub startCauses : ℕ → ℕ → ℕ → List ℕ → List ℕ → List Cause
 startCauses kind ports subdetector flash state =
-    cause 1 (BenchSize flash → ⊥)
+    cause 1 (FlashSize flash → ⊥)
     ∷ cause 4 ((((1 ≤ ports) × (ports ≤ 4) → ⊥) ⊎ ((kind ≡ 1) ⊎ (kind ≡ 2) → ⊥)) ⊎ (7 < subdetector))
     ∷ cause 5 (length state ≡ 192 → ⊥)
     ∷ []

@@ -1,10 +1,10 @@
 -- Files over bytes: the packets that are about one or bring one, the bytes of a sector, and what it is for a sector to take a file. 01
--- 'Flash'; 02, request 1. Assumes nothing.
-use Prim.Native.Nat.{ℕ, _*_, _%_, _≤_}
+-- 'Flash'; 02, requests 1 and 11. Assumes nothing.
+use Prim.Native.Nat.{ℕ, _*_, _/_, _%_, _≤_}
 use mathlib.Core.Path.{_≡_}
 use mathlib.Core.Bool.{true, false}
 use mathlib.Core.List.{List, _∷_, _++_}
-use lib.ListN.{take, replicate}
+use lib.ListN.{length, take, replicate}
 use Rattle.base.specs.Words.{part}
 use Rattle.image.specs.Header.{nameOf}
 use Rattle.flash.specs.Geometry.{isSector, sizeOf, startOf}
@@ -39,23 +39,28 @@ nameIn file = nameOf (numberAt 2 0 file)
 abbrev pub sectorIn : List ℕ → ℕ
 sectorIn state = numberAt 1 14 state
 
--- The byte at which a sector of the flash starts, and how many it has: 4,096 or 8,192, and none where there is no file sector.
-abbrev pub sectorByte : ℕ → ℕ
-sectorByte s = startOf 2048 s * 2
+-- U of a flash that is lent as bytes, a sixteenth of its words, which are two bytes each: 2,048 words at bench size, 16,384 at full size. 02,
+-- request 11.
+abbrev pub unitIn : List ℕ → ℕ
+unitIn flash = length flash / 32
 
-abbrev pub sectorBytes : ℕ → ℕ
-sectorBytes s = sizeOf 2048 s * 2
+-- The byte at which a sector of the flash starts, and how many it has: those of U words or of 2U, and none where there is no file sector.
+abbrev pub sectorByte : List ℕ → ℕ → ℕ
+sectorByte flash s = startOf (unitIn flash) s * 2
+
+abbrev pub sectorBytes : List ℕ → ℕ → ℕ
+sectorBytes flash s = sizeOf (unitIn flash) s * 2
 
 -- The bytes of a file sector.
 abbrev pub inSector : List ℕ → ℕ → List ℕ
-inSector flash s = part flash (sectorByte s) (sectorBytes s)
+inSector flash s = part flash (sectorByte flash s) (sectorBytes flash s)
 
 -- No sector of the flash has a file of the name, by the two bytes at its start.
 abbrev pub Unused : ℕ → List ℕ → Type 0
-Unused name flash = (s : ℕ) → isSector s ≡ true → isNamed name (numberAt 2 (sectorByte s) flash) ≡ false
+Unused name flash = (s : ℕ) → isSector s ≡ true → isNamed name (numberAt 2 (sectorByte flash s) flash) ≡ false
 
 -- A file sector is empty, all of its bytes FF, and has at least so many.
 pub record Takes (flash : List ℕ) (bytes s : ℕ) : Type 0 where
   pub sector : isSector s ≡ true
-  pub empty : inSector flash s ≡ replicate (sectorBytes s) 0xFF
-  pub room : bytes ≤ sectorBytes s
+  pub empty : inSector flash s ≡ replicate (sectorBytes flash s) 0xFF
+  pub room : bytes ≤ sectorBytes flash s

@@ -1,6 +1,6 @@
 -- A host in C, as it keeps a node: 192 state bytes and the flash's bytes, lent to entry after entry. What an entry is given, what the
 -- C types say of it, the bytes that it leaves, and all bytes that a host can come to have. As the demands, these are of any such
--- entries, so that wrong ones can be seen to be shut out. 01 'Covered' and 'Call refusals', and 02, requests 7 and 9.
+-- entries, so that wrong ones can be seen to be shut out. 01 'Covered' and 'Call refusals', and 02, requests 7, 9 and 11.
 -- Assumes nothing.
 use Prim.Native.Nat.{ℕ, _%_, _<_}
 use mathlib.Core.Path.{_≡_}
@@ -110,8 +110,8 @@ pub data Step (E : Entries) (state flash : List ℕ) : List ℕ → List ℕ →
   OtherFlash : (e : Entry) (other : List ℕ) → isDone (numberAfter E e state other) ≡ false → Step E state flash (stateAfter E e state other) flash
   OtherState : (e : Entry) (other : List ℕ) → isDone (numberAfter E e other flash) ≡ false → Step E state flash state (flashAfter E e other flash)
 
--- The state bytes and flash bytes that a host can come to have: a start answered 0, on any flash bytes, whatever the state bytes were; then
--- any entries, and any lists of requests (02, request 9).
+-- The state bytes and flash bytes that a host can come to have: a start answered 0, on any flash bytes, so of either size (02, request 11),
+-- whatever the state bytes were; then any entries, and any lists of requests (02, request 9).
 pub data Hosted (E : Entries) : List ℕ → List ℕ → Type 0 where
   First : (kind ports subdetector program version tests clock : ℕ) (state flash : List ℕ)
       → InC (Entry.Start kind ports subdetector program version tests clock) → U8s flash

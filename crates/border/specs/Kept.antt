@@ -1,6 +1,6 @@
 -- Demand 3 over bytes: whatever entries a host makes, the state bytes that it then has are those of a state, and the directory in them is
--- the one worked out afresh from the flash's bytes. So is what Flash Summary answers. 01 'Call refusals', 'Flash' and 'What calls owe'.
--- Assumes nothing.
+-- the one worked out afresh from the flash's bytes, in both sizes. So is what Flash Summary answers. 01 'Call refusals', 'Flash' and 'What
+-- calls owe', and 02, request 11. Assumes nothing.
 use Prim.Native.Nat.{ℕ, _+_, _%_}
 use mathlib.Core.Path.{_≡_}
 use mathlib.Core.Bool.{true}

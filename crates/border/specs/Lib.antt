@@ -15,6 +15,7 @@ pub mod Ends
 pub mod Captures
 pub mod Listing
 pub mod Series
+pub mod SameContents
 pub mod ClosedRun
 pub mod Demands
 pub mod ShutOut

@@ -1,5 +1,6 @@
 -- Demand 2 over bytes, of files: a corrupted file is never handed out or loaded. Whatever the state bytes and the flash bytes are, a
--- directory that differs from the flash too. 01 'Flash', 'Call refusals' and 'What calls owe'. Assumes nothing.
+-- directory that differs from the flash too. 01 'Flash', 'Call refusals' and 'What calls owe'; in both sizes of a flash (02, request 11).
+-- Assumes nothing.
 use Prim.Native.Nat.{ℕ, _+_, _*_, _/_, _%_, _≤_, _<_}
 use mathlib.Core.Path.{_≡_}
 use mathlib.Core.Logic.{_⊎_}

@@ -1,6 +1,6 @@
 -- Demand 2 over bytes, of files: a File Write that is answered END put its bytes into the flash, and they read back. 01 'Flash' and
--- 'What calls owe'; in several packets too (02, request 1). Assumes nothing.
-use Prim.Native.Nat.{ℕ, _%_, _<_}
+-- 'What calls owe'; in several packets too, and in both sizes of a flash (02, requests 1 and 11). Assumes nothing.
+use Prim.Native.Nat.{ℕ, _*_, _%_, _≤_, _<_}
 use mathlib.Core.Path.{_≡_}
 use mathlib.Core.Bool.{true}
 use mathlib.Core.List.{List}
@@ -45,15 +45,16 @@ Reads E file state flash =
 
 -- A file that was written, from some flash bytes to others: valid, exact and of an unused name, its bytes stand from the start of the lowest
 -- sector that takes it, and no other byte of the flash has changed. And after any entries that spare it, with no erasure in progress, it
--- reads back.
+-- reads back, if it has up to 12,286 words: at bench size no sector takes one that has more.
 pub record Written (E : Entries) (file before state flash : List ℕ) : Type 0 where
   pub valid : IsFile (wordsOf 2 file)
   pub unused : Unused (nameIn file) before
   pub sector : ℕ
   pub takes : Takes before (length file) sector
   pub lowest : (s : ℕ) → s < sector → Takes before (length file) s → ⊥
-  pub stands : flash ≡ laid before (sectorByte sector) file
-  pub reads : (later after : List ℕ) → Runs E sector (nameIn file) state flash later after → sectorIn later ≡ 0 → Reads E file later after
+  pub stands : flash ≡ laid before (sectorByte before sector) file
+  pub reads : (later after : List ℕ) → Runs E sector (nameIn file) state flash later after → sectorIn later ≡ 0
+      → length file ≤ 2 * 12286 → Reads E file later after
 
 -- Whatever a host has, a File Write of whole words that is answered END, of several packets the last one, has written its file.
 abbrev pub ReadsBack : Entries → Type 0

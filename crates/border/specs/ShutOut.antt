@@ -6,7 +6,7 @@ use Rattle.base.specs.Pick.{pick}
 use Rattle.base.specs.Words.{laid}
 use Rattle.demands.specs.Requests.{isCommand}
 use Rattle.codec.specs.Bytes.{wordsOf}
-use lib.ListN.{length}
+use lib.ListN.{length, take}
 use Rattle.node.specs.Calls.{lentReply, lentFlash, lentList}
 use Rattle.logodwen.specs.Entry.{Answered, answered, startEntry, requestEntry, replyEntry, pollEntry, eraseEntry, slowEntry, requestsEntry}
 use Rattle.border.specs.Exactly.{Entries}
@@ -16,6 +16,7 @@ use Rattle.border.specs.Answers.{NothingCut, endNumber}
 use Rattle.border.specs.ReadsBack.{ReadsBack}
 use Rattle.border.specs.Erasing.{ErasureFollows}
 use Rattle.border.specs.Groups.{GroupIsItsFragments}
+use Rattle.border.specs.SameContents.{AsWords}
 use Rattle.border.specs.ClosedRun.{ClosedRun}
 
 -- Once started, always refuses.
@@ -125,6 +126,39 @@ forgetful =
       requests = requestsEntry;
     }
 
+-- Takes a full flash for one of bench size: a start sees the first 65,536 bytes alone. 02, request 11.
+abbrev pub benching : Entries
+benching =
+    record {
+      start = λ kind ports subdetector program version tests clock flash state.
+          startEntry kind ports subdetector program version tests clock (take 65536 flash) state;
+      request = requestEntry;
+      reply = replyEntry;
+      poll = pollEntry;
+      erase = eraseEntry;
+      slow = slowEntry;
+      requests = requestsEntry;
+    }
+
+-- Reads the flash high byte first at start. 02, request 11.
+unfoldable pub swapped : List ℕ → List ℕ
+swapped [] = []
+swapped (a ∷ []) = a ∷ []
+swapped (a ∷ b ∷ bytes) = b ∷ a ∷ swapped bytes
+
+abbrev pub swapping : Entries
+swapping =
+    record {
+      start = λ kind ports subdetector program version tests clock flash state.
+          startEntry kind ports subdetector program version tests clock (swapped flash) state;
+      request = requestEntry;
+      reply = replyEntry;
+      poll = pollEntry;
+      erase = eraseEntry;
+      slow = slowEntry;
+      requests = requestsEntry;
+    }
+
 -- Each fails a promise, by its name in `Demands`.
 pub record ShutOut : Type 0 where
   pub refuses : (number : ℕ) → ClosedRun (refusing number) → ⊥
@@ -134,3 +168,5 @@ pub record ShutOut : Type 0 where
   pub erases-unasked : ErasureFollows rogue → ⊥
   pub stores-nothing : ReadsBack lying → ⊥
   pub forgets-slaves : GroupIsItsFragments forgetful → ⊥
+  pub sees-bench : AsWords benching → ⊥
+  pub reads-high-first : AsWords swapping → ⊥
