@@ -5,8 +5,9 @@
 
 Below FOLDER: `apart`, 200 images for flashes of their own; `together`, for one flash; `first` and `second`, for a flash that is kept,
 with what it holds then (`first.flash`, `second.flash`); `bad`, for `bad.flash`, which has bad sectors; `doubled`, for `doubled.flash`, which
-has names in several sectors; `each`, an image for a library that reads each word wrong once. The report on each is in NAME.report; those on
-examples/images are in examples.report, a flash each, and in kept.report, the good ones in one. `bad` and `doubled` have two more reports:
+has names in several sectors; `each`, an image for a library that reads each word wrong once; of full size `full`, for flashes of their own,
+`large`, for one flash, which is then `large.flash`, and `bad-full`, as `bad`. The report on each is in NAME.report; those on examples/images are
+in examples.report, a flash each, and in kept.report, the good ones in one. `bad`, `doubled` and `bad-full` have two more reports:
 NAME-wrong.report is without --summary, and NAME-mended.report with sectors erased, those that have words behind their file, or all but one of
 each name."""
 
@@ -14,7 +15,7 @@ import pathlib
 import random
 import sys
 
-from audit_report import Bench, each_word_wrong, report
+from audit_report import BENCH, FULL, Bench, each_word_wrong, report
 from build import file_of, header, segment
 from files import DM, IO, PM, sealed
 from flash import extent, store
@@ -236,18 +237,33 @@ def second(pick):
     return [("%02X" % name, raw(exactly(pick, 3000, name))) for name in (0x31, 0x32, 0x34)]
 
 
-def bad_flash(pick):
+def full(pick):
+    """Images for flashes of full size: around what a packet, File Read, a sector and File Write take, some with a bit changed."""
+    lengths = (6, 4097, 8191, 8192, 12285, 12286, 12287, 16384, 16385, 32767, 32768, 32769)
+    words = [exactly(pick, length) for length in lengths]
+    words += [with_bit(pick, exactly(pick, length), 3, length - 1) for length in (12286, 20000, 32768)]
+    return [("%02d-words-%d" % (number, len(words)), raw(words)) for number, words in enumerate(words)]
+
+
+def large(pick):
+    """More files than a full flash holds."""
+    lengths = (20000, 300, 16385, 20000, 32768, 16384, 12286, 12287, 6, 40)
+    names = (0x60, 0x61, 0x62, 0x60, 0x63, 0x64, 0x65, 0x66, 0x67, 0x68)
+    return [("%02d" % number, raw(exactly(pick, length, name))) for number, (length, name) in enumerate(zip(lengths, names))]
+
+
+def bad_flash(pick, size=BENCH):
     """Sector 3 a file with a wrong bit, 4 words that begin no file, 5 a file with words right behind it, 6 one bit cleared at its end,
     7 a file of the name that sector 3 has, 8 a file with one bit cleared at the sector's end, 9 a file that goes past its end."""
-    flash = [0xFFFF] * 32768
+    flash, room = [0xFFFF] * size, len(extent(size, 9))
     store(flash, 3, with_bit(pick, exactly(pick, 50, 0x41), 3, 49))
     store(flash, 4, [0x8000, 1, 2, 3])
     store(flash, 5, exactly(pick, 60, 0x42) + [1, 2, 3])
     store(flash, 7, exactly(pick, 70, 0x41))
     store(flash, 8, exactly(pick, 80, 0x44))
-    store(flash, 9, exactly(pick, 5000, 0x45)[:4096])
+    store(flash, 9, exactly(pick, room + 904, 0x45)[:room])
     for sector in (6, 8):
-        flash[extent(32768, sector)[-1]] = 0x7FFF
+        flash[extent(size, sector)[-1]] = 0x7FFF
     return flash
 
 
@@ -309,6 +325,17 @@ def write_all(folder, pick):
 
     write_wrong(folder / "bad", bad_flash(pick), [("%02X" % name, raw(exactly(pick, 70, name))) for name in (0x41, 0x42, 0x43)], (5, 8))
     write_wrong(folder / "doubled", doubled_flash(pick), [("%02X" % name, raw(exactly(pick, 70, name))) for name in range(0x51, 0x55)], (9, 5, 3))
+
+    images = write_images(folder / "full", full(pick))
+    (folder / "full.report").write_text(report(images, size=FULL))
+
+    bench = Bench(size=FULL)
+    images = write_images(folder / "large", large(pick))
+    (folder / "large.report").write_text(report(images, bench) + bench.table())
+    (folder / "large.flash").write_bytes(raw(bench.lent.flash))
+
+    images = [("%02X" % name, raw(exactly(pick, 70, name))) for name in (0x41, 0x42, 0x43)]
+    write_wrong(folder / "bad-full", bad_flash(pick, FULL), images, (5, 8))
 
     image = in_rows(any_file(pick, 5))
     (folder / "each").write_bytes(image)

@@ -5,12 +5,19 @@ breaks, and what the node answers to it; and of a flash, what its directory has,
 import re
 
 from files import BYTES, MEMORIES, PAGES, PM, file_length, may_start, name_of, permitted, unpacked
-from flash import BAD, BLANK, EMPTY, GOOD, SECTORS, address_of, afresh, kept, words_in
+from flash import BAD, BLANK, EMPTY, GOOD, SECTORS, SIZES, address_of, afresh, extent, kept, words_in
 from group import ABORT, AREA, END, NEXT
 from node import CDP, JOINED, Lent, erase, request, start
 from runs import check_sequence
 
-HOLDS = "a bench flash holds eight files, one of at most 2,048 and seven of at most 4,096 words"
+BENCH, FULL = SIZES
+HOLDS = {
+    BENCH: "a bench flash holds eight files, one of at most 2,048 and seven of at most 4,096 words",
+    FULL: "a full flash holds eight files, one of at most 16,384 and seven of at most 32,768 words",
+}
+IN_FULL = "a full flash has room for it (--size full)"
+READ = 12286  # words of a file that File Read answers, at most
+IN_FLASH = "compared in the flash, not read back: File Read answers at most 12,286 words"
 LENGTHS = {"PM": "an even length, 2 or more", "DM": "a length of 2 or more", "IO": "an odd length, 3 or more"}
 LONGEST = 1 << 20  # bytes that are read
 AGREES = "AGREES"
@@ -168,10 +175,14 @@ def erasures_text(sectors):
 class Bench:
     """A node on a flash, as host/audit has it."""
 
-    def __init__(self, flash=None):
-        self.lent = Lent(flash or [0xFFFF] * 32768, {"PM": [], "DM": [], "IO": []}, [0] * JOINED, [], [0] * AREA)
+    def __init__(self, flash=None, size=BENCH):
+        self.lent = Lent(flash or [BLANK] * size, {"PM": [], "DM": [], "IO": []}, [0] * JOINED, [], [0] * AREA)
         self.node, answer = start(CDP, 1, 0, 0, 0, 0, 0, self.lent.flash)
         assert answer == ("started",)
+
+    @property
+    def holds(self):
+        return HOLDS[len(self.lent.flash)]
 
     def packet(self, bc, words):
         self.node, answer = request(self.node, self.lent, 0, 0, bc, 0, words)
@@ -199,8 +210,8 @@ class Bench:
         """Why a valid file was refused."""
         name = name_of(words[0])
         holders = self.named(name)
-        if len(words) > 4096:
-            return "TOO-LARGE", "%d words; %s" % (len(words), HOLDS)
+        if len(words) > len(extent(len(self.lent.flash), 10)):
+            return "TOO-LARGE", "%d words; %s; %s" % (len(words), self.holds, IN_FULL)
         if len(holders) > 1:
             erasing = "erase them first (%s), or audit this image alone" % erasures_text(holders)
             return "NAME-USED", "%s have this name; %s" % (sectors_text(holders), erasing)
@@ -217,11 +228,14 @@ class Bench:
         bc, _ = self.write(words)
         if len(words) > JOINED:
             assert bc == ABORT
-            return None, "TOO-LARGE", "%d words; File Write takes at most 32,768, in several packets; %s" % (len(words), HOLDS)
+            return None, "TOO-LARGE", "%d words; File Write takes at most 32,768, in several packets; %s" % (len(words), self.holds)
         if bc == ABORT:
             rule = broken_rule(words)
             return (None, "INVALID", rule) if rule else (None, *self.refusal(words))
         sector, = self.named(name_of(words[0]))
+        if len(words) > READ:
+            assert self.command(0x05, words[0]) == (ABORT, 0) and words_in(self.lent.flash, sector)[:len(words)] == words
+            return sector, AGREES, IN_FLASH
         assert self.command(0x05, words[0]) == (END, len(words) + 2) and self.lent.reply[:len(words)] == words
         return sector, AGREES, None
 
@@ -231,7 +245,7 @@ class Bench:
             if data is None:
                 raise Unreadable("No such file or directory")
             if len(data) > LONGEST:
-                return [path, "-", "-", "-", "-", "TOO-LARGE", "more than 1,048,576 bytes, not read on; " + HOLDS]
+                return [path, "-", "-", "-", "-", "TOO-LARGE", "more than 1,048,576 bytes, not read on; " + self.holds]
             words = words_of(data)
         except Unreadable as cause:
             return [path, "-", "-", "-", "-", "UNREADABLE", str(cause)]
@@ -315,9 +329,9 @@ def lines_and_total(lines):
     return "".join("\t".join(line) + "\n" for line in lines) + total([line[5] for line in lines]) + "\n"
 
 
-def report(images, bench=None):
-    """On images, each a path and its bytes: on a blank flash each, or all in one."""
-    return lines_and_total([(bench or Bench()).line(path, data) for path, data in images])
+def report(images, bench=None, size=BENCH):
+    """On images, each a path and its bytes: on a blank flash of a size each, or all in one."""
+    return lines_and_total([(bench or Bench(size=size)).line(path, data) for path, data in images])
 
 
 def each_word_wrong(path, data):

@@ -301,6 +301,16 @@ def status_lines():
             yield ("read_status", *broken), []
 
 
+def sector_lines():
+    """Sectors in a flash of so many bytes: whether it may have them, then words, first word and address (02, request 11)."""
+    sizes = [2 * size for size in flash.SIZES]
+    for size in (*sizes, 0, 1, 32768, 65535, 65537, 65538, 131072, 262144, 524286, 524287, 524289, 2**32 - 1):
+        for sector in (*flash.SECTORS, 0, 2, 11, 2**32 - 1):
+            is_there = size in sizes and sector in flash.SECTORS
+            places = flash.extent(size // 2, sector) if is_there else range(0)
+            yield ("sector", size, sector), [size in sizes, len(places), places.start, flash.address_of(sector) if sector in flash.SECTORS else 0]
+
+
 def entry_lines():
     for _ in range(60):
         entries, directory = [], []
@@ -496,7 +506,7 @@ def fcs_lines():
 
 def main(folder):
     with open(folder + "/helpers.txt", "w") as given, open(folder + "/helpers.stdout", "w") as wanted:
-        for lines in (request_lines(), file_lines(), reading_lines(), status_lines(), entry_lines(), named_lines(), list_lines(),
+        for lines in (request_lines(), file_lines(), reading_lines(), status_lines(), sector_lines(), entry_lines(), named_lines(), list_lines(),
                       group_lines(), code_lines(), row_lines(), fcs_lines()):
             for (name, *numbers), comes_to in lines:
                 given.write(" ".join([name, *("%X" % number for number in numbers)]) + "\n")

@@ -1,12 +1,15 @@
-/* The model at the C border: runs of bytes for words, 192 bytes for the node. */
+/* The model at the C border: runs of bytes for words, 192 bytes for the node; and 02, request 11: a flash is bytes, and none is over. */
 #include "model.h"
 
 #include <string.h>
 
 enum { STATE = 192 };
-static const struct limits border = {8192, 8192, 4096, 32768, false};
+static const struct limits border = {8192, 8192, 4096, 32768};
 
 static struct run words_of(uint8_t *bytes, size_t length) { return (struct run){bytes, length / 2}; }
+
+/* A flash with an odd byte over is none: no words, which 1 refuses. */
+static struct run flash_of(uint8_t *bytes, size_t length) { return (struct run){bytes, length % 2 == 0 ? length / 2 : 0}; }
 
 /* The node that some bytes say, and whether they are those of a state as far as its form goes: what a case does not use is 0. */
 static bool decoded(const uint8_t *state, struct node *node) {
@@ -111,9 +114,9 @@ uint32_t model_start(uint32_t kind, uint32_t ports, uint32_t subdetector, uint16
                      uint16_t start_tests, uint32_t clock, const uint8_t *flash, size_t flash_len, uint8_t *state,
                      size_t state_len) {
     struct node node;
-    struct run words = {(uint8_t *)(uintptr_t)flash, flash_len / 2};
+    struct run words = flash_of((uint8_t *)(uintptr_t)flash, flash_len);
     uint32_t refusal =
-        model_node_start(&border, &node, kind, ports, subdetector, program_version, subdetector_version, start_tests, clock, words);
+        model_node_start(&node, kind, ports, subdetector, program_version, subdetector_version, start_tests, clock, words);
     if (refusal != 0 || state_len != STATE)
         return refusal != 0 ? refusal : 5;
     encode(&node, state);
@@ -130,7 +133,7 @@ uint64_t model_request(uint32_t now, uint32_t link, uint32_t bc, uint32_t receiv
                        uint8_t *state, size_t state_len, uint8_t *flash, size_t flash_len, uint8_t *pm, size_t pm_len, uint8_t *dm,
                        size_t dm_len, uint8_t *io, size_t io_len, uint8_t *area, size_t area_len, uint8_t *list, size_t list_len,
                        uint8_t *reply, size_t reply_len) {
-    struct lent lent = {words_of(flash, flash_len), {pm, pm_len / 4},         words_of(dm, dm_len),      words_of(io, io_len),
+    struct lent lent = {flash_of(flash, flash_len), {pm, pm_len / 4},         words_of(dm, dm_len),      words_of(io, io_len),
                         words_of(area, area_len),   words_of(list, list_len), words_of(reply, reply_len)};
     struct node node = node_for_call(state, state_len, lent.flash.words);
     if (state_len != STATE)
@@ -142,7 +145,7 @@ uint64_t model_request(uint32_t now, uint32_t link, uint32_t bc, uint32_t receiv
 uint64_t model_requests(uint32_t now, const uint8_t *packets, size_t packets_len, uint8_t *state, size_t state_len, uint8_t *flash,
                         size_t flash_len, uint8_t *pm, size_t pm_len, uint8_t *dm, size_t dm_len, uint8_t *io, size_t io_len,
                         uint8_t *area, size_t area_len, uint8_t *list, size_t list_len, uint8_t *replies, size_t replies_len) {
-    struct lent lent = {words_of(flash, flash_len), {pm, pm_len / 4},         words_of(dm, dm_len),          words_of(io, io_len),
+    struct lent lent = {flash_of(flash, flash_len), {pm, pm_len / 4},         words_of(dm, dm_len),          words_of(io, io_len),
                         words_of(area, area_len),   words_of(list, list_len), words_of(replies, replies_len)};
     struct node node = node_for_call(state, state_len, lent.flash.words);
     uint64_t answer = model_node_requests(&border, &node, now, packets, packets_len / 2, &lent);
@@ -166,8 +169,9 @@ uint64_t model_poll(uint32_t now, uint8_t *state, size_t state_len, uint8_t *rep
 }
 
 uint64_t model_erase(uint64_t budget, uint8_t *state, size_t state_len, uint8_t *flash, size_t flash_len) {
-    struct node node = node_for_call(state, state_len, flash_len / 2);
-    return kept(&node, model_node_erase(&border, &node, budget, words_of(flash, flash_len)), state);
+    struct run words = flash_of(flash, flash_len);
+    struct node node = node_for_call(state, state_len, words.words);
+    return kept(&node, model_node_erase(&node, budget, words), state);
 }
 
 uint64_t model_slow(uint32_t now, uint8_t *state, size_t state_len, uint8_t *list, size_t list_len) {

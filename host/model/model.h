@@ -12,7 +12,7 @@ enum { NEXT = 0, ERROR = 1, ABORT = 2, END = 3, DATA = 3 }; /* the BC of a reply
 enum { PENDING_NOTHING = 0, PENDING_SLAVE = 1, PENDING_GROUP = 2 };
 enum { AREA = 12288, JOIN_AREA = 32768, SLAVES = 24 };
 enum { NO_SECTOR = 0, SEVERAL = 1, SECTOR_FIRST = 3, SECTOR_LAST = 10 }; /* what a search finds: none, several, or one of 3 to 10 */
-enum { BENCH = 32768, FULL = 262144 };
+enum { BENCH = 32768, FULL = 262144 }; /* words of a flash */
 enum { RECORD_BYTES = 14, MOST_RECORDS = 910 }; /* of the Q-List */
 
 /* A lent run: its bytes, and how many words they are; a PM word is four bytes, any other two. Of the Q-List whole records count. */
@@ -25,10 +25,9 @@ struct lent {
     struct run flash, pm, dm, io, area, list, reply;
 };
 
-/* How much of each memory may be lent, and whether the flash may be full size: 01's table, and less at the C border. */
+/* How much of each memory may be lent, and of a slave's reply: 01's table, and less at the C border. */
 struct limits {
     size_t pm, dm, io, slave_reply;
-    bool full_flash;
 };
 
 struct node {
@@ -119,9 +118,8 @@ bool model_list_step(struct run list, size_t place, uint32_t now); /* whether th
 
 /* The seven calls (node.c), with the number that they answer. */
 
-uint32_t model_node_start(const struct limits *limits, struct node *node, uint32_t kind, uint32_t ports, uint32_t subdetector,
-                          uint16_t program_version, uint16_t subdetector_version, uint16_t start_tests, uint32_t clock,
-                          struct run flash);
+uint32_t model_node_start(struct node *node, uint32_t kind, uint32_t ports, uint32_t subdetector, uint16_t program_version,
+                          uint16_t subdetector_version, uint16_t start_tests, uint32_t clock, struct run flash);
 uint64_t model_node_request(const struct limits *limits, struct node *node, uint32_t now, uint32_t link, uint32_t bc,
                             uint32_t receive_error, const uint8_t *packet, size_t n, const struct lent *lent);
 uint64_t model_node_requests(const struct limits *limits, struct node *node, uint32_t now, const uint8_t *packets, size_t n,
@@ -130,7 +128,7 @@ uint64_t model_node_reply(const struct limits *limits, struct node *node, uint32
                           uint32_t receive_error, uint16_t rx_status, uint16_t rx_address, const uint8_t *packet, size_t n,
                           struct run reply);
 uint64_t model_node_poll(struct node *node, uint32_t now, struct run reply);
-uint64_t model_node_erase(const struct limits *limits, struct node *node, uint64_t budget, struct run flash);
+uint64_t model_node_erase(struct node *node, uint64_t budget, struct run flash);
 uint64_t model_node_slow(struct node *node, uint32_t now, struct run list);
 
 /* The same at the C border (border.c): numbers and bytes, as include/logodwen.h has them. */

@@ -49,9 +49,7 @@ static unsigned own_status(const struct node *node) {
 
 /* Refusals. */
 
-static bool is_flash_size(const struct limits *limits, size_t words) {
-    return words == BENCH || (limits->full_flash && words == FULL);
-}
+static bool is_flash_size(size_t words) { return words == BENCH || words == FULL; }
 
 static bool is_unknown(uint32_t kind, uint32_t ports, uint32_t subdetector) {
     return (kind != CDP && kind != CDDC) || ports < 1 || ports > 4 || subdetector > 7;
@@ -75,7 +73,7 @@ static bool is_group_wrong(const struct node *node) {
 static bool is_state_wrong(const struct node *node) {
     if (is_unknown(node->kind, node->ports, node->subdetector) || node->mode > 3)
         return true;
-    if (node->flash_words != BENCH && node->flash_words != FULL)
+    if (!is_flash_size(node->flash_words))
         return true;
     for (int i = 0; i < 16; i++)
         if (node->masks[i] > ALL_SLAVES)
@@ -490,7 +488,7 @@ static uint64_t with_words(struct node *node, uint32_t now, uint32_t link, unsig
 
 uint64_t model_node_request(const struct limits *limits, struct node *node, uint32_t now, uint32_t link, uint32_t bc,
                             uint32_t receive_error, const uint8_t *packet, size_t n, const struct lent *lent) {
-    if (!is_flash_size(limits, lent->flash.words) || lent->flash.words != node->flash_words)
+    if (!is_flash_size(lent->flash.words) || lent->flash.words != node->flash_words)
         return 1;
     if (lent->reply.words < AREA)
         return 2;
@@ -754,11 +752,10 @@ uint64_t model_node_poll(struct node *node, uint32_t now, struct run reply) {
 
 /* Start, erase progress and the slow-control step. */
 
-uint32_t model_node_start(const struct limits *limits, struct node *node, uint32_t kind, uint32_t ports, uint32_t subdetector,
-                          uint16_t program_version, uint16_t subdetector_version, uint16_t start_tests, uint32_t clock,
-                          struct run flash) {
+uint32_t model_node_start(struct node *node, uint32_t kind, uint32_t ports, uint32_t subdetector, uint16_t program_version,
+                          uint16_t subdetector_version, uint16_t start_tests, uint32_t clock, struct run flash) {
     *node = (struct node){0};
-    if (!is_flash_size(limits, flash.words))
+    if (!is_flash_size(flash.words))
         return 1;
     if (is_unknown(kind, ports, subdetector))
         return 4;
@@ -777,8 +774,8 @@ uint32_t model_node_start(const struct limits *limits, struct node *node, uint32
     return 0;
 }
 
-uint64_t model_node_erase(const struct limits *limits, struct node *node, uint64_t budget, struct run flash) {
-    if (!is_flash_size(limits, flash.words) || flash.words != node->flash_words)
+uint64_t model_node_erase(struct node *node, uint64_t budget, struct run flash) {
+    if (!is_flash_size(flash.words) || flash.words != node->flash_words)
         return 1;
     if (is_state_wrong(node))
         return 5;

@@ -1,8 +1,9 @@
-/* Tests of the border: each refusal and their order, odd lengths, NULL with length 0, guard bytes round every run, alignment, files
-   in several packets, lengths in the directory, remains behind a file, names that several sectors have, slaves that answer in
+/* Tests of the border: each refusal and their order, odd lengths, NULL with length 0, guard bytes round every run, alignment, a flash of
+   either size, files in several packets, lengths in the directory, remains behind a file, names that several sectors have, slaves that answer in
    packets, the Q-List, captured group replies, lists of requests, the parts of what is answered, and the layout of the state. Every run
    stands between guard bytes; after each call they are looked at, and after a refused one every byte of every run too. */
 #include "../../include/logodwen.h"
+#include "long_file.h"
 
 #include <stdio.h>
 #include <stdlib.h>
@@ -24,17 +25,27 @@ static void check(int holds, const char *text, int line) {
 enum { STATE, FLASH, PM, DM, IO, AREA, LIST, REPLY, PACKET, REPLIES, RUNS }; /* of a list of requests PACKET has its packets */
 enum { GUARD = 64 };
 static const char *const names[RUNS] = {"state", "flash", "pm", "dm", "io", "area", "list", "reply", "packet", "replies"};
-static const size_t rooms[RUNS] = {LOGODWEN_STATE_BYTES + 8,       LOGODWEN_FLASH_BYTES + 8, LOGODWEN_PM_BYTES + 16,
-                                   LOGODWEN_DM_BYTES + 8,          LOGODWEN_IO_BYTES + 8,    LOGODWEN_AREA_BYTES + 8,
-                                   LOGODWEN_LIST_BYTES + 28,       LOGODWEN_REPLY_BYTES + 8, LOGODWEN_SLAVE_REPLY_BYTES + 8,
-                                   2 * LOGODWEN_REPLIES_BYTES + 8};
+static size_t rooms[RUNS] = {LOGODWEN_STATE_BYTES + 8, 0,                        LOGODWEN_PM_BYTES + 16,         LOGODWEN_DM_BYTES + 8,
+                             LOGODWEN_IO_BYTES + 8,    LOGODWEN_AREA_BYTES + 8,  LOGODWEN_LIST_BYTES + 28,       LOGODWEN_REPLY_BYTES + 8,
+                             LOGODWEN_SLAVE_REPLY_BYTES + 8, 2 * LOGODWEN_REPLIES_BYTES + 8};
+static size_t flash_bytes = LOGODWEN_FLASH_BYTES; /* of the flash that is lent: its room goes by that */
 static uint8_t *blocks[RUNS], *runs[RUNS], *copies[RUNS]; /* a block holds guard bytes, a run, guard bytes */
 static size_t lengths[RUNS];
 
 static uint8_t guard_byte(size_t at) { return (uint8_t)(0xA5 ^ at); }
 
+static int are_guards(int run, size_t from, size_t to) {
+    while (from < to && blocks[run][from] == guard_byte(from))
+        from++;
+    return from == to;
+}
+
+/* How many words sector 3 has; each other one has twice as many. */
+static size_t unit(void) { return flash_bytes / 2 / 16; }
+
 /* Runs that begin `shift` bytes past an aligned place. */
 static void lay_out(size_t shift) {
+    rooms[FLASH] = flash_bytes + 8;
     for (int run = 0; run < RUNS; run++) {
         size_t size = rooms[run] + 2 * GUARD + 16;
         free(blocks[run]);
@@ -51,8 +62,8 @@ static void lay_out(size_t shift) {
     }
     memset(runs[STATE], 0, rooms[STATE]);
     memset(runs[FLASH], 0xFF, rooms[FLASH]);
-    static const size_t usual[RUNS] = {LOGODWEN_STATE_BYTES, LOGODWEN_FLASH_BYTES, 256, 128, 128, LOGODWEN_AREA_BYTES,
-                                       LOGODWEN_LIST_BYTES,  LOGODWEN_REPLY_BYTES, 0,   2 * LOGODWEN_REPLIES_BYTES};
+    const size_t usual[RUNS] = {LOGODWEN_STATE_BYTES, flash_bytes,          256, 128, 128, LOGODWEN_AREA_BYTES,
+                                LOGODWEN_LIST_BYTES,  LOGODWEN_REPLY_BYTES, 0,   2 * LOGODWEN_REPLIES_BYTES};
     memcpy(lengths, usual, sizeof lengths);
 }
 
@@ -75,10 +86,7 @@ static int is_same(int run, size_t from, size_t to) { return memcmp(copies[run] 
 static void look_round(unsigned refusal, int line) {
     for (int run = 0; run < RUNS; run++) {
         size_t size = rooms[run] + 2 * GUARD + 16, before = (size_t)(runs[run] - blocks[run]), from = 0;
-        int whole = 1;
-        for (size_t at = 0; at < size; at++)
-            if ((at < before || at >= before + rooms[run]) && blocks[run][at] != guard_byte(at))
-                whole = 0;
+        int whole = are_guards(run, 0, before) && are_guards(run, before + rooms[run], size);
         if (refusal == 0 && run != PACKET)
             from = whole_bytes(run);
         if (!is_same(run, from, rooms[run]))
@@ -221,7 +229,7 @@ static void test_start(void) {
           && state[LOGODWEN_AT_MODE] == 0);
     CHECK(state_word(LOGODWEN_AT_PROGRAM_VERSION) == 0x1234 && state_word(LOGODWEN_AT_SUBDETECTOR_VERSION) == 0x5678);
     CHECK(state_word(LOGODWEN_AT_START_TESTS) == 0x0F00);
-    CHECK(state_long(LOGODWEN_AT_CLOCK) == 1000 && state_long(LOGODWEN_AT_FLASH_WORDS) == LOGODWEN_FLASH_WORDS);
+    CHECK(state_long(LOGODWEN_AT_CLOCK) == 1000 && state_long(LOGODWEN_AT_FLASH_WORDS) == flash_bytes / 2);
     for (size_t at = LOGODWEN_AT_AMSWIRE_ERRORS; at < LOGODWEN_AT_CLOCK; at++)
         CHECK(state[at] == 0);
     for (size_t at = LOGODWEN_AT_ERASED; at < LOGODWEN_AT_MASKS; at++)
@@ -274,11 +282,8 @@ static void test_start_refusals(void) {
     CHECK(START(1, 1, 0) == LOGODWEN_REFUSED_STATE);
     lengths[STATE] = 0;
     CHECK(START(1, 1, 0) == LOGODWEN_REFUSED_STATE);
-    static const size_t flashes[] = {0, 1, 2, LOGODWEN_FLASH_BYTES - 1, LOGODWEN_FLASH_BYTES - 2, LOGODWEN_FLASH_BYTES + 2};
-    for (size_t i = 0; i < sizeof flashes / sizeof *flashes; i++) {
-        lengths[FLASH] = flashes[i];
-        CHECK(START(0, 0, 9) == LOGODWEN_REFUSED_FLASH_SIZE);
-    }
+    lengths[FLASH] = 0;
+    CHECK(START(0, 0, 9) == LOGODWEN_REFUSED_FLASH_SIZE);
 }
 
 /* The first of several causes answers. A cause is one bit: bit n - 1 for refusal n. */
@@ -291,7 +296,7 @@ static void lend_with(unsigned causes) {
     }
     PACKET_OF(0x122E);
     if (causes & 1)
-        lengths[FLASH] = LOGODWEN_FLASH_BYTES - 1;
+        lengths[FLASH] = flash_bytes - 1;
     if (causes & 2)
         lengths[REPLY] = LOGODWEN_REPLY_BYTES - 1;
     if (causes & 4)
@@ -485,14 +490,13 @@ static void test_received_bytes(void) {
     }
 }
 
-/* An unfinished last word is ignored, and stays. (look_round sees that it does.) */
+/* An unfinished last word is ignored, and stays, of every run but the flash. (look_round sees that it does.) */
 static void test_odd_lengths(void) {
     for (size_t extra = 0; extra < 4; extra++) {
         lend_with(0);
         lengths[PM] = 256 + extra;
         lengths[DM] = 128 + extra % 2;
         lengths[IO] = 128 + extra % 2;
-        lengths[FLASH] = LOGODWEN_FLASH_BYTES + extra % 2;
         lengths[REPLY] = LOGODWEN_REPLY_BYTES + extra % 2;
         lengths[AREA] = LOGODWEN_AREA_BYTES + extra;
         file_write(0x7211);
@@ -599,8 +603,8 @@ static void test_lengths(void) {
     CHECK(REQUEST(1000, 0, LOGODWEN_BC_WHOLE, 0) == zero_length(LOGODWEN_BC_END) && kept_length(4) == 1 && kept_length(5) == 6);
     PACKET_OF(0x472E, 0x0211);
     CHECK(REQUEST(1000, 0, LOGODWEN_BC_WHOLE, 0) == zero_length(LOGODWEN_BC_END) && kept_length(3) == 0);
-    CHECK(ERASE(1) == (uint64_t)1 << 32 && kept_length(3) == 0 && ERASE(2047) == (uint64_t)2047 << 32 && kept_length(3) == 0);
-    runs[FLASH][2 * logodwen_sector_start(5) + 8] ^= 1; /* a bad sector has none */
+    CHECK(ERASE(1) == (uint64_t)1 << 32 && kept_length(3) == 0 && ERASE(unit() - 1) == (uint64_t)(unit() - 1) << 32 && kept_length(3) == 0);
+    runs[FLASH][2 * logodwen_sector_start(flash_bytes, 5) + 8] ^= 1; /* a bad sector has none */
     CHECK(START(LOGODWEN_CDDC, 2, 0) == LOGODWEN_DONE && kept_length(4) == 0 && kept_length(5) == 0
           && logodwen_get(entry_word(5, 2), 0) == 0x8000);
 }
@@ -608,7 +612,7 @@ static void test_lengths(void) {
 /* Words behind a file that are not all FFFF make its sector bad; the sector's last word counts, and the next sector's first does not (02,
    request 5). */
 static void test_remains(void) {
-    const size_t words[] = {6, 7, 1000, 2046, 2047}, start = logodwen_sector_start(3);
+    const size_t words[] = {6, 7, 1000, unit() - 2, unit() - 1}, start = logodwen_sector_start(flash_bytes, 3);
     for (size_t i = 0; i < sizeof words / sizeof *words; i++) {
         lend_with(0);
         file_write(0x7211);
@@ -620,23 +624,19 @@ static void test_remains(void) {
         file_write(0x7211);
         CHECK(REQUEST(1000, 0, LOGODWEN_BC_WHOLE, 0) == zero_length(LOGODWEN_BC_ABORT)); /* the name is used */
         PACKET_OF(0x472E, 0x0211);
-        CHECK(REQUEST(1000, 0, LOGODWEN_BC_WHOLE, 0) == zero_length(LOGODWEN_BC_END) && ERASE(2048) == (uint64_t)2048 << 32);
+        CHECK(REQUEST(1000, 0, LOGODWEN_BC_WHOLE, 0) == zero_length(LOGODWEN_BC_END) && ERASE(unit()) == (uint64_t)unit() << 32);
         file_write(0x7211);
         CHECK(REQUEST(1000, 0, LOGODWEN_BC_WHOLE, 0) == zero_length(LOGODWEN_BC_END) && kept_length(3) == 6);
     }
-    for (size_t length = 2047; length <= 2048; length++) { /* with one word behind it, and with none */
+    for (size_t length = unit() - 1; length <= unit(); length++) { /* with one word behind it, and with none */
         lend_with(0);
-        uint8_t *file = runs[FLASH] + 2 * start;
-        logodwen_put(file, 0, 0x7211);
-        logodwen_put(file, 1, (uint16_t)(0x4000 | (length - 3)));
-        logodwen_put(file, 2, 0x2000);
-        for (size_t at = 3; at < length - 1; at++)
-            logodwen_put(file, at, (uint16_t)(at * 7));
-        logodwen_put(file, length - 1, logodwen_fcs(file + 6, length - 4));
-        logodwen_put(file, 2048, 0); /* sector 4 */
+        CHECK(lay_long_file(runs[FLASH] + 2 * start, 0x21, length) == length);
+        logodwen_put(runs[FLASH], start + unit(), 0); /* sector 4 */
         CHECK(START(LOGODWEN_CDDC, 2, 0) == LOGODWEN_DONE && kept_length(3) == length && kept_length(4) == 0);
+        PACKET_OF(0x062E, 0x0210);
+        CHECK(REQUEST(1000, 0, LOGODWEN_BC_WHOLE, 0) == with_words(3) && reply_word(0) == 0);
         PACKET_OF(0x052E, 0x0210);
-        CHECK(REQUEST(1000, 0, LOGODWEN_BC_WHOLE, 0) == with_words(length + 2));
+        CHECK(REQUEST(1000, 0, LOGODWEN_BC_WHOLE, 0) == (length <= 12286 ? with_words(length + 2) : zero_length(LOGODWEN_BC_ABORT)));
     }
 }
 
@@ -662,7 +662,7 @@ static void test_names_twice(void) {
         lend_with(0);
         file_write(0x7211);
         for (unsigned sector = 3; sector <= 5; sector += 2) {
-            uint8_t *to = runs[FLASH] + 2 * logodwen_sector_start(sector);
+            uint8_t *to = runs[FLASH] + 2 * logodwen_sector_start(flash_bytes, sector);
             memcpy(to, runs[PACKET] + 2, 12);
             to[8] ^= (uint8_t)(sector == 3 ? bad & 1 : bad >> 1);
         }
@@ -671,14 +671,14 @@ static void test_names_twice(void) {
         PACKET_OF(0x472E, 0x0200); /* by address as before */
         CHECK(REQUEST(1000, 0, LOGODWEN_BC_WHOLE, 0) == zero_length(LOGODWEN_BC_END) && ERASE(1) == (uint64_t)1 << 32);
         PACKET_OF(0x052E, 0x0210);
-        CHECK(REQUEST(1000, 0, LOGODWEN_BC_WHOLE, 0) == zero_length(LOGODWEN_BC_ABORT) && ERASE(2047) == (uint64_t)2047 << 32);
+        CHECK(REQUEST(1000, 0, LOGODWEN_BC_WHOLE, 0) == zero_length(LOGODWEN_BC_ABORT) && ERASE(unit() - 1) == (uint64_t)(unit() - 1) << 32);
         CHECK(state_word(LOGODWEN_AT_FLASH_ERRORS) == 2);
         if (bad & 2)
             CHECK_BAD();
         PACKET_OF(0x052E, 0x0210); /* one is left, and serves */
         CHECK(REQUEST(1000, 0, LOGODWEN_BC_WHOLE, 0) == (bad & 2 ? zero_length(LOGODWEN_BC_ABORT) : with_words(8)));
         PACKET_OF(0x472E, 0x0211);
-        CHECK(REQUEST(1000, 0, LOGODWEN_BC_WHOLE, 0) == zero_length(LOGODWEN_BC_END) && ERASE(4096) == (uint64_t)4096 << 32);
+        CHECK(REQUEST(1000, 0, LOGODWEN_BC_WHOLE, 0) == zero_length(LOGODWEN_BC_END) && ERASE(2 * unit()) == (uint64_t)(2 * unit()) << 32);
         PACKET_OF(0x052E, 0x0210);
         CHECK(REQUEST(1000, 0, LOGODWEN_BC_WHOLE, 0) == zero_length(LOGODWEN_BC_END));
     }
@@ -690,6 +690,146 @@ static void test_names_twice(void) {
     logodwen_put(entry_word(10, 0), 0, 0x021F); /* which starts no file */
     PACKET_OF(0x052E, 0x0210);
     CHECK(REQUEST(1000, 0, LOGODWEN_BC_WHOLE, 0) == with_words(8));
+}
+
+/* A flash of either size (02, request 11). */
+
+/* Bytes that are no size's, a byte over or short of one included, and the size that was not used at start, are refused by 1 in every call that
+   is lent a flash, before all other causes; and by a list with none done. */
+static void test_flash_lengths(void) {
+    const size_t used = flash_bytes, other = LOGODWEN_FLASH_BYTES + LOGODWEN_FLASH_FULL_BYTES - used;
+    const size_t wrong[] = {0,        1,        2,         used / 2,     used - 2,  used - 1,  used + 1, used + 2,
+                            other - 2, other - 1, other + 1, other + 2, other / 2, other};
+    flash_bytes = LOGODWEN_FLASH_FULL_BYTES; /* so that each of these is really there */
+    lay_out(0);
+    lengths[FLASH] = used;
+    CHECK(START(LOGODWEN_CDDC, 2, 0) == LOGODWEN_DONE && state_long(LOGODWEN_AT_FLASH_WORDS) == used / 2);
+    for (size_t i = 0; i < sizeof wrong / sizeof *wrong; i++) {
+        lengths[FLASH] = wrong[i];
+        PACKET_OF(0x122E);
+        CHECK(REQUEST(1000, 9, LOGODWEN_BC_WHOLE, 0) == LOGODWEN_REFUSED_FLASH_SIZE && ERASE(1) == LOGODWEN_REFUSED_FLASH_SIZE);
+        PACKET_OF(0, 3, 1, 0x122E);
+        CHECK(REQUESTS(1000) == done(0) && is_same(STATE, 0, rooms[STATE]) && is_same(FLASH, 0, rooms[FLASH])
+              && is_same(REPLIES, 0, rooms[REPLIES]));
+        lengths[STATE]--; /* the size used at start is not told then */
+        CHECK(ERASE(1) == (wrong[i] == other ? LOGODWEN_REFUSED_STATE : LOGODWEN_REFUSED_FLASH_SIZE));
+        lengths[STATE]++;
+        if (wrong[i] != other)
+            CHECK(START(0, 0, 9) == LOGODWEN_REFUSED_FLASH_SIZE);
+        CHECK(POLL(1000) == LOGODWEN_REFUSED_UNASKED && SLOW(1000) == nothing()); /* these are not lent it */
+    }
+    lengths[FLASH] = other; /* another start, another size */
+    CHECK(START(LOGODWEN_CDDC, 2, 0) == LOGODWEN_DONE && state_long(LOGODWEN_AT_FLASH_WORDS) == other / 2);
+    lengths[FLASH] = used;
+    CHECK(ERASE(1) == LOGODWEN_REFUSED_FLASH_SIZE);
+    flash_bytes = used;
+}
+
+/* Whether the last call has changed no words of the flash but so many from one on. */
+static int is_only_changed(size_t from, size_t words) {
+    return is_same(FLASH, 0, 2 * from) && is_same(FLASH, 2 * (from + words), rooms[FLASH]);
+}
+
+static int are_blank(size_t from, size_t words) {
+    size_t at = 2 * from;
+    while (at < 2 * (from + words) && runs[FLASH][at] == 0xFF)
+        at++;
+    return at == 2 * (from + words);
+}
+
+/* Each file sector is where its number says: a file goes to the lowest, is read back from there, and is erased there and nowhere else. */
+static void test_sectors(void) {
+    static const uint16_t addresses[8] = {0x0200, 0x0400, 0x0800, 0x0C00, 0x1000, 0x1400, 0x1800, 0x1C00};
+    lend_with(0);
+    for (unsigned sector = 3; sector <= 10; sector++) {
+        size_t words = sector == 3 ? unit() : 2 * unit(), from = sector == 3 ? unit() : 2 * unit() * (sector - 3);
+        CHECK(logodwen_sector_words(flash_bytes, sector) == words && logodwen_sector_start(flash_bytes, sector) == from);
+        file_write((uint16_t)(0x7001 | sector << 4));
+        CHECK(REQUEST(1000, 0, LOGODWEN_BC_WHOLE, 0) == zero_length(LOGODWEN_BC_END) && kept_length(sector) == 6);
+        CHECK(is_only_changed(from, 6) && memcmp(runs[FLASH] + 2 * from, runs[PACKET] + 2, 12) == 0);
+        PACKET_OF(0x482E, (uint16_t)(sector << 4), 0x0001);
+        CHECK(REQUEST(1000, 0, LOGODWEN_BC_WHOLE, 0) == zero_length(LOGODWEN_BC_END) && is_only_changed(from, 1));
+        PACKET_OF(0x052E, (uint16_t)(sector << 4));
+        CHECK(REQUEST(1000, 0, LOGODWEN_BC_WHOLE, 0) == with_words(8) && memcmp(runs[REPLY], runs[FLASH] + 2 * from, 12) == 0);
+    }
+    for (unsigned sector = 3; sector <= 10; sector++) {
+        size_t words = logodwen_sector_words(flash_bytes, sector), from = logodwen_sector_start(flash_bytes, sector);
+        PACKET_OF(0x472E, addresses[sector - 3]);
+        CHECK(REQUEST(1000, 0, LOGODWEN_BC_WHOLE, 0) == zero_length(LOGODWEN_BC_END) && is_same(FLASH, 0, rooms[FLASH]));
+        CHECK(ERASE(100) == (uint64_t)100 << 32 && is_only_changed(from, 100) && are_blank(from, 100));
+        memset(runs[FLASH] + 2 * from, 0, 2 * words); /* what an erasure goes on with is set, whatever stood there */
+        CHECK(ERASE(UINT64_MAX) == (uint64_t)(words - 100) << 32 && is_only_changed(from + 100, words - 100));
+        CHECK(are_blank(from + 100, words - 100) && ERASE(1) == 0);
+        memset(runs[FLASH] + 2 * from, 0xFF, 2 * words);
+    }
+    CHECK(logodwen_sector_words(flash_bytes, 2) == 0 && logodwen_sector_start(flash_bytes, 11) == 0);
+    CHECK(logodwen_sector_words(flash_bytes / 2, 3) == 0 && logodwen_sector_start(flash_bytes + 1, 3) == 0);
+}
+
+/* A file in packets of 8,192 words, and the answer to the last. */
+static uint64_t write_long(const uint8_t *file, size_t words) {
+    uint64_t answered = zero_length(LOGODWEN_BC_NEXT);
+    uint32_t bc;
+    for (size_t at = 0, laid; (laid = logodwen_make_file_packet(runs[PACKET], LOGODWEN_REQUEST_WORDS, file, words, &at, &bc)) != 0;) {
+        CHECK(logodwen_is_next(answered));
+        lengths[PACKET] = 2 * laid;
+        answered = REQUEST(1000, 0, bc, 0);
+    }
+    return answered;
+}
+
+/* Long files: up to 32,768 words find a sector of a full flash, and none of a bench flash; up to 12,286 are read back, and all others stand in
+   the flash as they came, tested and listed. */
+static void test_long_files(void) {
+    static const size_t all[] = {4096, 4097, 12286, 12287, 16384, 16385, 32767, 32768, 32769};
+    static uint8_t file[LOGODWEN_AREA_BYTES + 2];
+    for (size_t i = 0; i < sizeof all / sizeof *all; i++) {
+        unsigned sector = all[i] <= unit() ? 3 : 4;
+        size_t words = all[i], from = logodwen_sector_start(flash_bytes, sector), size = logodwen_sector_words(flash_bytes, sector);
+        size_t last = from + size - 1;
+        lay_out(i); /* at every shift from an aligned place */
+        lengths[DM] = LOGODWEN_DM_BYTES;
+        CHECK(START(LOGODWEN_CDDC, 2, 0) == LOGODWEN_DONE && lay_long_file(file, 0x21, words) == words);
+        uint64_t answered = write_long(file, words);
+        if (words > 2 * unit()) {
+            CHECK(answered == zero_length(LOGODWEN_BC_ABORT) && is_same(FLASH, 0, rooms[FLASH]) && is_none_standing());
+            continue;
+        }
+        CHECK(answered == zero_length(LOGODWEN_BC_END) && is_only_changed(from, words) && kept_length(sector) == words);
+        CHECK(memcmp(runs[FLASH] + 2 * from, file, 2 * words) == 0);
+        PACKET_OF(0x052E, 0x0210);
+        answered = REQUEST(1000, 0, LOGODWEN_BC_WHOLE, 0);
+        CHECK(answered == (words <= 12286 ? with_words(words + 2) : zero_length(LOGODWEN_BC_ABORT)));
+        CHECK(words > 12286 || memcmp(runs[REPLY], file, 2 * words) == 0);
+        PACKET_OF(0x062E, 0x0210);
+        CHECK(REQUEST(1000, 0, LOGODWEN_BC_WHOLE, 0) == with_words(3) && reply_word(0) == 0);
+        PACKET_OF(0x072E);
+        CHECK(REQUEST(1000, 0, LOGODWEN_BC_WHOLE, 0) == with_words(34) && reply_word(4 * (sector - 3) + 3) == words);
+        PACKET_OF(0x462E, 0x0210); /* all its segments begin alike */
+        CHECK(REQUEST(1000, 0, LOGODWEN_BC_WHOLE, 0) == zero_length(LOGODWEN_BC_END) && memcmp(runs[DM], file + 6, 2 * 90) == 0);
+        CHECK(START(LOGODWEN_CDDC, 2, 0) == LOGODWEN_DONE && kept_length(sector) == words);
+        logodwen_put(runs[FLASH], last, logodwen_get(runs[FLASH], last) ^ 0x8000); /* in the file, or behind it */
+        CHECK_BAD();
+        PACKET_OF(0x472E, 0x0211);
+        CHECK(REQUEST(1000, 0, LOGODWEN_BC_WHOLE, 0) == zero_length(LOGODWEN_BC_END) && ERASE(1000) == (uint64_t)1000 << 32);
+        CHECK(state_long(LOGODWEN_AT_ERASED) == 1000 && runs[STATE][LOGODWEN_AT_ERASING] == sector);
+        CHECK(ERASE(UINT64_MAX) == (uint64_t)(size - 1000) << 32 && are_blank(from, size) && runs[STATE][LOGODWEN_AT_ERASING] == 0);
+    }
+}
+
+/* A list writes a long file in packets, and reads it back. */
+static void test_series_of_long_file(void) {
+    enum { WORDS = 12000 };
+    static uint8_t file[2 * WORDS];
+    uint8_t read[LOGODWEN_COMMAND_BYTES];
+    struct logodwen_packets list;
+    lend_with(0);
+    logodwen_packets_begin(&list, runs[PACKET], rooms[PACKET] / 2);
+    CHECK(lay_long_file(file, 0x21, WORDS) == WORDS && logodwen_packets_add_file(&list, 0, file, WORDS));
+    CHECK(logodwen_packets_add(&list, 0, LOGODWEN_BC_WHOLE, read, logodwen_make_file_read(read, 0x21)));
+    lengths[PACKET] = 2 * list.words;
+    CHECK(REQUESTS(1000) == done(3) && kept_length(3) == WORDS && is_only_changed(unit(), WORDS));
+    CHECK(logodwen_get(runs[REPLIES], 5) == WORDS + 2 && memcmp(runs[REPLIES] + 12, file, sizeof file) == 0);
 }
 
 static void test_group(void) {
@@ -1789,7 +1929,7 @@ static size_t lay_by_chance(uint16_t *to) {
     return 3 + (size_t)to[2];
 }
 
-static uint8_t kept_runs[RUNS][LOGODWEN_SLAVE_REPLY_BYTES + 8]; /* what a list has left */
+static uint8_t kept_runs[RUNS][LOGODWEN_FLASH_FULL_BYTES + 8]; /* what a list has left */
 
 /* The calls one by one on what was lent to the list, whose packets are given: how many are done, their replies laid in a row. */
 static size_t by_singles(const uint16_t *row, size_t words) {
@@ -1869,7 +2009,7 @@ static void test_texts(void) {
         CHECK(logodwen_bc(other) == LOGODWEN_NONE && logodwen_slave((uint64_t)LOGODWEN_WAITING << 8) == LOGODWEN_NONE
               && logodwen_from(other << 32) == LOGODWEN_NONE);
     static const uint8_t text[8] = {0x32, 0x31, 0x34, 0x33, 0x36, 0x35, 0x38, 0x37};
-    CHECK(logodwen_fcs(text, 4) == 0xA12B && logodwen_fcs(NULL, 0) == 0xFFFF && logodwen4_fcs(text, 7) == logodwen_fcs(text, 3));
+    CHECK(logodwen_fcs(text, 4) == 0xA12B && logodwen_fcs(NULL, 0) == 0xFFFF && logodwen5_fcs(text, 7) == logodwen_fcs(text, 3));
 }
 
 /* What a slave is to be sent: the request from some word on, whole; or no words with BC 0; or nothing. */
@@ -1888,22 +2028,37 @@ static void test_to_send(void) {
         CHECK(!logodwen_to_send(refusal, request, 3, &sent) && sent.bc == 9);
 }
 
+/* A test on a flash of each size. */
+static void at_both_sizes(void (*test)(void)) {
+    static const size_t sizes[2] = {LOGODWEN_FLASH_FULL_BYTES, LOGODWEN_FLASH_BYTES}; /* the last one stays */
+    for (size_t i = 0; i < 2; i++) {
+        flash_bytes = sizes[i];
+        test();
+    }
+}
+
 int main(void) {
-    test_start();
+    at_both_sizes(test_start);
     test_start_masks();
     test_start_refusals();
     test_order();
     test_each_refusal();
-    test_state_length();
+    at_both_sizes(test_state_length);
     test_state_bytes();
     test_write_bytes();
     test_received_bytes();
     test_odd_lengths();
     test_null();
-    test_alignment();
-    test_lengths();
-    test_remains();
-    test_names_twice();
+    at_both_sizes(test_alignment);
+    at_both_sizes(test_lengths);
+    at_both_sizes(test_remains);
+    at_both_sizes(test_names_twice);
+    at_both_sizes(test_flash_lengths);
+    at_both_sizes(test_sectors);
+    at_both_sizes(test_long_files);
+    flash_bytes = LOGODWEN_FLASH_FULL_BYTES;
+    test_series_of_long_file();
+    flash_bytes = LOGODWEN_FLASH_BYTES;
     test_group();
     test_packets();
     test_packet_divisions();
@@ -1944,7 +2099,7 @@ int main(void) {
     test_series_overrun();
     test_series_refused();
     test_series_null();
-    test_series_by_chance();
+    at_both_sizes(test_series_by_chance);
     test_texts();
     test_to_send();
     for (int run = 0; run < RUNS; run++) {

@@ -5,27 +5,31 @@
 #include "chance.h"
 
 #include <inttypes.h>
+#include <limits.h>
 #include <stdio.h>
 #include <stdlib.h>
 #include <string.h>
 
-/* What is lent, twice: to the library and to the model. Guard bytes stand behind each run. */
+/* What is lent, twice: to the library and to the model. Guard bytes stand before and behind each run. */
 
 enum { STATE_RUN, FLASH_RUN, PM_RUN, DM_RUN, IO_RUN, AREA_RUN, LIST_RUN, REPLY_RUN, REPLIES_RUN, RUNS };
 enum { GUARD = 16 };
 enum { REPLY_ROOM = 12290, REPLIES_BYTES = 2 * (REPLY_ROOM + 8000) }; /* words that a packet of a list has to find; what is lent */
 static const char *const run_names[RUNS] = {"state", "flash", "pm", "dm", "io", "area", "list", "reply", "replies"};
-static const size_t room[RUNS] = {LOGODWEN_STATE_BYTES + 8, LOGODWEN_FLASH_BYTES + 8,
+static const size_t room[RUNS] = {LOGODWEN_STATE_BYTES + 8, LOGODWEN_FLASH_FULL_BYTES + 8,
                                   LOGODWEN_PM_BYTES + 8,    LOGODWEN_DM_BYTES + 8,
                                   LOGODWEN_IO_BYTES + 8,    LOGODWEN_AREA_BYTES + 8,
                                   LOGODWEN_LIST_BYTES + 2 * LOGODWEN_RECORD_BYTES, LOGODWEN_REPLY_BYTES + 8,
                                   REPLIES_BYTES + 8};
 static uint8_t *library[RUNS], *model[RUNS]; /* two worlds */
 static size_t lent_bytes[RUNS];
+static size_t flash_bytes; /* of the node now tried: bench size or full size. A call may be lent other lengths */
 
-static const size_t usual_bytes[RUNS] = {LOGODWEN_STATE_BYTES, LOGODWEN_FLASH_BYTES, 0, 0, 0,
-                                         LOGODWEN_AREA_BYTES,  0,                    LOGODWEN_REPLY_BYTES,
-                                         REPLIES_BYTES};
+static const size_t usual_bytes[RUNS] = {LOGODWEN_STATE_BYTES, 0, 0, 0, 0, LOGODWEN_AREA_BYTES, 0, LOGODWEN_REPLY_BYTES, REPLIES_BYTES};
+
+static bool is_full(void) { return flash_bytes == LOGODWEN_FLASH_FULL_BYTES; }
+
+static size_t other_size(void) { return is_full() ? LOGODWEN_FLASH_BYTES : LOGODWEN_FLASH_FULL_BYTES; }
 
 /* Where a length of 0 is lent, sometimes as NULL. */
 static uint8_t *lend(uint8_t *const *world, int run) { return lent_bytes[run] == 0 ? NULL : world[run]; }
@@ -51,29 +55,37 @@ static uint64_t answered;               /* the last one */
 static unsigned long tallies[7][16][9]; /* by call, by refusal, by answer */
 static unsigned long commands[256][3];  /* own commands answered with words, END, ABORT */
 
-static void differs(const char *what, size_t at, uint64_t by_library, uint64_t by_model) {
+enum { NOT_A_BYTE = INT_MIN };
+
+static void differs(const char *what, int at, uint64_t by_library, uint64_t by_model) {
     printf("differ: seed %" PRIu64 ", call %lu: %s: %s", seed, calls, call_text, what);
-    if (at != SIZE_MAX)
-        printf(" byte %zu", at);
+    if (at != NOT_A_BYTE)
+        printf(" byte %d", at);
     printf(" is %" PRIx64 " by the library, %" PRIx64 " by the model\n", by_library, by_model);
     exit(1);
 }
 
-static void compare_run(int run) {
-    size_t bytes = room[run] + GUARD;
-    if (memcmp(library[run], model[run], bytes) == 0)
+/* So many bytes of a run, and the guard bytes before and behind them. */
+static void compare_run(int run, size_t bytes) {
+    const uint8_t *ours = library[run] - GUARD, *other = model[run] - GUARD;
+    if (memcmp(ours, other, bytes + 2 * GUARD) == 0)
         return;
-    for (size_t at = 0; at < bytes; at++)
-        if (library[run][at] != model[run][at])
-            differs(run_names[run], at, library[run][at], model[run][at]);
+    for (size_t at = 0; at < bytes + 2 * GUARD; at++)
+        if (ours[at] != other[at])
+            differs(run_names[run], (int)at - GUARD, ours[at], other[at]);
+}
+
+/* What is looked at after a call: of the flash as much as the node has or the call was lent, since all of its room takes long. */
+static size_t looked_at(int run) {
+    return run != FLASH_RUN ? room[run] : lent_bytes[run] > flash_bytes ? lent_bytes[run] : flash_bytes;
 }
 
 static void compare(int call, uint64_t by_library, uint64_t by_model, const int *runs) {
     calls++;
     if (by_library != by_model)
-        differs("the number answered", SIZE_MAX, by_library, by_model);
+        differs("the number answered", NOT_A_BYTE, by_library, by_model);
     for (; *runs >= 0; runs++)
-        compare_run(*runs);
+        compare_run(*runs, looked_at(*runs));
     answered = by_model;
     tallies[call][logodwen_refusal(by_model) & 15][logodwen_answer(by_model) % 9]++;
 }
@@ -454,6 +466,110 @@ static enum series_kind series_kind(uint64_t answer) {
     return why_stopped(done);
 }
 
+/* A flash of either size (02, request 11), and how many calls of each kind fell on a file that no bench flash holds, a long one, or were
+   lent another count of bytes than the node was started on. */
+
+enum flash_kind {
+    LONG_WRITTEN,
+    LONG_READ,
+    LONG_NOT_READ,
+    LONG_TESTED,
+    LONG_LOADED,
+    LONG_NOT_LOADED,
+    LONG_BAD,
+    LONG_SET,
+    LONG_NOT_SET,
+    LONG_ERASURE,
+    LONG_ERASED,
+    LONG_ERASED_TO_END,
+    LONG_LISTED,
+    LONG_KINDS,
+    ODD_BYTE = LONG_KINDS,
+    OTHER_SIZE,
+    NO_SIZE,
+    STOPS_A_LIST,
+    FLASH_KINDS
+};
+static const char *const flash_names[FLASH_KINDS] = {
+    [LONG_WRITTEN] = "written",
+    [LONG_READ] = "read",
+    [LONG_NOT_READ] = "too long to read",
+    [LONG_TESTED] = "tested",
+    [LONG_LOADED] = "loaded",
+    [LONG_NOT_LOADED] = "not loaded",
+    [LONG_BAD] = "not as the directory has it",
+    [LONG_SET] = "attribute set",
+    [LONG_NOT_SET] = "attribute not set",
+    [LONG_ERASURE] = "erasure begun",
+    [LONG_ERASED] = "erased behind word 4,096",
+    [LONG_ERASED_TO_END] = "erased to the end",
+    [LONG_LISTED] = "written or erased in a list of requests",
+    [ODD_BYTE] = "refused for an odd byte",
+    [OTHER_SIZE] = "refused for the other size",
+    [NO_SIZE] = "refused for a count that is no size",
+    [STOPS_A_LIST] = "a list of requests with none done",
+};
+static unsigned long on_flash[FLASH_KINDS];
+
+static bool is_long(size_t words) { return words > LOGODWEN_FILE_WORDS; }
+
+/* What the state says of a flash before a call. */
+struct kept_flash {
+    size_t named;        /* the length of the file that the packet names, 0 where none is good */
+    unsigned long_files; /* how many there are */
+    uint32_t erased, flash_errors;
+};
+
+static struct kept_flash kept_flash(void) {
+    const uint8_t *state = model[STATE_RUN], *directory = state + LOGODWEN_AT_DIRECTORY;
+    unsigned name = packet_bytes < 4 ? 0x100 : logodwen_get(packet, 1) >> 4 & 0xFF;
+    struct kept_flash kept = {0, 0, logodwen_get_pm(state + LOGODWEN_AT_ERASED, 0), logodwen_get(state + LOGODWEN_AT_FLASH_ERRORS, 0)};
+    for (size_t entry = 0; entry < LOGODWEN_SECTORS; entry++) {
+        size_t length = logodwen_get(directory, 4 * entry + 3);
+        kept.long_files += is_long(length);
+        if (length != 0 && (logodwen_get(directory, 4 * entry) >> 4 & 0xFF) == name)
+            kept.named = length;
+    }
+    return kept;
+}
+
+/* Counts a call that is refused for its flash. */
+static void count_refused_flash(uint64_t answer) {
+    size_t bytes = lent_bytes[FLASH_RUN];
+    if (logodwen_refusal(answer) == LOGODWEN_REFUSED_FLASH_SIZE)
+        on_flash[bytes % 2 != 0 ? ODD_BYTE : logodwen_is_flash_len(bytes) ? OTHER_SIZE : NO_SIZE]++;
+}
+
+/* Counts a whole own command that was answered, if it is on a long file. */
+static void count_on_file(struct kept_flash was, uint64_t answer) {
+    bool is_end = logodwen_bc(answer) == LOGODWEN_BC_END;
+    if (!is_long(was.named))
+        return;
+    if (kept_flash().flash_errors != was.flash_errors)
+        on_flash[LONG_BAD]++;
+    else if (packet[1] == LOGODWEN_ID_FILE_READ)
+        on_flash[logodwen_words(answer) != 0 ? LONG_READ : LONG_NOT_READ]++;
+    else if (packet[1] == LOGODWEN_ID_FILE_TEST)
+        on_flash[LONG_TESTED]++;
+    else if (packet[1] == LOGODWEN_ID_FILE_LOAD)
+        on_flash[is_end ? LONG_LOADED : LONG_NOT_LOADED]++;
+    else if (packet[1] == LOGODWEN_ID_ATTRIBUTE_SET)
+        on_flash[is_end ? LONG_SET : LONG_NOT_SET]++;
+}
+
+/* Counts what a request or a list of them did with long files. */
+static void count_long_files(struct kept_flash was, bool is_list) {
+    unsigned files = kept_flash().long_files;
+    if (files != was.long_files)
+        on_flash[is_list ? LONG_LISTED : files > was.long_files ? LONG_WRITTEN : LONG_ERASURE]++;
+}
+
+/* Counts erase progress behind what a bench flash's sector has. */
+static void count_erased(struct kept_flash was, uint64_t answer) {
+    if (is_long(was.erased + logodwen_words(answer)))
+        on_flash[model[STATE_RUN][LOGODWEN_AT_ERASING] != 0 ? LONG_ERASED : LONG_ERASED_TO_END]++;
+}
+
 /* Calls. */
 
 static uint32_t now;
@@ -467,6 +583,7 @@ static uint32_t call_start(uint32_t kind, uint32_t ports, uint32_t subdetector) 
     uint32_t b = model_start(kind, ports, subdetector, first, second, tests, now, lend(model, FLASH_RUN), lent_bytes[FLASH_RUN],
                              lend(model, STATE_RUN), lent_bytes[STATE_RUN]);
     compare(0, a, b, start_runs);
+    count_refused_flash(b);
     return b;
 }
 
@@ -480,6 +597,7 @@ static uint64_t call_request(uint32_t link, uint32_t bc, uint32_t receive_error)
     const uint8_t *words = packet_bytes == 0 ? NULL : packet;
     struct standing was = standing();
     struct group asked = group();
+    struct kept_flash had = kept_flash();
     unsigned before = listed();
     uint64_t a =
         logodwen_request(now, link, bc, receive_error, words, packet_bytes, lend(library, STATE_RUN), lent_bytes[STATE_RUN],
@@ -495,10 +613,13 @@ static uint64_t call_request(uint32_t link, uint32_t bc, uint32_t receive_error)
     compare(1, a, b, request_runs);
     count_write(was, link, bc & 3, receive_error != 0, words, packet_bytes / 2, b);
     count_dropped(asked);
+    count_refused_flash(b);
+    count_long_files(had, false);
     on_list[LIST_REFUSED] += logodwen_refusal(b) == LOGODWEN_REFUSED_LIST_SIZE;
     if (packet_bytes >= 2 && packet[0] == 0x2E && (bc & 3) == 3 && logodwen_refusal(b) == 0 && logodwen_bc(b) != LOGODWEN_BC_ERROR) {
         commands[packet[1]][logodwen_words(b) != 0 ? 0 : logodwen_bc(b) == LOGODWEN_BC_END ? 1 : 2]++;
         count_command(before, b);
+        count_on_file(had, b);
     }
     return b;
 }
@@ -511,6 +632,7 @@ static uint64_t call_requests(void) {
         lent_bytes[AREA_RUN], lent_bytes[LIST_RUN], lent_bytes[REPLIES_RUN]);
     const uint8_t *packets = series_bytes == 0 ? NULL : series;
     struct group asked = group();
+    struct kept_flash had = kept_flash();
     uint64_t a =
         logodwen_requests(now, packets, series_bytes, lend(library, STATE_RUN), lent_bytes[STATE_RUN], lend(library, FLASH_RUN),
                           lent_bytes[FLASH_RUN], lend(library, PM_RUN), lent_bytes[PM_RUN], lend(library, DM_RUN),
@@ -524,6 +646,8 @@ static uint64_t call_requests(void) {
                                 lent_bytes[REPLIES_RUN]);
     compare(6, a, b, series_runs);
     count_dropped(asked);
+    count_long_files(had, true);
+    on_flash[STOPS_A_LIST] += lent_bytes[FLASH_RUN] != flash_bytes && series_bytes >= BEFORE_PACKET && b == 0;
     in_series[series_kind(b)]++;
     packets_done += b >> 32;
     return b;
@@ -559,10 +683,13 @@ static uint64_t call_poll(void) {
 static uint64_t call_erase(uint64_t budget) {
     snprintf(call_text, sizeof call_text, "erase(budget %" PRIu64 ", state %zu, flash %zu)", budget, lent_bytes[STATE_RUN],
              lent_bytes[FLASH_RUN]);
+    struct kept_flash had = kept_flash();
     uint64_t a =
         logodwen_erase(budget, lend(library, STATE_RUN), lent_bytes[STATE_RUN], lend(library, FLASH_RUN), lent_bytes[FLASH_RUN]);
     uint64_t b = model_erase(budget, lend(model, STATE_RUN), lent_bytes[STATE_RUN], lend(model, FLASH_RUN), lent_bytes[FLASH_RUN]);
     compare(4, a, b, erase_runs);
+    count_refused_flash(b);
+    count_erased(had, b);
     return b;
 }
 
@@ -603,11 +730,13 @@ static unsigned lent_count(int run, unsigned least) {
     return words < least ? least : (unsigned)words;
 }
 
-/* A segment of the memory by its two bits, `count` memory words besides the FCS; its run is mostly inside what is lent. */
+/* A segment of the memory by its two bits, `count` memory words besides the FCS; its run is mostly inside what is lent. Of a long one, which
+   has few places, little else is wrong: a long file is to be valid at times, and to be loaded. */
 static void put_segment(unsigned bits, unsigned count) {
-    unsigned most = lent_count(bits == 0 ? PM_RUN : bits == 1 ? DM_RUN : IO_RUN, 1);
-    unsigned address = one_in(12) ? below(0x4000) : below(most) % 0x2000;
-    if (bits == 1 && !one_in(10))
+    unsigned most = lent_count(bits == 0 ? PM_RUN : bits == 1 ? DM_RUN : IO_RUN, 1), spare = most > count ? most - count : 1;
+    bool is_long_run = count > 100;
+    unsigned address = one_in(is_long_run ? 40 : 12) ? below(0x4000) : below(is_long_run ? spare : most) % 0x2000;
+    if (bits == 1 && !one_in(is_long_run ? 40 : 10))
         address = (address + 0x2000) % 0x4000; /* fixed memory stands there */
     static const unsigned pages[] = {0, 2, 3, 0, 2, 3, 0, 1};
     if (bits == 0)
@@ -615,24 +744,51 @@ static void put_segment(unsigned bits, unsigned count) {
     if (bits >= 2)
         count += count % 2;
     word(bits << 14 | (count + 1));
-    word(pages[below(8)] << 14 | address);
+    word(pages[below(is_long_run ? 7 : 8)] << 14 | address);
     size_t body = packet_bytes / 2, size = bits == 0 ? (3 * count + 1) / 2 : count;
     for (size_t i = 0; i < size; i++) {
         uint32_t value = any();
-        word(bits >= 2 && i % 2 == 0 && !one_in(30) ? (value & 1) << 12 | (value >> 1) % most : value & 0xFFFF);
+        word(bits >= 2 && i % 2 == 0 && !one_in(is_long_run ? 40000 : 30) ? (value & 1) << 12 | (value >> 1) % most : value & 0xFFFF);
     }
     if (bits == 0)
         packet[packet_bytes - 2] = 0; /* the zero byte */
     seal(body);
 }
 
-static void put_file(unsigned name) {
-    unsigned segments = one_in(40) ? 14 : 1 + below(3), most = one_in(6) ? 1500 : 12;
+static void put_file_header(unsigned name, unsigned segments) {
     static const unsigned attributes[] = {3, 3, 3, 2, 1, 0};
     uint32_t type = below(2);
     word(type << 14 | attributes[below(6)] << 12 | name << 4 | segments);
+}
+
+static void put_file(unsigned name) {
+    unsigned segments = one_in(40) ? 14 : 1 + below(3), most = one_in(6) ? 1500 : 12;
+    put_file_header(name, segments);
     for (unsigned i = 0; i < segments; i++)
         put_segment(below(4), 1 + below(segments > 3 ? 100 : most));
+}
+
+/* A file of just so many words, hundreds or more: segments of any memory, none above what a host may lend, and one of DM for the rest. */
+static void put_long_file(unsigned name, unsigned length) {
+    enum { MOST = 8000 };
+    size_t header = packet_bytes, end = packet_bytes + 2 * (size_t)length;
+    unsigned segments = 1, left = length - 1;
+    put_file_header(name, 0);
+    for (; left > MOST || (left > 200 && segments < 10 && one_in(3)); segments++) {
+        unsigned count = left / 3 < MOST ? left / 3 : MOST;
+        put_segment(below(4), count - below(count / 2));
+        left = (unsigned)(end - packet_bytes) / 2;
+    }
+    put_segment(1, left - 3);
+    packet[header] |= (uint8_t)segments;
+}
+
+/* The words of a long file: around what a bench sector, a packet, File Read and the sectors of a full flash take, or any. */
+static unsigned long_length(void) {
+    static const unsigned edges[] = {LOGODWEN_FILE_WORDS + 1, LOGODWEN_REQUEST_WORDS - 1, LOGODWEN_FILE_READ_WORDS,
+                                     LOGODWEN_FLASH_FULL_WORDS / 16, LOGODWEN_FILE_FULL_WORDS};
+    unsigned edge = edges[below(5)];
+    return one_in(2) ? edge - 1 + below(3) : LOGODWEN_FILE_WORDS + 1 + below(LOGODWEN_FILE_FULL_WORDS - LOGODWEN_FILE_WORDS);
 }
 
 static void flip(uint8_t *bytes, size_t count) {
@@ -834,28 +990,31 @@ static void step_request(void) {
 static uint8_t image[sizeof packet];
 static size_t image_words, image_sent;
 
-static void new_image(void) {
-    own(0x45);
-    if (one_in(12)) /* up to the most words that are joined, and above */
-        for (unsigned left = one_in(3) ? LOGODWEN_AREA_WORDS - 2 + below(5) : 5000 + below(30000); left > 0; left--)
-            word(any() & 0xFFFF);
-    else
-        put_file(one_in(8) ? some_name() : below(256));
-    if (one_in(10))
-        damage();
+/* What stands behind the header word of the packet is the image. */
+static void take_image(void) {
     image_words = packet_bytes < 2 ? 0 : packet_bytes / 2 - 1;
     image_sent = 0;
     memcpy(image, packet + 2, 2 * image_words);
 }
 
-/* Puts some more words of the image behind what the packet has, and answers whether all of it is sent then. If it was before, any
-   words follow. */
-static bool put_piece(void) {
-    size_t left = image_words - image_sent, most = LOGODWEN_REQUEST_WORDS - packet_bytes / 2;
-    size_t count = one_in(3) ? 1 + below(5) : one_in(2) ? most - below(3) : 1 + below((uint32_t)left + 1);
-    if (left == 0)
-        for (unsigned i = 1 + below(4); i > 0; i--)
+static void new_image(void) {
+    own(0x45);
+    if (one_in(12)) /* up to the most words that are joined, and above */
+        for (unsigned left = one_in(3) ? LOGODWEN_AREA_WORDS - 2 + below(5) : 5000 + below(30000); left > 0; left--)
             word(any() & 0xFFFF);
+    else if (is_full() && one_in(3))
+        put_long_file(below(256), long_length());
+    else
+        put_file(one_in(8) ? some_name() : below(256));
+    if (one_in(10))
+        damage();
+    take_image();
+}
+
+/* Puts so many more words of the image behind what the packet has, or as many as it takes or are left, and answers whether all of it is sent
+   then. */
+static bool put_words(size_t count) {
+    size_t left = image_words - image_sent, most = LOGODWEN_REQUEST_WORDS - packet_bytes / 2;
     if (count > most)
         count = most;
     if (count > left)
@@ -864,6 +1023,16 @@ static bool put_piece(void) {
     packet_bytes += 2 * count;
     image_sent += count;
     return image_sent == image_words;
+}
+
+/* The same of some words. If all were sent before, any words follow. */
+static bool put_piece(void) {
+    size_t left = image_words - image_sent, most = LOGODWEN_REQUEST_WORDS - packet_bytes / 2;
+    size_t count = one_in(3) ? 1 + below(5) : one_in(2) ? most - below(3) : 1 + below((uint32_t)left + 1);
+    if (left == 0)
+        for (unsigned i = 1 + below(4); i > 0; i--)
+            word(any() & 0xFFFF);
+    return put_words(count);
 }
 
 /* A first packet; at times its header word is all that it has, or has a wrong bit. */
@@ -1034,6 +1203,10 @@ static void add_file_in_packets(uint32_t link) {
             add_packet(other_link(link), 3);
         }
     }
+    if (image_sent == image_words && image_words != 0 && one_in(2)) {
+        file_command(logodwen_get(image, 0) >> 4 & 0xFF);
+        add_packet(link, 3);
+    }
 }
 
 /* One of the ways in which a list runs past its end: a word or two left over, a length too large, an end that comes too soon. */
@@ -1061,7 +1234,7 @@ static void step_series(void) {
     size_t before = lent_bytes[REPLIES_RUN];
     series_bytes = series_last = 0;
     for (unsigned left = below(one_in(3) ? 21 : 6); left > 0; left--)
-        one_in(12) ? add_file(some_link()) : one_in(12) ? add_file_in_packets(some_link()) : add_some();
+        one_in(12) ? add_file(some_link()) : one_in(is_full() ? 5 : 12) ? add_file_in_packets(some_link()) : add_some();
     if (one_in(8))
         break_series();
     if (one_in(8))
@@ -1180,9 +1353,9 @@ static void step_all_alike(void) {
 }
 
 static void step_erase(void) {
-    static const uint64_t budgets[] = {0,         1, 7, 100, 1000, 2048, 4096, 1u << 31, (uint64_t)1 << 32, ((uint64_t)1 << 32) + 1,
-                                       UINT64_MAX};
-    call_erase(one_in(2) ? budgets[below(11)] : below(3000));
+    static const uint64_t budgets[] = {0,       1,        7,        100, 1000, 2048, 4096, 16384, 32767, 1u << 31, (uint64_t)1 << 32,
+                                       ((uint64_t)1 << 32) + 1, UINT64_MAX};
+    call_erase(one_in(2) ? budgets[below(13)] : below((uint32_t)flash_bytes / 22));
 }
 
 static void start(uint32_t kind) {
@@ -1241,6 +1414,12 @@ static void put_listing(void) {
     }
 }
 
+/* Words erased, around the end of a sector of either length or behind it, of which 16 bits would be few; or any number. */
+static uint32_t some_erased(void) {
+    uint32_t words = (uint32_t)logodwen_sector_words(flash_bytes, 3 + below(2)), high = one_in(4) ? 0x10000 : 0;
+    return one_in(3) ? wild() : one_in(3) ? high + below(words) : high + words - 2 + below(4);
+}
+
 /* A state that no start leads to: one field, within its range or not; or any byte. */
 static void step_state(void) {
     uint8_t before[LOGODWEN_STATE_BYTES];
@@ -1252,9 +1431,9 @@ static void step_state(void) {
     case 2: put_state_long(LOGODWEN_AT_AMSWIRE_ERRORS, one_in(2) ? 0xFFFEFFFE : any()); break;
     case 3:
         put_both(STATE_RUN, LOGODWEN_AT_ERASING, (uint8_t)below(12));
-        put_state_long(LOGODWEN_AT_ERASED, one_in(3) ? 2046 + below(4) : one_in(2) ? 4094 + below(4) : wild());
+        put_state_long(LOGODWEN_AT_ERASED, some_erased());
         break;
-    case 4: put_state_long(LOGODWEN_AT_FLASH_WORDS, one_in(2) ? 262144 : wild()); break;
+    case 4: put_state_long(LOGODWEN_AT_FLASH_WORDS, one_in(2) ? (uint32_t)other_size() / 2 : wild()); break;
     case 5: put_state_long(LOGODWEN_AT_MASKS + 4 * below(16), set); break;
     case 6: put_any(LOGODWEN_AT_DIRECTORY, 64, 256); break;
     case 7: put_any(LOGODWEN_AT_START_TESTS, 2, 256); break;
@@ -1312,14 +1491,18 @@ static void step_state(void) {
             put_both(STATE_RUN, at, before[at]);
 }
 
-/* A few commands on the file of a sector, by its name in the directory, from a link that doesn't drop the write that stands. */
-static void step_file(unsigned place) {
-    unsigned name = logodwen_get(model[STATE_RUN] + LOGODWEN_AT_DIRECTORY, 4 * place) >> 4 & 0xFF;
+/* A few commands on a file by its name, from a link that doesn't drop the write that stands. */
+static void step_named(unsigned name) {
     for (int turn = 0; turn < 4; turn++) {
         struct standing was = standing();
         file_command(name);
         call_request(was.stands ? other_link(was.link) : 0, 3, 0);
     }
+}
+
+/* The same on the file of a sector, by its name in the directory. */
+static void step_file(unsigned place) {
+    step_named(logodwen_get(model[STATE_RUN] + LOGODWEN_AT_DIRECTORY, 4 * place) >> 4 & 0xFF);
 }
 
 /* A directory that differs from the flash in one entry, mostly in the length, and commands on that sector. */
@@ -1333,11 +1516,27 @@ static void step_entry(void) {
         put_state_word(at, before);
 }
 
+/* A write that finds a bit in a sector which the directory has for empty. */
+static void step_not_empty(unsigned place, size_t begin, size_t words) {
+    struct standing was = standing();
+    size_t at = begin + below((uint32_t)(2 * words));
+    uint8_t before = model[FLASH_RUN][at];
+    if (logodwen_get(model[STATE_RUN] + LOGODWEN_AT_DIRECTORY, 4 * place) != 0xFFFF)
+        return;
+    put_both(FLASH_RUN, at, before ^ (uint8_t)(1 << below(8)));
+    own(0x45);
+    put_file(below(256));
+    call_request(was.stands ? other_link(was.link) : 0, 3, 0);
+    put_both(FLASH_RUN, at, before);
+}
+
 /* A bit behind a file, in the first word there, in the sector's last or in any, and commands on that file. */
 static void step_remains(void) {
     unsigned place = below(8);
-    size_t begin = 2 * logodwen_sector_start(3 + place), words = logodwen_sector_words(3 + place);
+    size_t begin = 2 * logodwen_sector_start(flash_bytes, 3 + place), words = logodwen_sector_words(flash_bytes, 3 + place);
     size_t length = model_file_length(model[FLASH_RUN] + begin, words);
+    if (length == 0)
+        step_not_empty(place, begin, words);
     if (length == 0 || length == words)
         return;
     size_t behind = one_in(3) ? length : one_in(2) ? words - 1 : length + below((uint32_t)(words - length));
@@ -1354,8 +1553,9 @@ static void step_remains(void) {
 /* A file in one more sector, good or damaged, with nothing behind it, and commands on its name. */
 static void step_name_twice(void) {
     unsigned place = below(8), other = below(8);
-    size_t from = 2 * logodwen_sector_start(3 + place), to = 2 * logodwen_sector_start(3 + other);
-    size_t words = logodwen_sector_words(3 + other), length = model_file_length(model[FLASH_RUN] + from, logodwen_sector_words(3 + place));
+    size_t from = 2 * logodwen_sector_start(flash_bytes, 3 + place), to = 2 * logodwen_sector_start(flash_bytes, 3 + other);
+    size_t words = logodwen_sector_words(flash_bytes, 3 + other);
+    size_t length = model_file_length(model[FLASH_RUN] + from, logodwen_sector_words(flash_bytes, 3 + place));
     if (length == 0 || length > words || place == other)
         return;
     for (size_t at = 0; at < 2 * words; at++)
@@ -1366,17 +1566,90 @@ static void step_name_twice(void) {
     step_file(place);
 }
 
+/* A long file in packets, with nothing between, and commands on it. */
+static void step_long_write(void) {
+    struct standing was = standing();
+    uint32_t link = was.stands ? was.link : 0;
+    unsigned name = below(256);
+    if (was.stands) { /* it is dropped */
+        packet_bytes = 0;
+        call_request(link, 2, 0);
+    }
+    own(0x45);
+    put_long_file(name, long_length());
+    take_image();
+    own(0x45);
+    for (uint32_t first = 2; image_sent < image_words; first = 0) {
+        uint32_t last = put_words(one_in(4) ? 1 + below(LOGODWEN_REQUEST_WORDS) : LOGODWEN_REQUEST_WORDS);
+        call_request(link, first | last, 0);
+        packet_bytes = 0;
+    }
+    step_named(name);
+}
+
+/* A long file that was programmed elsewhere, at times with a wrong bit, and commands on it after a new start. */
+static void step_programmed(void) {
+    unsigned place = below(8), length = long_length();
+    size_t begin = 2 * logodwen_sector_start(flash_bytes, 3 + place), bytes = 2 * logodwen_sector_words(flash_bytes, 3 + place);
+    own(0x45);
+    put_long_file(below(256), 2 * length > bytes ? (unsigned)bytes / 2 : length);
+    if (one_in(3))
+        flip(packet + 2, packet_bytes - 2);
+    for (size_t at = 0; at < bytes; at++)
+        put_both(FLASH_RUN, begin + at, at + 2 < packet_bytes ? packet[at + 2] : 0xFF);
+    start(1 + below(2));
+    step_file(place);
+}
+
+/* Counts of bytes around the two sizes. */
+static size_t some_flash_bytes(void) {
+    static const size_t counts[] = {0,
+                                    1,
+                                    LOGODWEN_FLASH_BYTES - 2,
+                                    LOGODWEN_FLASH_BYTES - 1,
+                                    LOGODWEN_FLASH_BYTES,
+                                    LOGODWEN_FLASH_BYTES + 1,
+                                    LOGODWEN_FLASH_BYTES + 2,
+                                    2 * LOGODWEN_FLASH_BYTES,
+                                    LOGODWEN_FLASH_FULL_BYTES / 2,
+                                    LOGODWEN_FLASH_FULL_BYTES - 2,
+                                    LOGODWEN_FLASH_FULL_BYTES - 1,
+                                    LOGODWEN_FLASH_FULL_BYTES,
+                                    LOGODWEN_FLASH_FULL_BYTES + 1,
+                                    LOGODWEN_FLASH_FULL_BYTES + 2};
+    return counts[below(14)];
+}
+
+/* Calls that are lent another count of bytes than the start was: or the start is, and the calls the usual one. */
+static void step_other_count(void) {
+    size_t usual = lent_bytes[FLASH_RUN], other = one_in(2) ? other_size() : some_flash_bytes();
+    bool is_start = one_in(2);
+    lent_bytes[FLASH_RUN] = other;
+    if (is_start) {
+        start(1 + below(2));
+        lent_bytes[FLASH_RUN] = usual;
+    }
+    step_request();
+    step_erase();
+    step_series();
+    lent_bytes[FLASH_RUN] = usual;
+    if (is_start)
+        start(1 + below(2));
+}
+
 /* Other lengths for one call. */
 static void step_lengths(void) {
     size_t before[RUNS];
     memcpy(before, lent_bytes, sizeof before);
     for (unsigned turn = 1 + below(3); turn > 0; turn--) {
         int run = (int)below(RUNS);
-        static const size_t most[RUNS] = {LOGODWEN_STATE_BYTES, LOGODWEN_FLASH_BYTES, LOGODWEN_PM_BYTES,
-                                          LOGODWEN_DM_BYTES,    LOGODWEN_IO_BYTES,    LOGODWEN_AREA_BYTES,
+        static const size_t most[RUNS] = {LOGODWEN_STATE_BYTES, LOGODWEN_FLASH_FULL_BYTES, LOGODWEN_PM_BYTES,
+                                          LOGODWEN_DM_BYTES,    LOGODWEN_IO_BYTES,         LOGODWEN_AREA_BYTES,
                                           LOGODWEN_LIST_BYTES + LOGODWEN_RECORD_BYTES, LOGODWEN_REPLY_BYTES,
                                           2 * REPLY_ROOM};
         lent_bytes[run] = one_in(5) ? 0 : one_in(4) ? below((uint32_t)room[run]) : most[run] - 4 + below(9);
+        if (run == FLASH_RUN && !one_in(4))
+            lent_bytes[run] = some_flash_bytes();
     }
     int kind = (int)below(10);
     if (kind == 0)
@@ -1399,16 +1672,16 @@ static void step_lengths(void) {
 }
 
 static void blank(void) {
-    memset(library[FLASH_RUN], 0xFF, LOGODWEN_FLASH_BYTES);
-    memset(model[FLASH_RUN], 0xFF, LOGODWEN_FLASH_BYTES);
+    memset(library[FLASH_RUN], 0xFF, flash_bytes);
+    memset(model[FLASH_RUN], 0xFF, flash_bytes);
 }
 
 /* Flash words that no call stored, or a blank flash, with a new start or without. */
 static void step_flash(void) {
     if (one_in(4))
         blank();
-    size_t at = one_in(4) ? below(LOGODWEN_FLASH_BYTES) : 4096 * (1 + below(15));
-    at += at + 24 < LOGODWEN_FLASH_BYTES ? below(24) : 0;
+    size_t at = one_in(4) ? below((uint32_t)flash_bytes) : flash_bytes / 16 * (1 + below(15));
+    at += at + 24 < flash_bytes ? below(24) : 0;
     put_both(FLASH_RUN, at, one_in(3) ? 0xFF : model[FLASH_RUN][at] ^ (uint8_t)(1 << below(8)));
     if (!one_in(3))
         start(1 + below(2));
@@ -1417,8 +1690,8 @@ static void step_flash(void) {
 static void step(void) {
     if (one_in(4))
         now += below(3);
-    unsigned erasing = model[STATE_RUN][LOGODWEN_AT_ERASING];
-    if (logodwen_refusal(answered) == LOGODWEN_REFUSED_STATE && one_in(3))
+    unsigned erasing = model[STATE_RUN][LOGODWEN_AT_ERASING], refusal = logodwen_refusal(answered);
+    if ((refusal == LOGODWEN_REFUSED_STATE || refusal == LOGODWEN_REFUSED_FLASH_SIZE) && one_in(3))
         step_start();
     else if (one_in(pending() != 0 ? 60 : standing().stands ? 16 : 5))
         step_series();
@@ -1426,8 +1699,12 @@ static void step(void) {
         one_in(20) ? step_all_alike() : one_in(40) ? step_slow() : step_slave();
     else if (erasing != 0 && one_in(3))
         step_erase();
+    else if (is_full() && one_in(5))
+        one_in(3) ? step_programmed() : step_long_write();
     else if (one_in(50))
         step_flash();
+    else if (one_in(200))
+        step_other_count();
     else if (one_in(35))
         one_in(3) ? step_entry() : one_in(2) ? step_remains() : step_name_twice();
     else if (one_in(25))
@@ -1451,15 +1728,16 @@ static void step(void) {
 /* A fresh node on a flash that is blank or left from before, with other memories. */
 static void fresh(void) {
     memcpy(lent_bytes, usual_bytes, sizeof lent_bytes);
-    bool large = one_in(8);
-    lent_bytes[PM_RUN] = below(large ? LOGODWEN_PM_BYTES + 3 : 400);
-    lent_bytes[DM_RUN] = below(large ? LOGODWEN_DM_BYTES + 1 : 400);
+    flash_bytes = one_in(10) ? LOGODWEN_FLASH_FULL_BYTES : LOGODWEN_FLASH_BYTES;
+    lent_bytes[FLASH_RUN] = flash_bytes;
+    bool large = one_in(8), all = is_full() && one_in(2); /* a long file needs much to be loaded */
+    lent_bytes[PM_RUN] = all ? LOGODWEN_PM_BYTES : below(large ? LOGODWEN_PM_BYTES + 3 : 400);
+    lent_bytes[DM_RUN] = all ? LOGODWEN_DM_BYTES : below(large ? LOGODWEN_DM_BYTES + 1 : 400);
     lent_bytes[IO_RUN] = below(large ? LOGODWEN_IO_BYTES + 1 : 400);
     lent_bytes[AREA_RUN] += below(4);
     lent_bytes[LIST_RUN] = one_in(4) ? LOGODWEN_LIST_BYTES + below(LOGODWEN_RECORD_BYTES) : below(12 * LOGODWEN_RECORD_BYTES);
     lent_bytes[REPLY_RUN] += below(4);
     lent_bytes[REPLIES_RUN] += below(4);
-    lent_bytes[FLASH_RUN] += below(2);
     if (one_in(2))
         blank();
     now = one_in(2) ? 0xFFFFFFFFu - below(300) : any();
@@ -1468,12 +1746,14 @@ static void fresh(void) {
 
 static void make_worlds(void) {
     for (int run = 0; run < RUNS; run++) {
-        library[run] = malloc(room[run] + GUARD);
-        model[run] = malloc(room[run] + GUARD);
-        if (library[run] == NULL || model[run] == NULL)
+        size_t bytes = room[run] + 2 * GUARD;
+        uint8_t *ours = malloc(bytes), *other = malloc(bytes);
+        if (ours == NULL || other == NULL)
             exit(2);
-        for (size_t at = 0; at < room[run] + GUARD; at++)
-            put_both(run, at, run == STATE_RUN ? 0 : (uint8_t)any());
+        for (size_t at = 0; at < bytes; at++)
+            ours[at] = other[at] = run == STATE_RUN ? 0 : (uint8_t)any();
+        library[run] = ours + GUARD;
+        model[run] = other + GUARD;
     }
 }
 
@@ -1522,6 +1802,12 @@ static void print_tallies(void) {
     printf("  lists of requests: %lu calls, with %lu packets done\n", of_series, packets_done);
     for (int kind = 0; kind < SERIES_KINDS; kind++)
         printf("  list of requests, %s: %lu\n", series_names[kind], in_series[kind]);
+    unsigned long of_long = 0;
+    for (int kind = 0; kind < LONG_KINDS; kind++)
+        of_long += on_flash[kind];
+    printf("  long files: %lu calls fall on a file above 4,096 words\n", of_long);
+    for (int kind = 0; kind < FLASH_KINDS; kind++)
+        printf("  %s, %s: %lu\n", kind < LONG_KINDS ? "long file" : "flash of another count", flash_names[kind], on_flash[kind]);
 }
 
 int main(int count, char **arguments) {
@@ -1538,7 +1824,7 @@ int main(int count, char **arguments) {
         for (unsigned long until = calls + 50 + below(250); calls < until && calls < wanted;)
             step();
         for (int run = 0; run < RUNS; run++)
-            compare_run(run);
+            compare_run(run, room[run]);
     }
     printf("differ: seed %" PRIu64 ": %lu calls, no difference between the library and the model\n", seed, calls);
     print_tallies();

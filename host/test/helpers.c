@@ -4,6 +4,7 @@
    read or written past it is noticed. */
 #include "../../include/logodwen.h"
 #include "../model/model.h"
+#include "long_file.h"
 
 #include <stdio.h>
 #include <stdlib.h>
@@ -272,6 +273,14 @@ static void read_status(void) {
     free(reply);
 }
 
+/* A sector in a flash of so many bytes. */
+static void sector(void) {
+    const uint32_t numbers[4] = {logodwen_is_flash_len(given[0]), (uint32_t)logodwen_sector_words(given[0], given[1]),
+                                 (uint32_t)logodwen_sector_start(given[0], given[1]), logodwen_sector_address(given[1])};
+    print_numbers(numbers, 4);
+    printf("\n");
+}
+
 static void read_entry(void) {
     uint8_t *reply = words_from(1);
     struct logodwen_entry entry;
@@ -369,6 +378,8 @@ static void answer_line(const char *name) {
         read_file();
     else if (strcmp(name, "read_status") == 0)
         read_status();
+    else if (strcmp(name, "sector") == 0)
+        sector();
     else if (strcmp(name, "read_entry") == 0)
         read_entry();
     else if (strcmp(name, "read_named") == 0)
@@ -520,19 +531,30 @@ static uint64_t answer_by_chance(struct logodwen_node *node, const struct logodw
                                (uint16_t)any(), talk->reply + 2 * at, words);
 }
 
+/* Flashes with room for either size: two to compare, and one for all nodes that write no file. */
+static uint8_t flashes[3][LOGODWEN_FLASH_FULL_BYTES];
+static uint8_t *const unwritten = flashes[2];
+
+/* A node that starts on a blank flash. */
+static void start_on(struct logodwen_node *node, uint8_t *flash, size_t flash_len, uint32_t kind, uint32_t ports) {
+    const struct logodwen_given given = {kind, ports, 0, 0, 0, 0, 0};
+    node->flash = flash;
+    node->flash_len = flash_len;
+    logodwen_node_blank(node);
+    if (logodwen_node_start(node, &given) != LOGODWEN_DONE)
+        differs("a start", (unsigned long)flash_len);
+}
+
 /* A group's reply of a node is accepted for its mask, and the walk goes over a fragment of each slave of it, in order, to the tail. Cut
    short it breaks at its length, and with a word more behind its end. */
 static void try_capture(unsigned long turn) {
-    static const struct logodwen_given kind = {LOGODWEN_CDDC, 1, 0, 0, 0, 0, 0};
     static struct logodwen_node node;
     static struct talk talk;
     uint32_t mask = (uint32_t)1 << any() % LOGODWEN_SLAVES | (any() & (any() % 4 == 0 ? 0xFFFFFFu : 0x3Cu)), slaves = mask;
     uint8_t request[2 * 3];
     struct logodwen_packet sent;
-    if (turn == 0) {
-        logodwen_node_blank(&node);
-        logodwen_node_start(&node, &kind);
-    }
+    if (turn == 0)
+        start_on(&node, unwritten, LOGODWEN_FLASH_BYTES, LOGODWEN_CDDC, 1);
     size_t at = logodwen_make_to_slaves(request, mask);
     at += logodwen_make_status(request + 2 * at);
     uint64_t answered = logodwen_node_send(&node, talk.now, 0, request, at);
@@ -566,7 +588,7 @@ static void try_sequence(unsigned long turn) {
     for (size_t i = 0; i <= 2 * words; i++)
         bytes[i] = (uint8_t)any();
     uint16_t expected = model_fcs(bytes, words);
-    if (logodwen_fcs(bytes, words) != expected || logodwen4_fcs(bytes, 2 * words + 1) != expected)
+    if (logodwen_fcs(bytes, words) != expected || logodwen5_fcs(bytes, 2 * words + 1) != expected)
         differs("a check sequence", turn);
     if (logodwen_is_sealed(bytes, words) != (words >= 2 && model_fcs(bytes, words - 1) == word_at(bytes, words - 1)))
         differs("whether a reply is sealed", turn);
@@ -587,12 +609,19 @@ static size_t build_by_chance(uint8_t *bytes, size_t room) {
     return file.words;
 }
 
+/* Whether two nodes have the same state, and flashes of the same bytes. */
+static bool are_alike(const struct logodwen_node *one, const struct logodwen_node *other) {
+    return memcmp(one->state, other->state, sizeof one->state) == 0 && one->flash_len == other->flash_len
+           && memcmp(one->flash, other->flash, one->flash_len) == 0;
+}
+
 /* What Summary says of each sector of a node that files were written to: good with the file's length where one stands there. */
 static void try_entries(struct logodwen_node *node, unsigned long turn) {
     uint8_t packet[LOGODWEN_COMMAND_BYTES];
     uint64_t answered = logodwen_node_send(node, 0, 0, packet, logodwen_make_summary(packet));
     for (unsigned sector = LOGODWEN_SECTOR_FIRST; sector <= LOGODWEN_SECTOR_LAST; sector++) {
-        size_t length = model_file_length(node->flash + 2 * logodwen_sector_start(sector), logodwen_sector_words(sector));
+        size_t length = model_file_length(node->flash + 2 * logodwen_sector_start(node->flash_len, sector),
+                                          logodwen_sector_words(node->flash_len, sector));
         struct logodwen_entry entry;
         if (!logodwen_read_entry(node->reply, logodwen_words(answered), sector, &entry) || entry.words != length
             || entry.status != (length != 0 ? LOGODWEN_SECTOR_GOOD : LOGODWEN_SECTOR_EMPTY))
@@ -603,13 +632,12 @@ static void try_entries(struct logodwen_node *node, unsigned long turn) {
 /* A file in packets of any length is written as the model writes it in one, and nothing of one that is dropped stays but in the area. */
 static void try_write(unsigned long turn) {
     enum { ROOM = 130 };
-    static const struct logodwen_given kind = {LOGODWEN_CDP, 2, 0, 0, 0, 0, 0};
     static struct logodwen_node ours, other; /* in packets, and in one by the model */
     uint8_t file[2 * ROOM], whole[2 * ROOM + 2];
     if (turn % 16 == 0) {
-        logodwen_node_blank(&ours);
-        logodwen_node_start(&ours, &kind);
-        other = ours;
+        size_t flash_len = turn % 32 == 0 ? LOGODWEN_FLASH_BYTES : LOGODWEN_FLASH_FULL_BYTES;
+        start_on(&ours, flashes[0], flash_len, LOGODWEN_CDP, 2);
+        start_on(&other, flashes[1], flash_len, LOGODWEN_CDP, 2);
     }
     size_t words = build_by_chance(file, ROOM), length = logodwen_make_file_write(whole, ROOM + 1, file, words);
     size_t room = 2 + any() % (words + 2);
@@ -618,16 +646,15 @@ static void try_write(unsigned long turn) {
     size_t sent;
     uint64_t answered = logodwen_node_write(&ours, 0, link, packet, room, file, words, &sent);
     uint64_t expected = model_request(0, link, LOGODWEN_BC_WHOLE, 0, whole, 2 * length, other.state, sizeof other.state, other.flash,
-                                      sizeof other.flash, NULL, 0, NULL, 0, NULL, 0, other.area, sizeof other.area, other.list,
+                                      other.flash_len, NULL, 0, NULL, 0, NULL, 0, other.area, sizeof other.area, other.list,
                                       sizeof other.list, other.reply, sizeof other.reply);
-    if (answered != expected || sent != words || memcmp(ours.state, other.state, sizeof other.state) != 0
-        || memcmp(ours.flash, other.flash, sizeof other.flash) != 0)
+    if (answered != expected || sent != words || !are_alike(&ours, &other))
         differs("a file in packets", turn);
     bool is_next = logodwen_is_next(logodwen_node_request(&ours, 0, link, LOGODWEN_BC_FIRST, 0, whole, length));
     if (!is_next || logodwen_bc(logodwen_node_drop(&ours, 0, 1 - link)) != LOGODWEN_BC_ABORT
         || logodwen_bc(logodwen_node_drop(&ours, 0, link)) != LOGODWEN_BC_END)
         differs("a file that is dropped", turn);
-    if (memcmp(ours.state, other.state, sizeof other.state) != 0 || memcmp(ours.flash, other.flash, sizeof other.flash) != 0)
+    if (!are_alike(&ours, &other))
         differs("what a dropped file leaves", turn);
     try_entries(&ours, turn);
     free(packet);
@@ -636,16 +663,13 @@ static void try_write(unsigned long turn) {
 /* Entries by chance are listed as they were given, by the records and by Q-List Read, and handed out in turn when they are due. */
 static void try_list(unsigned long turn) {
     enum { MOST_ENTRIES = 9, PACKET_WORDS = 5 + 5 * MOST_ENTRIES };
-    static const struct logodwen_given kind = {LOGODWEN_CDP, 1, 0, 0, 0, 0, 0};
     static struct logodwen_node node;
     struct logodwen_record entries[MOST_ENTRIES], record, listed;
     uint8_t packet[2 * PACKET_WORDS];
     size_t written = 1 + any() % MOST_ENTRIES, told;
     uint32_t now = any() << 1 | (any() & 1);
-    if (turn == 0) {
-        logodwen_node_blank(&node);
-        logodwen_node_start(&node, &kind);
-    }
+    if (turn == 0)
+        start_on(&node, unwritten, LOGODWEN_FLASH_BYTES, LOGODWEN_CDP, 1);
     for (size_t i = 0; i < written; i++) {
         const struct logodwen_record entry = {(any() & 0xFFu) | LOGODWEN_RECORD_FIRST, any() % 3, 1 + any() % LOGODWEN_FREQUENCY_MOST,
                                               any() & 0xFFFFu, any() & 0xFFFFu, 0};
@@ -697,7 +721,6 @@ static void list_by_chance(struct logodwen_packets *list, uint8_t *bytes, size_t
 /* A list by chance is answered as its packets are one by one, up to one that would ask a slave. */
 static void try_requests(unsigned long turn) {
     enum { ROOM = 40, REPLIES = LOGODWEN_REPLIES_WORDS + 2 * ROOM };
-    static const struct logodwen_given kind = {LOGODWEN_CDDC, 2, 0, 0, 0, 0, 0};
     static struct logodwen_node listed, single;
     static uint8_t replies[2 * REPLIES];
     size_t room = any() % ROOM, at = 0, past = 0;
@@ -706,8 +729,7 @@ static void try_requests(unsigned long turn) {
     struct logodwen_packet packet, reply;
     uint32_t link;
     if (turn == 0) {
-        logodwen_node_blank(&listed);
-        logodwen_node_start(&listed, &kind);
+        start_on(&listed, unwritten, LOGODWEN_FLASH_BYTES, LOGODWEN_CDDC, 2);
         single = listed;
     }
     list_by_chance(&list, row, room);
@@ -731,21 +753,29 @@ static void try_requests(unsigned long turn) {
     free(row);
 }
 
-/* Around the longest request, and the longest file in packets: on a bench flash all are ABORT, and stop where one is. */
-static void try_long_writes(void) {
-    static const size_t lengths[] = {0, 8191, 8192, 8193, 16383, 16384, 32767, 32768, 32769, 40959, 40960};
-    static const struct logodwen_given kind = {LOGODWEN_CDP, 1, 0, 0, 0, 0, 0};
-    static struct logodwen_node node, before;
-    static uint8_t file[2 * 40960], packet[LOGODWEN_REQUEST_BYTES];
-    logodwen_node_blank(&node);
-    logodwen_node_start(&node, &kind);
+/* Files around the longest request, the longest that is read back, and the longest in packets: a full flash takes all up to 32,768 words, a
+   bench flash none of these. What it does not take is ABORT, stops where that is answered, and leaves the node. */
+static void try_long_writes(size_t flash_len) {
+    static const size_t lengths[] = {0, 8191, 8192, 8193, 12286, 12287, 16384, 16385, 32767, 32768, 32769, 40959, 40960};
+    static struct logodwen_node node, blank;
+    static uint8_t bytes[2 * 40960], packet[LOGODWEN_REQUEST_BYTES];
+    start_on(&blank, flashes[1], flash_len, LOGODWEN_CDP, 1);
     for (size_t i = 0; i < sizeof lengths / sizeof *lengths; i++) {
-        before = node;
-        size_t sent, expected = lengths[i] < 40959 ? lengths[i] : 40959; /* up to the fifth packet */
-        uint64_t answered = logodwen_node_write(&node, 0, 0, packet, LOGODWEN_REQUEST_WORDS, file, lengths[i], &sent);
-        if (sent != expected || strcmp(logodwen_reply_text(answered), "ABORT") != 0 || memcmp(node.state, before.state, sizeof node.state) != 0
-            || memcmp(node.flash, before.flash, sizeof node.flash) != 0)
-            differs("a long file", (unsigned long)lengths[i]);
+        size_t words = lengths[i], sent, expected = words < 40959 ? words : 40959; /* up to the fifth packet */
+        bool is_taken = flash_len == LOGODWEN_FLASH_FULL_BYTES && words != 0 && words <= LOGODWEN_FILE_FULL_WORDS;
+        lay_long_file(bytes, 0x42, words);
+        start_on(&node, flashes[0], flash_len, LOGODWEN_CDP, 1);
+        uint64_t answered = logodwen_node_write(&node, 0, 0, packet, LOGODWEN_REQUEST_WORDS, bytes, words, &sent);
+        if (sent != expected || logodwen_words(answered) != 0 || logodwen_bc(answered) != (is_taken ? LOGODWEN_BC_END : LOGODWEN_BC_ABORT)
+            || are_alike(&node, &blank) == is_taken)
+            differs("a long file", (unsigned long)words);
+        if (!is_taken)
+            continue;
+        try_entries(&node, (unsigned long)words);
+        answered = logodwen_node_send(&node, 0, 0, packet, logodwen_make_file_read(packet, 0x42));
+        if (words <= LOGODWEN_FILE_READ_WORDS ? logodwen_words(answered) != words + 2 || memcmp(node.reply, bytes, 2 * words) != 0
+                                              : logodwen_words(answered) != 0 || logodwen_bc(answered) != LOGODWEN_BC_ABORT)
+            differs("a long file that is read", (unsigned long)words);
     }
 }
 
@@ -765,7 +795,8 @@ int main(int arguments, char **argument) {
         try_list(turn);
         try_requests(turn);
     }
-    try_long_writes();
+    try_long_writes(LOGODWEN_FLASH_BYTES);
+    try_long_writes(LOGODWEN_FLASH_FULL_BYTES);
     printf("helpers: %lu turns by chance as the model has them\n", turns);
     return 0;
 }

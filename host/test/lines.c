@@ -9,7 +9,7 @@
 enum { FLASH, PROGRAM, DATA_MEMORY, REGISTERS, BUFFER, JOINING, LISTING, MEMORIES };
 enum { MOST_WORDS = 1024, MOST_RUN = 65552, NODE_WORDS = 101 };
 static const size_t rooms[MEMORIES] = {262160, 32784, 32784, 4112, 16400, 32784, 6386};
-static const struct limits wide = {32768, 32768, 4096, SIZE_MAX, true};
+static const struct limits wide = {32768, 32768, 4096, SIZE_MAX};
 
 static uint8_t *memories[MEMORIES];
 static size_t lent_words[MEMORIES];
@@ -208,8 +208,8 @@ static struct run lent_run(int memory) { return (struct run){memories[memory], l
 static uint64_t start(void) {
     uint32_t kind = (uint32_t)number(2), ports = (uint32_t)number(2), subdetector = (uint32_t)number(2);
     uint16_t program_version = (uint16_t)number(1), subdetector_version = (uint16_t)number(1), tests = (uint16_t)number(1);
-    return model_node_start(&wide, &node, kind, ports, subdetector, program_version, subdetector_version, tests,
-                            (uint32_t)number(2), lent_run(FLASH));
+    return model_node_start(&node, kind, ports, subdetector, program_version, subdetector_version, tests, (uint32_t)number(2),
+                            lent_run(FLASH));
 }
 
 static struct lent lent_to_requests(void) {
@@ -273,7 +273,7 @@ static void call(int does) {
                       : does == 2  ? request()
                       : does == 3  ? reply()
                       : does == 4  ? model_node_poll(&node, (uint32_t)number(2), lent_run(BUFFER))
-                      : does == 5  ? model_node_erase(&wide, &node, number(4), lent_run(FLASH))
+                      : does == 5  ? model_node_erase(&node, number(4), lent_run(FLASH))
                       : does == 13 ? requests()
                                    : model_node_slow(&node, (uint32_t)number(2), lent_run(LISTING));
     printf("%04x ", digest_of_node());

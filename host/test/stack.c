@@ -1,27 +1,31 @@
 /* How much stack each entry needs: calls that go through all of its work run in a thread whose stack was painted before, and the
    deepest byte that lost its paint is looked for. (What a thread itself needs at its end, a few kB, counts too.) The numbers are held
-   to those that include/logodwen.h states. */
+   to those that include/logodwen.h states, and to 160 KiB, on a flash of either size. */
 #define _POSIX_C_SOURCE 200809L
 #include "../../include/logodwen.h"
+#include "long_file.h"
 
 #include <pthread.h>
 #include <stdio.h>
 #include <stdlib.h>
 #include <string.h>
 
-enum { STACK = 4 << 20, PAINT = 0xC5 };
+enum { STACK = 4 << 20, PAINT = 0xC5, MOST = 160 * 1024 };
 
-static uint8_t pm[LOGODWEN_PM_BYTES], dm[LOGODWEN_DM_BYTES], io[LOGODWEN_IO_BYTES], packet[LOGODWEN_SLAVE_REPLY_BYTES];
-static struct logodwen_node node = {.pm = pm, .dm = dm, .io = io, .pm_len = sizeof pm, .dm_len = sizeof dm, .io_len = sizeof io};
+static uint8_t flash[LOGODWEN_FLASH_FULL_BYTES], pm[LOGODWEN_PM_BYTES], dm[LOGODWEN_DM_BYTES], io[LOGODWEN_IO_BYTES],
+    packet[LOGODWEN_SLAVE_REPLY_BYTES];
+static struct logodwen_node node = {
+    .flash = flash, .pm = pm, .dm = dm, .io = io, .pm_len = sizeof pm, .dm_len = sizeof dm, .io_len = sizeof io};
 
 /* Requests are done as they come, or laid in a list first. */
-static uint8_t row[1 << 17], listed_replies[1 << 17];
+static uint8_t row[1 << 18], listed_replies[1 << 17];
 static struct logodwen_packets list;
 static bool is_listing;
+static uint64_t answered; /* to the last that was done */
 
 static void packet_with(uint32_t bc, size_t words) {
     if (!is_listing)
-        logodwen_node_request(&node, 0, 0, bc, 0, packet, words);
+        answered = logodwen_node_request(&node, 0, 0, bc, 0, packet, words);
     else if (!logodwen_packets_add(&list, 0, bc, packet, words))
         exit(2);
 }
@@ -34,7 +38,17 @@ static void write_in_packets(size_t room, const uint8_t *file, size_t words) {
         packet_with(bc, laid);
 }
 
+/* That the last request did its work, without which there is nothing to measure. */
+static void expect(unsigned bc, size_t words) {
+    if (!is_listing && (logodwen_bc(answered) != bc || logodwen_words(answered) != words))
+        exit(2);
+}
+
 /* The work of each entry. */
+
+enum { NAME = 1, LONG_NAME = 2, READ_NAME = 3 };
+
+static bool is_full(void) { return node.flash_len == LOGODWEN_FLASH_FULL_BYTES; }
 
 static void starts(void) {
     static const struct logodwen_given given = {LOGODWEN_CDDC, 1, 0, 0, 0, 0, 0};
@@ -59,8 +73,23 @@ static void list_requests(void) {
     request(logodwen_make_list_delete_expired(packet));
 }
 
+/* A file of so many words in packets, and each command on it. */
+static void long_requests(unsigned name, size_t words) {
+    static uint8_t file[LOGODWEN_AREA_BYTES];
+    write_in_packets(LOGODWEN_REQUEST_WORDS, file, lay_long_file(file, name, words));
+    expect(LOGODWEN_BC_END, 0);
+    request(logodwen_make_file_read(packet, name));
+    expect(words > LOGODWEN_FILE_READ_WORDS ? LOGODWEN_BC_ABORT : LOGODWEN_BC_WHOLE, words > LOGODWEN_FILE_READ_WORDS ? 0 : words + 2);
+    request(logodwen_make_file_test(packet, name));
+    expect(LOGODWEN_BC_WHOLE, 3);
+    request(logodwen_make_file_load(packet, name));
+    expect(LOGODWEN_BC_END, 0);
+    request(logodwen_make_attribute_set(packet, name, true));
+    expect(LOGODWEN_BC_END, 0);
+}
+
 static void requests(void) {
-    enum { NAME = 1, ROOM = LOGODWEN_REQUEST_WORDS };
+    enum { ROOM = LOGODWEN_REQUEST_WORDS };
     static const uint32_t code[99];
     static const uint16_t data[100];
     static uint8_t image[2 * ROOM];
@@ -90,7 +119,12 @@ static void requests(void) {
     request(logodwen_make_file_test(packet, NAME));
     request(logodwen_make_file_load(packet, NAME));
     request(logodwen_make_attribute_set(packet, NAME, true));
-    request(logodwen_make_erase_start(packet, NAME));
+    if (is_full()) {
+        long_requests(LONG_NAME, LOGODWEN_FILE_FULL_WORDS);
+        long_requests(READ_NAME, LOGODWEN_FILE_READ_WORDS);
+    }
+    request(logodwen_make_erase_start(packet, is_full() ? LONG_NAME : NAME));
+    expect(LOGODWEN_BC_END, 0);
     list_requests();
     group_request();
 }
@@ -119,8 +153,7 @@ static void reply_in_packets(unsigned slave, size_t words, size_t part, unsigned
     for (size_t at = 0, next; at < words; at = next) {
         next = words - at > part ? at + part : words;
         uint32_t bc = (at == 0 ? LOGODWEN_BC_FIRST : 0) | (next == words ? LOGODWEN_BC_LAST : 0);
-        uint64_t answered = logodwen_node_reply(&node, 0, slave, bc, next == words && error, 0, 0, packet + 2 * at, next - at);
-        replied = logodwen_words(answered);
+        replied = logodwen_words(logodwen_node_reply(&node, 0, slave, bc, next == words && error, 0, 0, packet + 2 * at, next - at));
     }
 }
 
@@ -143,8 +176,10 @@ static void polls(void) {
 }
 
 static void erases(void) {
-    logodwen_node_erase(&node, 100);
-    logodwen_node_erase(&node, UINT64_MAX);
+    uint64_t first = logodwen_node_erase(&node, 100), rest = logodwen_node_erase(&node, UINT64_MAX);
+    unsigned sector = is_full() ? LOGODWEN_SECTOR_LAST : LOGODWEN_SECTOR_FIRST; /* one as long as that of LONG_NAME, and that of NAME */
+    if (logodwen_words(first) + logodwen_words(rest) != logodwen_sector_words(node.flash_len, sector))
+        exit(2);
 }
 
 static void steps(void) {
@@ -193,11 +228,13 @@ static size_t depth_of(void (*of)(void)) {
 
 static int measure(const char *entry, void (*of)(void), size_t stated) {
     size_t depth = depth_of(of);
-    printf("stack: %-8s needs %7zu bytes; the header states %7zu%s\n", entry, depth, stated, depth > stated ? ", TOO FEW" : "");
-    return depth > stated;
+    printf("stack: %-8s needs %7zu bytes on a %s flash; the header states %7zu%s%s\n", entry, depth, is_full() ? "full" : "bench", stated,
+           depth > stated ? ", TOO FEW" : "", depth > MOST ? ", ABOVE 160 KiB" : "");
+    return depth > stated || depth > MOST;
 }
 
-int main(void) {
+static int measure_all(size_t flash_len) {
+    node.flash_len = flash_len;
     logodwen_node_blank(&node);
     int wrong = measure("start", starts, LOGODWEN_STACK_START);
     wrong += measure("request", requests, LOGODWEN_STACK_REQUEST);
@@ -212,5 +249,8 @@ int main(void) {
     starts();
     lay_list();
     wrong += measure("requests", lists, LOGODWEN_STACK_REQUESTS);
-    return wrong == 0 ? 0 : 1;
+    wrong += measure("start", starts, LOGODWEN_STACK_START); /* with files to judge */
+    return wrong;
 }
+
+int main(void) { return measure_all(LOGODWEN_FLASH_BYTES) + measure_all(LOGODWEN_FLASH_FULL_BYTES) == 0 ? 0 : 1; }

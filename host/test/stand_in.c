@@ -19,6 +19,9 @@ enum { ALL_READABLE = 24, PLACE_OFF, SEAL_OVERLOOKED, LEFT_OVER_OVERLOOKED, KIND
 enum { OLD_CLOCK = 30, RX_STATUS_LOST };                                                        /* of a slave that is sent NEXT */
 enum { DUE_COMPARED = 32, TURN_WAITS, LAST_DUE_LEFT, CLEARED_TURN, HALF_ADDED, TURN_KEPT };     /* of the Q-List */
 enum { BARE_REPLIES = 38, LITTLE_ROOM, STOPPED_YET_CHANGED, REFUSED_YET_BEGUN, COUNT_LOW, ASKED_IN_LIST }; /* of a list of requests */
+enum { LONG_STORED_WRONG = 44, ABORT_ENDED };                                                   /* of a file that is too long for File Read */
+enum { ODD_TAKEN = 46, OTHER_SIZE_TAKEN, FRONT_ALONE, BYTES_SWAPPED, LONG_REFUSED, LENGTH_CUT }; /* of a flash of either size */
+enum { ALL_TOUCHED = 52 };                                                                      /* of what a call looks at */
 enum { DIRECTORY_BYTES = 64, ENTRY_WORDS = 4, FIRST = 0, STATUS = 2, LENGTH = 3 };
 enum { REPETITIONS = 1, DUE = 10 }; /* in a record: a word, and a byte */
 
@@ -44,6 +47,20 @@ static uint64_t write_with_fault(uint64_t answered) {
     if (FAULT != ALL_ACCEPTED && FAULT != ALL_REFUSED)
         return answered;
     return LOGODWEN_REPLY << 8 | (FAULT == ALL_ACCEPTED ? LOGODWEN_BC_END : LOGODWEN_BC_ABORT) << 16;
+}
+
+/* The reply to a File Read without words, with a fault. */
+static uint64_t no_read_with_fault(uint64_t answered) {
+    return FAULT == ABORT_ENDED && logodwen_bc(answered) == LOGODWEN_BC_ABORT ? LOGODWEN_REPLY << 8 | LOGODWEN_BC_END << 16 : answered;
+}
+
+/* The flash once a file has come in packets, with a fault: the last word of one that is too long for File Read is another. */
+static void stored_with_fault(const uint8_t *directory, uint8_t *flash, size_t flash_len) {
+    for (unsigned sector = LOGODWEN_SECTOR_FIRST; FAULT == LONG_STORED_WRONG && sector <= LOGODWEN_SECTOR_LAST; sector++) {
+        size_t words = logodwen_get(directory, ENTRY_WORDS * (size_t)(sector - LOGODWEN_SECTOR_FIRST) + LENGTH);
+        if (words > LOGODWEN_FILE_READ_WORDS)
+            flash[2 * (logodwen_sector_start(flash_len, sector) + words) - 1] ^= 1;
+    }
 }
 
 /* The state of a write that stands, NULL where none does. */
@@ -74,10 +91,11 @@ static void masks_with_fault(uint32_t kind, uint8_t *state) {
 }
 
 /* The directory that an accepted start leaves, with a fault: a sector is good if a file begins it, whatever stands behind that. */
-static void remains_with_fault(const uint8_t *flash, uint8_t *directory) {
+static void remains_with_fault(const uint8_t *flash, size_t flash_len, uint8_t *directory) {
     for (unsigned sector = LOGODWEN_SECTOR_FIRST; FAULT == REMAINS_OVERLOOKED && sector <= LOGODWEN_SECTOR_LAST; sector++) {
         size_t at = ENTRY_WORDS * (size_t)(sector - LOGODWEN_SECTOR_FIRST);
-        size_t length = model_file_length(flash + 2 * logodwen_sector_start(sector), logodwen_sector_words(sector));
+        const uint8_t *words = flash + 2 * logodwen_sector_start(flash_len, sector);
+        size_t length = model_file_length(words, logodwen_sector_words(flash_len, sector));
         if (length != 0) {
             logodwen_put(directory, at + STATUS, 0);
             logodwen_put(directory, at + LENGTH, (uint16_t)length);
@@ -138,27 +156,94 @@ static void list_with_fault(uint64_t answered, const uint8_t *packet, size_t pac
         logodwen_put(state + LOGODWEN_AT_TURN, 0, turn);
 }
 
-uint32_t logodwen4_start(uint32_t kind, uint32_t ports, uint32_t subdetector, uint16_t program_version,
+/* How much of a flash a call is lent, with a fault: a byte over is let go, a flash of another size than at start is taken, or of a full one the
+   first 65,536 bytes alone; or the bytes of each word of a full one stand the other way round. What is changed for that is changed back
+   behind the call. */
+
+static void put_size(uint8_t *state, size_t state_len, size_t flash_len) {
+    if (state_len == LOGODWEN_STATE_BYTES)
+        logodwen_put_pm(state + LOGODWEN_AT_FLASH_WORDS, 0, (uint32_t)(flash_len / 2));
+}
+
+static void swap_bytes(uint8_t *flash, size_t flash_len) {
+    for (size_t at = 0; at < flash_len; at += 2) {
+        uint8_t low = flash[at];
+        flash[at] = flash[at + 1];
+        flash[at + 1] = low;
+    }
+}
+
+static size_t lent_with_fault(uint8_t *state, size_t state_len, uint8_t *flash, size_t flash_len) {
+    bool is_full = flash_len == LOGODWEN_FLASH_FULL_BYTES;
+    if (FAULT == OTHER_SIZE_TAKEN && logodwen_is_flash_len(flash_len))
+        put_size(state, state_len, flash_len);
+    if (FAULT == FRONT_ALONE && is_full)
+        put_size(state, state_len, LOGODWEN_FLASH_BYTES);
+    if (FAULT == BYTES_SWAPPED && is_full)
+        swap_bytes(flash, flash_len);
+    return FAULT == FRONT_ALONE && is_full ? LOGODWEN_FLASH_BYTES : FAULT == ODD_TAKEN ? flash_len / 2 * 2 : flash_len;
+}
+
+static void change_back(uint8_t *state, size_t state_len, uint8_t *flash, size_t flash_len) {
+    bool is_full = flash_len == LOGODWEN_FLASH_FULL_BYTES;
+    if (FAULT == FRONT_ALONE && is_full)
+        put_size(state, state_len, flash_len);
+    if (FAULT == BYTES_SWAPPED && is_full)
+        swap_bytes(flash, flash_len);
+}
+
+/* The directory that a call leaves, with a fault: a length has 15 bits. */
+static void cut_with_fault(uint8_t *directory) {
+    for (size_t at = LENGTH; FAULT == LENGTH_CUT && at < DIRECTORY_BYTES / 2; at += ENTRY_WORDS)
+        logodwen_put(directory, at, logodwen_get(directory, at) & 0x7FFFu);
+}
+
+/* The answer to a File Write, with a fault: a file above 4,096 words is ABORT, and nothing of it stored. */
+static uint64_t long_with_fault(uint64_t answered, const uint8_t *before, uint8_t *directory, uint8_t *flash, size_t flash_len) {
+    for (unsigned sector = LOGODWEN_SECTOR_FIRST; FAULT == LONG_REFUSED && sector <= LOGODWEN_SECTOR_LAST; sector++) {
+        size_t at = ENTRY_WORDS * (size_t)(sector - LOGODWEN_SECTOR_FIRST) + LENGTH;
+        if (logodwen_get(before, at) != 0 || logodwen_get(directory, at) <= LOGODWEN_FILE_WORDS)
+            continue;
+        memset(flash + 2 * logodwen_sector_start(flash_len, sector), 0xFF, 2 * logodwen_sector_words(flash_len, sector));
+        memcpy(directory, before, DIRECTORY_BYTES);
+        return LOGODWEN_REPLY << 8 | LOGODWEN_BC_ABORT << 16;
+    }
+    return answered;
+}
+
+/* What a request looks at, with a fault: every sector. */
+static void look_with_fault(const uint8_t *flash, size_t flash_len) {
+    static volatile uint8_t seen;
+    for (size_t at = 0; FAULT == ALL_TOUCHED && at < flash_len; at += LOGODWEN_FLASH_BYTES)
+        seen = flash[at];
+    (void)seen;
+}
+
+uint32_t logodwen5_start(uint32_t kind, uint32_t ports, uint32_t subdetector, uint16_t program_version,
                          uint16_t subdetector_version, uint16_t start_tests, uint32_t clock, const uint8_t *flash, size_t flash_len,
                          uint8_t *state, size_t state_len) {
+    uint8_t *changed = (uint8_t *)(uintptr_t)flash; /* and changed back */
+    size_t lent = lent_with_fault(state, 0, changed, flash_len);
     uint32_t refusal = model_start(kind, ports, subdetector, program_version, subdetector_version, start_tests, clock, flash,
-                                   flash_len, state, state_len);
+                                   lent, state, state_len);
+    change_back(state, refusal == 0 ? state_len : 0, changed, flash_len);
     if (refusal == 0) {
+        cut_with_fault(state + LOGODWEN_AT_DIRECTORY);
         masks_with_fault(kind, state);
-        remains_with_fault(flash, state + LOGODWEN_AT_DIRECTORY);
+        remains_with_fault(flash, flash_len, state + LOGODWEN_AT_DIRECTORY);
     }
     return refusal;
 }
 
-uint64_t logodwen4_request(uint32_t now, uint32_t link, uint32_t bc, uint32_t receive_error, const uint8_t *packet,
+uint64_t logodwen5_request(uint32_t now, uint32_t link, uint32_t bc, uint32_t receive_error, const uint8_t *packet,
                            size_t packet_len, uint8_t *state, size_t state_len, uint8_t *flash, size_t flash_len, uint8_t *pm,
                            size_t pm_len, uint8_t *dm, size_t dm_len, uint8_t *io, size_t io_len, uint8_t *area, size_t area_len,
                            uint8_t *list, size_t list_len, uint8_t *reply, size_t reply_len) {
-    static uint8_t spare_state[LOGODWEN_STATE_BYTES], spare_flash[LOGODWEN_FLASH_BYTES];
+    static uint8_t spare_state[LOGODWEN_STATE_BYTES], spare_flash[LOGODWEN_FLASH_FULL_BYTES];
     uint8_t before[DIRECTORY_BYTES];
     bool is_write = is_own(packet, packet_len, 0x45), is_read = is_own(packet, packet_len, 0x05);
     bool is_summary = is_own(packet, packet_len, 0x07);
-    if (FAULT == NOTHING_STORED && is_write && state_len == sizeof spare_state && flash_len == sizeof spare_flash) {
+    if (FAULT == NOTHING_STORED && is_write && state_len == sizeof spare_state && flash_len <= sizeof spare_flash) {
         state = memcpy(spare_state, state, state_len);
         flash = memcpy(spare_flash, flash, flash_len);
     }
@@ -171,22 +256,30 @@ uint64_t logodwen4_request(uint32_t now, uint32_t link, uint32_t bc, uint32_t re
         memcpy(before, state + LOGODWEN_AT_DIRECTORY, sizeof before);
         packet = erase_with_fault(packet, packet_len, before);
     }
-    uint64_t answered = model_request(now, link, bc, receive_error, packet, packet_len, state, state_len, flash, flash_len, pm,
+    look_with_fault(flash, flash_len);
+    size_t lent = lent_with_fault(state, state_len, flash, flash_len);
+    uint64_t answered = model_request(now, link, bc, receive_error, packet, packet_len, state, state_len, flash, lent, pm,
                                       pm_len, dm, dm_len, io, io_len, area, area_len, list, list_len, reply, reply_len);
+    change_back(state, state_len, flash, flash_len);
     if (FAULT == ODD_BYTE_CLEARED && logodwen_answer(answered) == LOGODWEN_REPLY && dm_len % 2 == 1)
         dm[dm_len - 1] = 0;
     if (FAULT == JOINED_TOO_MUCH && (bc & 2) == 0 && joined + packet_len / 2 > LOGODWEN_AREA_WORDS &&
         logodwen_refusal(answered) == 0)
         area[LOGODWEN_AREA_BYTES - 1] ^= 1;
-    if (state_len == LOGODWEN_STATE_BYTES)
+    if (state_len == LOGODWEN_STATE_BYTES) {
         lengths_with_fault(before, state + LOGODWEN_AT_DIRECTORY);
+        cut_with_fault(state + LOGODWEN_AT_DIRECTORY);
+        answered = long_with_fault(answered, before, state + LOGODWEN_AT_DIRECTORY, flash, flash_len);
+    }
     list_with_fault(answered, packet, packet_len, turn, state, list, list_len);
     if (is_summary && logodwen_words(answered) != 0)
         summary_with_fault(answered, reply);
     if (written == NULL && is_write && standing(state, state_len) != NULL)
         return first_with_fault(answered, packet, packet_len, state);
-    if (is_read && logodwen_words(answered) != 0)
-        return read_with_fault(answered, reply);
+    if (written != NULL && logodwen_bc(answered) == LOGODWEN_BC_END && standing(state, state_len) == NULL)
+        stored_with_fault(state + LOGODWEN_AT_DIRECTORY, flash, flash_len);
+    if (is_read && logodwen_answer(answered) == LOGODWEN_REPLY)
+        return logodwen_words(answered) != 0 ? read_with_fault(answered, reply) : no_read_with_fault(answered);
     return is_write && logodwen_answer(answered) == LOGODWEN_REPLY ? write_with_fault(answered) : answered;
 }
 
@@ -211,7 +304,7 @@ static size_t lay_reply(uint64_t answered, const uint8_t *reply, uint8_t *to, si
 }
 
 /* A list, by the model; with a fault, by the requests above one after the other, so that it has theirs too. */
-uint64_t logodwen4_requests(uint32_t now, const uint8_t *packets, size_t packets_len, uint8_t *state, size_t state_len, uint8_t *flash,
+uint64_t logodwen5_requests(uint32_t now, const uint8_t *packets, size_t packets_len, uint8_t *state, size_t state_len, uint8_t *flash,
                             size_t flash_len, uint8_t *pm, size_t pm_len, uint8_t *dm, size_t dm_len, uint8_t *io, size_t io_len,
                             uint8_t *area, size_t area_len, uint8_t *list, size_t list_len, uint8_t *replies, size_t replies_len) {
     static uint8_t reply[LOGODWEN_REPLY_BYTES], before[LOGODWEN_STATE_BYTES];
@@ -228,7 +321,7 @@ uint64_t logodwen4_requests(uint32_t now, const uint8_t *packets, size_t packets
         if (at == 0)
             break;
         memcpy(before, is_state ? state : before, sizeof before);
-        uint64_t answered = logodwen4_request(now, link, packet.bc, 0, packet.bytes, 2 * packet.words, state, state_len, flash, flash_len, pm,
+        uint64_t answered = logodwen5_request(now, link, packet.bc, 0, packet.bytes, 2 * packet.words, state, state_len, flash, flash_len, pm,
                                               pm_len, dm, dm_len, io, io_len, area, area_len, list, list_len, reply, sizeof reply);
         if (logodwen_answer(answered) == LOGODWEN_ASK && FAULT != ASKED_IN_LIST)
             memcpy(state, before, sizeof before);
@@ -249,7 +342,7 @@ static void next_with_fault(uint32_t asked_at, uint8_t *state) {
         logodwen_put(state + LOGODWEN_AT_RX_STATUS, 0, 0);
 }
 
-uint64_t logodwen4_reply(uint32_t now, uint32_t slave, uint32_t bc, uint32_t receive_error, uint16_t rx_status, uint16_t rx_address,
+uint64_t logodwen5_reply(uint32_t now, uint32_t slave, uint32_t bc, uint32_t receive_error, uint16_t rx_status, uint16_t rx_address,
                          const uint8_t *packet, size_t packet_len, uint8_t *state, size_t state_len, uint8_t *reply,
                          size_t reply_len) {
     uint32_t asked_at = state_len == LOGODWEN_STATE_BYTES ? logodwen_get_pm(state + LOGODWEN_AT_ASKED_AT, 0) : 0;
@@ -264,17 +357,19 @@ uint64_t logodwen4_reply(uint32_t now, uint32_t slave, uint32_t bc, uint32_t rec
     return answered;
 }
 
-uint64_t logodwen4_poll(uint32_t now, uint8_t *state, size_t state_len, uint8_t *reply, size_t reply_len) {
+uint64_t logodwen5_poll(uint32_t now, uint8_t *state, size_t state_len, uint8_t *reply, size_t reply_len) {
     if (FAULT == CLOCK_COMPARED && state_len == LOGODWEN_STATE_BYTES && now < logodwen_get_pm(state + LOGODWEN_AT_ASKED_AT, 0))
         now = logodwen_get_pm(state + LOGODWEN_AT_ASKED_AT, 0);
     return model_poll(now, state, state_len, reply, reply_len);
 }
 
-uint64_t logodwen4_erase(uint64_t budget, uint8_t *state, size_t state_len, uint8_t *flash, size_t flash_len) {
+uint64_t logodwen5_erase(uint64_t budget, uint8_t *state, size_t state_len, uint8_t *flash, size_t flash_len) {
     uint8_t before[DIRECTORY_BYTES];
     if (state_len == LOGODWEN_STATE_BYTES)
         memcpy(before, state + LOGODWEN_AT_DIRECTORY, sizeof before);
-    uint64_t answered = model_erase(budget, state, state_len, flash, flash_len);
+    size_t lent = lent_with_fault(state, state_len, flash, flash_len);
+    uint64_t answered = model_erase(budget, state, state_len, flash, lent);
+    change_back(state, state_len, flash, flash_len);
     if (FAULT == STALE_DIRECTORY && state_len == LOGODWEN_STATE_BYTES)
         memcpy(state + LOGODWEN_AT_DIRECTORY, before, sizeof before);
     if (state_len == LOGODWEN_STATE_BYTES)
@@ -292,7 +387,7 @@ static uint8_t *in_turn(const uint8_t *state, size_t state_len, uint8_t *list, s
 
 /* The slow-control step, with a fault: times are compared as they stand; the turn waits until its entry is handed out; or an entry that is
    handed out for the last time keeps its due time. */
-uint64_t logodwen4_slow(uint32_t now, uint8_t *state, size_t state_len, uint8_t *list, size_t list_len) {
+uint64_t logodwen5_slow(uint32_t now, uint8_t *state, size_t state_len, uint8_t *list, size_t list_len) {
     uint8_t *record = in_turn(state, state_len, list, list_len);
     if (record == NULL)
         return model_slow(now, state, state_len, list, list_len);
@@ -308,7 +403,7 @@ uint64_t logodwen4_slow(uint32_t now, uint8_t *state, size_t state_len, uint8_t 
     return answered;
 }
 
-uint16_t logodwen4_fcs(const uint8_t *bytes, size_t len) { return model_fcs(bytes, len / 2); }
+uint16_t logodwen5_fcs(const uint8_t *bytes, size_t len) { return model_fcs(bytes, len / 2); }
 
 /* A captured group reply, with a fault: an FCS is taken for right, whatever it is, or words left over are not looked at. */
 static uint64_t capture_with_fault(uint64_t answered, uint32_t mask, const uint8_t *words) {
@@ -323,7 +418,7 @@ static uint64_t capture_with_fault(uint64_t answered, uint32_t mask, const uint8
     return model_capture(mask, resealed, 2 * place + 2) == LOGODWEN_ACCEPTED << 8 ? LOGODWEN_ACCEPTED << 8 : answered;
 }
 
-uint64_t logodwen4_capture(uint32_t mask, const uint8_t *words, size_t words_len) {
+uint64_t logodwen5_capture(uint32_t mask, const uint8_t *words, size_t words_len) {
     uint64_t answered = model_capture(FAULT == MASK_CUT ? mask & 0xFFFFFFu : mask, words, words_len);
     if (FAULT == ALL_READABLE)
         return LOGODWEN_ACCEPTED << 8;
