@@ -4,9 +4,12 @@
 #include <stdio.h>
 
 static struct logodwen_node master, slaves[LOGODWEN_SLAVES];
+static uint8_t flash[LOGODWEN_FLASH_BYTES], flashes[LOGODWEN_SLAVES][LOGODWEN_FLASH_BYTES]; /* the master's, and one for each slave */
 
-static void start(struct logodwen_node *node, uint32_t kind) {
+static void start(struct logodwen_node *node, uint8_t *bytes, uint32_t kind) {
     const struct logodwen_given given = {kind, 1, 0, 0, 0, 0, 0};
+    node->flash = bytes;
+    node->flash_len = LOGODWEN_FLASH_BYTES;
     logodwen_node_blank(node);
     logodwen_node_start(node, &given);
 }
@@ -34,8 +37,8 @@ int main(void) {
     uint8_t request[14]; /* to slaves 5 and 7: Ping with four words; kept until the reply */
     size_t words = logodwen_make_to_slaves(request, 1u << 5 | 1u << 7);
     words += logodwen_make_ping(request + 2 * words, 5, data, 4);
-    start(&master, LOGODWEN_CDDC);
-    for (unsigned i = 0; i < LOGODWEN_SLAVES; i++) start(&slaves[i], LOGODWEN_CDP);
+    start(&master, flash, LOGODWEN_CDDC);
+    for (unsigned i = 0; i < LOGODWEN_SLAVES; i++) start(&slaves[i], flashes[i], LOGODWEN_CDP);
 
     uint64_t answered = logodwen_node_send(&master, 0, 0, request, words);
     struct logodwen_packet sent, said;

@@ -2,7 +2,8 @@
 #include "logodwen.h"
 #include <stdio.h>
 
-static struct logodwen_node node;
+static uint8_t flash[LOGODWEN_FLASH_BYTES];
+static struct logodwen_node node = {.flash = flash, .flash_len = sizeof flash};
 
 int main(void) {
     const struct logodwen_given given = {LOGODWEN_CDP, 1, 0, 0, 0, 0, 0};

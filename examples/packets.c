@@ -1,10 +1,11 @@
-/* Writes an image in three packets, as one is written that is too long for one packet, and reads it back. */
+/* Writes an image that is too long for one packet into a flash of full size, in three packets, and reads it back. */
 #include "logodwen.h"
 #include <stdio.h>
 
-enum { DATA = 4000, ROOM = 1500 };
+enum { DATA = 12000, ROOM = 5000 };
 
-static struct logodwen_node node;
+static uint8_t flash[LOGODWEN_FLASH_FULL_BYTES];
+static struct logodwen_node node = {.flash = flash, .flash_len = sizeof flash};
 static uint16_t data[DATA];
 static uint8_t image[2 * (DATA + 4)], packet[2 * ROOM];
 

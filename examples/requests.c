@@ -4,7 +4,8 @@
 
 enum { ROOM = 2 * LOGODWEN_REPLIES_WORDS };
 
-static struct logodwen_node node;
+static uint8_t flash[LOGODWEN_FLASH_BYTES];
+static struct logodwen_node node = {.flash = flash, .flash_len = sizeof flash};
 static uint8_t replies[2 * ROOM];
 
 int main(void) {

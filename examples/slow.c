@@ -4,7 +4,8 @@
 
 enum { ENTRIES = 3, ROOM = 5 + 5 * ENTRIES };
 
-static struct logodwen_node node;
+static uint8_t flash[LOGODWEN_FLASH_BYTES];
+static struct logodwen_node node = {.flash = flash, .flash_len = sizeof flash};
 static uint8_t packet[2 * ROOM];
 
 /* What is listed, by the node's own words. */

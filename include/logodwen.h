@@ -42,8 +42,12 @@
 
    Words: a word is two bytes, a word of program memory (PM) four, the low byte first. Of a PM word the low 24 bits count, and a store
    clears the others. The seven calls and logodwen_capture take lengths in bytes (`_len`); bytes that are not a whole word at the end of a
-   run, or not a whole record of the Q-List, are ignored, and stay as they are. The helpers count in words (`words`, `count`, `room`), or
-   in records.
+   run, or not a whole record of the Q-List, are ignored, and stay as they are. Only a flash with a byte over is refused: it has one of two
+   sizes, to the byte. The helpers count in words (`words`, `count`, `room`), or in records.
+
+   The flash has bench size, 32,768 words, or full size, 262,144: the host picks one at start, and lends as many bytes from then on. Both have
+   the same sectors at the same addresses; those of a full flash are eight times as long. Only start reads all of it. A command on a file
+   reads its sector, a File Write those up to the one that it takes, an erasure sets its words, and nothing else touches the flash.
 
    Times are in ticks of 10 ms and count modulo 2^32. A slave that has not answered 60 ticks after it was asked, or sent
    NEXT, is late. An entry of the Q-List is due once its time has come, for 2^31 ticks, which is 248 days. */
@@ -60,12 +64,14 @@ extern "C" {
 #endif
 
 /* The version of this interface. It is part of every symbol, so a host that was compiled against another version does not link. */
-#define LOGODWEN_VERSION 4
+#define LOGODWEN_VERSION 5
 
 /* Sizes. */
 #define LOGODWEN_STATE_BYTES 192u         /* of a node's state, exactly; the layout is at the end of this file */
-#define LOGODWEN_FLASH_WORDS 32768u       /* of the flash, exactly */
+#define LOGODWEN_FLASH_WORDS 32768u       /* of a flash of bench size, exactly */
 #define LOGODWEN_FLASH_BYTES 65536u
+#define LOGODWEN_FLASH_FULL_WORDS 262144u /* of one of full size, exactly */
+#define LOGODWEN_FLASH_FULL_BYTES 524288u
 #define LOGODWEN_REPLY_WORDS 12288u       /* of the reply buffer, at least */
 #define LOGODWEN_REPLY_BYTES 24576u
 #define LOGODWEN_REPLIES_WORDS 12290u     /* of room that each packet of a list of requests must find for its reply, at least */
@@ -85,16 +91,18 @@ extern "C" {
 #define LOGODWEN_REQUEST_BYTES 16384u
 #define LOGODWEN_SLAVE_REPLY_WORDS 32768u /* of a packet of a slave's reply, at most */
 #define LOGODWEN_SLAVE_REPLY_BYTES 65536u
-#define LOGODWEN_FILE_WORDS 4096u         /* of a file that finds a sector, at most */
+#define LOGODWEN_FILE_WORDS 4096u         /* of a file that finds a sector of a bench flash, at most */
+#define LOGODWEN_FILE_FULL_WORDS 32768u   /* .. of a full one */
+#define LOGODWEN_FILE_READ_WORDS 12286u   /* of a file that File Read answers, at most: a longer one is answered ABORT */
 #define LOGODWEN_SLAVES 24u
 #define LOGODWEN_MASKS 16u
 #define LOGODWEN_LATE_TICKS 60u
 
-/* The stack that each entry needs, in bytes. They were measured on the archive, over calls that go through all of an entry's work, in a
-   thread with a painted stack (host/test/stack.c), and rounded up; no entry calls itself, so no input makes it more. */
-#define LOGODWEN_STACK_START 73728u
-#define LOGODWEN_STACK_REQUEST 114688u
-#define LOGODWEN_STACK_REQUESTS 114688u
+/* The stack that each entry needs, in bytes. They were measured on the archive, over calls that go through all of an entry's work on a flash of
+   either size, in a thread with a painted stack (host/test/stack.c), and rounded up; no entry calls itself, so no input makes it more. */
+#define LOGODWEN_STACK_START 69632u
+#define LOGODWEN_STACK_REQUEST 147456u
+#define LOGODWEN_STACK_REQUESTS 147456u
 #define LOGODWEN_STACK_REPLY 98304u
 #define LOGODWEN_STACK_POLL 4096u
 #define LOGODWEN_STACK_ERASE 4096u
@@ -121,7 +129,7 @@ extern "C" {
 
 /* Why a call is refused. They are tested in this order, each where the call has that input, and the first that holds is answered. */
 #define LOGODWEN_DONE 0u
-#define LOGODWEN_REFUSED_FLASH_SIZE 1u  /* the flash is not 32,768 words, or the state was started on another size */
+#define LOGODWEN_REFUSED_FLASH_SIZE 1u  /* the flash is not 65,536 or 524,288 bytes, or not of the size used at start */
 #define LOGODWEN_REFUSED_REPLY_SIZE 2u  /* the reply buffer is below 12,288 words */
 #define LOGODWEN_REFUSED_MEMORY_SIZE 3u /* PM or DM above 8,192 words, IO above 4,096, or a slave's reply above 32,768 */
 #define LOGODWEN_REFUSED_AREA_SIZE 8u   /* the area is below 32,768 words: tested here, between 3 and 4 */
@@ -143,7 +151,7 @@ extern "C" {
 #define LOGODWEN_SEND_NEXT 8u /* reply only: the slave that is being asked is to be sent NEXT, a packet of no words with BC 0, since its
                                  reply comes in packets; what it answers to that is given to the next logodwen_reply */
 
-/* The entries. Names that begin with logodwen4_ are the symbols of the archive; a host writes the short names below. */
+/* The entries. Names that begin with logodwen5_ are the symbols of the archive; a host writes the short names below. */
 
 /* Starts a node on a flash: reads all of it once, and writes the state. Mask 0 of a CDDC then names all 24 slaves, and a host that wants
    it empty writes zero (logodwen_make_mask_write); its masks 1 to 15, and all masks of a CDP, are 0. Answers 0, or why it is refused: 1,
@@ -154,8 +162,9 @@ extern "C" {
      program_version, subdetector_version
                            two words that the node's status tells
      start_tests           results of the tests at start, bits 11 to 8; other bits are ignored
-     clock                 the time now */
-uint32_t logodwen4_start(uint32_t kind, uint32_t ports, uint32_t subdetector,
+     clock                 the time now
+     flash                 65,536 or 524,288 bytes: every later call is lent as many */
+uint32_t logodwen5_start(uint32_t kind, uint32_t ports, uint32_t subdetector,
                          uint16_t program_version, uint16_t subdetector_version, uint16_t start_tests,
                          uint32_t clock,
                          const uint8_t *flash, size_t flash_len,
@@ -176,7 +185,7 @@ uint32_t logodwen4_start(uint32_t kind, uint32_t ports, uint32_t subdetector,
    words that it brings; the last is answered as a File Write of them all. At most one file comes so at a time, and requests of other
    links go on meanwhile. It is dropped, and nothing of it stored, where it gets longer than 32,768 words (ABORT), by a packet with words
    and BC 2 or 3 from its link (ERROR), or by one of no words and BC 2 (END). */
-uint64_t logodwen4_request(uint32_t now, uint32_t link, uint32_t bc, uint32_t receive_error,
+uint64_t logodwen5_request(uint32_t now, uint32_t link, uint32_t bc, uint32_t receive_error,
                            const uint8_t *packet, size_t packet_len,
                            uint8_t *state, size_t state_len,
                            uint8_t *flash, size_t flash_len,
@@ -203,7 +212,7 @@ uint64_t logodwen4_request(uint32_t now, uint32_t link, uint32_t bc, uint32_t re
                            the node's own, as above
      replies               the replies in a row, each behind two words: its BC, and how many words it has (logodwen_read_reply). Words past
                            the last one stay as they are */
-uint64_t logodwen4_requests(uint32_t now,
+uint64_t logodwen5_requests(uint32_t now,
                             const uint8_t *packets, size_t packets_len,
                             uint8_t *state, size_t state_len,
                             uint8_t *flash, size_t flash_len,
@@ -223,7 +232,7 @@ uint64_t logodwen4_requests(uint32_t now,
    The last is answered as if all the words had come in one, with the FCS at their very end. Where something is wrong with a packet, the
    reply is over: the fragment says what it was (LOGODWEN_CODE_..), and the next slave is asked. What had come of it stays in the buffer and
    counts as nothing. A single slave's packet goes to the master as it is, whatever its BC, and the request is over. */
-uint64_t logodwen4_reply(uint32_t now, uint32_t slave, uint32_t bc, uint32_t receive_error,
+uint64_t logodwen5_reply(uint32_t now, uint32_t slave, uint32_t bc, uint32_t receive_error,
                          uint16_t rx_status, uint16_t rx_address,
                          const uint8_t *packet, size_t packet_len,
                          uint8_t *state, size_t state_len,
@@ -231,13 +240,13 @@ uint64_t logodwen4_reply(uint32_t now, uint32_t slave, uint32_t bc, uint32_t rec
 
 /* Time went by while a slave is being asked. Refused: 2, 5 or 7. Answers that the node waits; or the slave is late, after NEXT too, and it
    answers a reply or asks the next slave. */
-uint64_t logodwen4_poll(uint32_t now,
+uint64_t logodwen5_poll(uint32_t now,
                         uint8_t *state, size_t state_len,
                         uint8_t *reply, size_t reply_len);
 
 /* Goes on with an erasure that a request began: sets up to `budget` words of the sector to FFFF, from its low end. Refused: 1 or 5.
    Answers how many words it set (logodwen_words); 0 where the budget is 0 or nothing is being erased. */
-uint64_t logodwen4_erase(uint64_t budget,
+uint64_t logodwen5_erase(uint64_t budget,
                          uint8_t *state, size_t state_len,
                          uint8_t *flash, size_t flash_len);
 
@@ -248,13 +257,13 @@ uint64_t logodwen4_erase(uint64_t budget,
    no call takes longer for a longer list.
      now                   the time now. An entry is due where now less its due time, modulo 2^32, is below 2^31
      list                  the records, of which at most the 14 bytes of that entry are written */
-uint64_t logodwen4_slow(uint32_t now,
+uint64_t logodwen5_slow(uint32_t now,
                         uint8_t *state, size_t state_len,
                         uint8_t *list, size_t list_len);
 
 /* The check sequence (FCS) of the words of bytes: polynomial 0x1021, start 0xFFFF, high byte of each word first. A last byte alone is
    ignored. */
-uint16_t logodwen4_fcs(const uint8_t *bytes, size_t len);
+uint16_t logodwen5_fcs(const uint8_t *bytes, size_t len);
 
 /* Whether words that some node sent are a group's reply, by the rules by which this node assembles one. It is never refused, changes
    nothing, and needs no node. Answers LOGODWEN_ACCEPTED: answers of the slaves exist from which this node assembles just these words, and
@@ -264,19 +273,19 @@ uint16_t logodwen4_fcs(const uint8_t *bytes, size_t len);
      mask                  the slaves that were asked, bit s for slave s. An empty one, or one with a bit above 23, has no reply: broken at 0
      words                 the reply, status word and FCS included. No words are broken at 0: where every slave answers the same without
                            words, that answer is the group's reply, and it has no fragments */
-uint64_t logodwen4_capture(uint32_t mask, const uint8_t *words, size_t words_len);
+uint64_t logodwen5_capture(uint32_t mask, const uint8_t *words, size_t words_len);
 
-#define logodwen_start logodwen4_start
-#define logodwen_request logodwen4_request
-#define logodwen_requests logodwen4_requests
-#define logodwen_reply logodwen4_reply
-#define logodwen_poll logodwen4_poll
-#define logodwen_erase logodwen4_erase
-#define logodwen_slow logodwen4_slow
-#define logodwen_capture logodwen4_capture
+#define logodwen_start logodwen5_start
+#define logodwen_request logodwen5_request
+#define logodwen_requests logodwen5_requests
+#define logodwen_reply logodwen5_reply
+#define logodwen_poll logodwen5_poll
+#define logodwen_erase logodwen5_erase
+#define logodwen_slow logodwen5_slow
+#define logodwen_capture logodwen5_capture
 
 /* The same of so many words. It ends a segment's body and every reply that has words. */
-static inline uint16_t logodwen_fcs(const uint8_t *bytes, size_t words) { return logodwen4_fcs(bytes, 2 * words); }
+static inline uint16_t logodwen_fcs(const uint8_t *bytes, size_t words) { return logodwen5_fcs(bytes, 2 * words); }
 
 /* ---- What was answered, taken apart. A call that is refused has no other part. ---- */
 
@@ -355,7 +364,7 @@ static inline bool logodwen_to_send(uint64_t answered, const uint8_t *request, s
 static inline const char *logodwen_refusal_text(unsigned refusal) {
     switch (refusal) {
     case LOGODWEN_DONE: return "done";
-    case LOGODWEN_REFUSED_FLASH_SIZE: return "1: the flash is not 32,768 words, or not of the size used at start";
+    case LOGODWEN_REFUSED_FLASH_SIZE: return "1: the flash is not 65,536 or 524,288 bytes, or not of the size used at start";
     case LOGODWEN_REFUSED_REPLY_SIZE: return "2: the reply buffer is below 12,288 words";
     case LOGODWEN_REFUSED_MEMORY_SIZE: return "3: PM, DM, IO or a slave's reply is too long";
     case LOGODWEN_REFUSED_NUMBER: return "4: a link, slave, kind, port count or sub-detector that is none";
@@ -414,15 +423,20 @@ static inline void logodwen_put_pm(uint8_t *bytes, size_t word, uint32_t value) 
 
 /* ---- A node in one struct, with all that is lent to it, and the calls on it. ---- */
 
-/* All zero it is a node before its first start, without PM, DM and IO. A host that has such memories lends its own bytes. */
+/* All zero but for its flash it is a node before its first start, without PM, DM and IO. The host lends its own bytes for the flash, of
+   either size, and for such memories as it has:
+
+       static uint8_t flash[LOGODWEN_FLASH_BYTES]; // or LOGODWEN_FLASH_FULL_BYTES
+       static struct logodwen_node node = {.flash = flash, .flash_len = sizeof flash};
+
+   A copy of the struct lends the same flash, not a copy of it. */
 struct logodwen_node {
-    uint8_t state[LOGODWEN_STATE_BYTES], flash[LOGODWEN_FLASH_BYTES], area[LOGODWEN_AREA_BYTES], list[LOGODWEN_LIST_BYTES],
-        reply[LOGODWEN_REPLY_BYTES];
-    uint8_t *pm, *dm, *io;
-    size_t pm_len, dm_len, io_len; /* in bytes */
+    uint8_t state[LOGODWEN_STATE_BYTES], area[LOGODWEN_AREA_BYTES], list[LOGODWEN_LIST_BYTES], reply[LOGODWEN_REPLY_BYTES];
+    uint8_t *flash, *pm, *dm, *io;
+    size_t flash_len, pm_len, dm_len, io_len; /* in bytes */
 };
 
-/* What is given at start: see logodwen4_start. */
+/* What is given at start: see logodwen5_start. */
 struct logodwen_given {
     uint32_t kind, ports, subdetector;
     uint16_t program_version, subdetector_version, start_tests;
@@ -430,18 +444,20 @@ struct logodwen_given {
 };
 
 /* A flash as it comes: every bit set, so every sector empty. The node is to be started on it. */
-static inline void logodwen_node_blank(struct logodwen_node *node) { memset(node->flash, 0xFF, sizeof node->flash); }
+static inline void logodwen_node_blank(struct logodwen_node *node) {
+    if (node->flash_len != 0) memset(node->flash, 0xFF, node->flash_len);
+}
 
 static inline uint32_t logodwen_node_start(struct logodwen_node *node, const struct logodwen_given *given) {
     return logodwen_start(given->kind, given->ports, given->subdetector, given->program_version, given->subdetector_version,
-                          given->start_tests, given->clock, node->flash, sizeof node->flash, node->state, sizeof node->state);
+                          given->start_tests, given->clock, node->flash, node->flash_len, node->state, sizeof node->state);
 }
 
 /* A packet with all that the receiver said of it. */
 static inline uint64_t logodwen_node_request(struct logodwen_node *node, uint32_t now, uint32_t link, uint32_t bc,
                                              uint32_t receive_error, const uint8_t *packet, size_t words) {
     return logodwen_request(now, link, bc, receive_error, packet, 2 * words, node->state, sizeof node->state, node->flash,
-                            sizeof node->flash, node->pm, node->pm_len, node->dm, node->dm_len, node->io, node->io_len, node->area,
+                            node->flash_len, node->pm, node->pm_len, node->dm, node->dm_len, node->io, node->io_len, node->area,
                             sizeof node->area, node->list, sizeof node->list, node->reply, sizeof node->reply);
 }
 
@@ -469,7 +485,7 @@ static inline uint64_t logodwen_node_poll(struct logodwen_node *node, uint32_t n
 }
 
 static inline uint64_t logodwen_node_erase(struct logodwen_node *node, uint64_t budget) {
-    return logodwen_erase(budget, node->state, sizeof node->state, node->flash, sizeof node->flash);
+    return logodwen_erase(budget, node->state, sizeof node->state, node->flash, node->flash_len);
 }
 
 static inline uint64_t logodwen_node_slow(struct logodwen_node *node, uint32_t now) {
@@ -523,7 +539,8 @@ static inline bool logodwen_read_record(const uint8_t *list, size_t records, siz
     return true;
 }
 
-/* ---- Sectors. The flash has the file sectors 3 to 10; the words before them never change. ---- */
+/* ---- Sectors. The flash has the file sectors 3 to 10; the words before them never change. Sector 3 has a sixteenth of the flash's words,
+   each other one an eighth: at bench size 2,048 and 4,096, at full size 16,384 and 32,768. ---- */
 
 #define LOGODWEN_SECTOR_FIRST 3u
 #define LOGODWEN_SECTOR_LAST 10u
@@ -531,17 +548,24 @@ static inline bool logodwen_read_record(const uint8_t *list, size_t records, siz
 
 static inline bool logodwen_is_sector(unsigned sector) { return LOGODWEN_SECTOR_FIRST <= sector && sector <= LOGODWEN_SECTOR_LAST; }
 
-/* How many words a sector has, at which word of the flash it begins, and its address in Summary and Erase; 0 of a number that is none. */
-static inline size_t logodwen_sector_words(unsigned sector) {
-    return !logodwen_is_sector(sector) ? 0 : sector == LOGODWEN_SECTOR_FIRST ? LOGODWEN_FLASH_WORDS / 16 : LOGODWEN_FLASH_WORDS / 8;
+/* Whether a flash may have so many bytes. */
+static inline bool logodwen_is_flash_len(size_t flash_len) {
+    return flash_len == LOGODWEN_FLASH_BYTES || flash_len == LOGODWEN_FLASH_FULL_BYTES;
 }
 
-static inline size_t logodwen_sector_start(unsigned sector) {
-    return !logodwen_is_sector(sector)       ? 0
-           : sector == LOGODWEN_SECTOR_FIRST ? LOGODWEN_FLASH_WORDS / 16
-                                             : LOGODWEN_FLASH_WORDS / 8 * (size_t)(sector - LOGODWEN_SECTOR_FIRST);
+/* How many words a sector has, and at which word of the flash it begins, in a flash of so many bytes, as it is lent; 0 of a sector that is
+   none, and of a flash that may not have so many. */
+static inline size_t logodwen_sector_words(size_t flash_len, unsigned sector) {
+    if (!logodwen_is_flash_len(flash_len) || !logodwen_is_sector(sector)) return 0;
+    return flash_len / 2 / (sector == LOGODWEN_SECTOR_FIRST ? 16 : 8);
 }
 
+static inline size_t logodwen_sector_start(size_t flash_len, unsigned sector) {
+    size_t words = logodwen_sector_words(flash_len, sector);
+    return sector == LOGODWEN_SECTOR_FIRST ? words : words * (sector - LOGODWEN_SECTOR_FIRST);
+}
+
+/* Its address in Summary and Erase, the same in both sizes; 0 of a number that is none. */
 static inline unsigned logodwen_sector_address(unsigned sector) {
     return !logodwen_is_sector(sector) ? 0 : sector == LOGODWEN_SECTOR_FIRST ? 0x0200u : 0x0400u * (sector - LOGODWEN_SECTOR_FIRST);
 }
@@ -747,7 +771,8 @@ static inline bool logodwen_file_io(struct logodwen_file *file, const uint16_t *
 /* The IDs of the node's own commands. */
 #define LOGODWEN_ID_STATUS 0x0Cu        /* answers twelve words: logodwen_read_status */
 #define LOGODWEN_ID_PING 0x0Du          /* answers the words that it has */
-#define LOGODWEN_ID_FILE_READ 0x05u     /* answers the file; END where there is none of that name, ABORT where it is bad or there are several */
+#define LOGODWEN_ID_FILE_READ 0x05u     /* answers the file; END where there is none of that name, ABORT where it is bad, above
+                                           12,286 words, or there are several */
 #define LOGODWEN_ID_FILE_WRITE 0x45u    /* stores a file in the lowest empty sector with room */
 #define LOGODWEN_ID_FILE_TEST 0x06u     /* answers the sector's status word: 8000 where it is bad */
 #define LOGODWEN_ID_FILE_LOAD 0x46u     /* stores a file's segments in the memories */
@@ -1073,7 +1098,7 @@ static inline bool logodwen_packets_add_file(struct logodwen_packets *list, uint
    before each, and 12,288 and two for the last one, however short it is. */
 static inline uint64_t logodwen_node_requests(struct logodwen_node *node, uint32_t now, const struct logodwen_packets *list, uint8_t *replies,
                                               size_t room) {
-    return logodwen_requests(now, list->bytes, 2 * list->words, node->state, sizeof node->state, node->flash, sizeof node->flash,
+    return logodwen_requests(now, list->bytes, 2 * list->words, node->state, sizeof node->state, node->flash, node->flash_len,
                              node->pm, node->pm_len, node->dm, node->dm_len, node->io, node->io_len, node->area, sizeof node->area,
                              node->list, sizeof node->list, replies, 2 * room);
 }
@@ -1164,7 +1189,7 @@ struct logodwen_entry {
     unsigned sector, address;
     unsigned first;  /* its first word: a file's header where there is one */
     unsigned status; /* LOGODWEN_SECTOR_EMPTY, LOGODWEN_SECTOR_GOOD, LOGODWEN_SECTOR_BAD or LOGODWEN_SECTOR_ERASING */
-    unsigned words;  /* the length of its file where it is good, else 0: at most 4,096 here, 32,768 of a node with a flash of full size */
+    unsigned words;  /* the length of its file where it is good, else 0: at most 4,096 in a bench flash, 32,768 in a full one */
 };
 
 /* Reads the entry of a sector, 3 to 10, in a reply to Summary; false where the reply is not one, its FCS is wrong or the sector is none,
@@ -1323,8 +1348,9 @@ static inline size_t logodwen_read_fragment(const uint8_t *reply, size_t words, 
 }
 
 /* ---- The state bytes, low byte first, for a host that wants to look into them, keep them or send them. What a case does not use is 0, and
-   bytes that are not as told here are refused by 5. Their form belongs to LOGODWEN_VERSION: a state that was kept from version 3, which has
-   188 bytes, is one of version 4 with four bytes 0 behind it. ---- */
+   bytes that are not as told here are refused by 5. Their form belongs to LOGODWEN_VERSION, and that of version 5 is that of version 4: a state
+   that was kept from version 4 is one of version 5 as it stands. One from version 3, which has 188 bytes, is one with four bytes 0 behind
+   it. ---- */
 #define LOGODWEN_AT_KIND 0u                 /* 1 byte: 1 or 2 */
 #define LOGODWEN_AT_PORTS 1u                /* 1: 1 to 4 */
 #define LOGODWEN_AT_SUBDETECTOR 2u          /* 1: 0 to 7 */
@@ -1337,7 +1363,7 @@ static inline size_t logodwen_read_fragment(const uint8_t *reply, size_t words, 
 #define LOGODWEN_AT_ERASING 14u             /* 1: 0 nothing, else the sector being erased, 3 to 10 */
 #define LOGODWEN_AT_PENDING 15u             /* 1: 0 nothing, 1 a slave, 2 a group */
 #define LOGODWEN_AT_CLOCK 16u               /* 4: the time at start */
-#define LOGODWEN_AT_FLASH_WORDS 20u         /* 4: the flash's size in words */
+#define LOGODWEN_AT_FLASH_WORDS 20u         /* 4: the flash's size in words, 32,768 or 262,144 */
 #define LOGODWEN_AT_ERASED 24u              /* 4: erasing: words set so far */
 #define LOGODWEN_AT_LINK 28u                /* 1: pending: the link that asked */
 #define LOGODWEN_AT_SLAVE 29u               /* 1: pending: the slave being asked */

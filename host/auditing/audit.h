@@ -6,8 +6,20 @@
 
 #include "../common/common.h"
 
-/* What a bench flash holds, for people. */
-#define FLASH_HOLDS "a bench flash holds eight files, one of at most 2,048 and seven of at most 4,096 words"
+/* The sizes of a flash (size.c). */
+
+struct size {
+    const char *name, *in_digits, *what; /* as it is asked for, its bytes, and what it holds, for people */
+    size_t bytes;
+};
+
+const struct size *size_usual(void);
+const struct size *size_named(const char *name); /* NULL where none has that name */
+const struct size *size_of(size_t bytes);        /* NULL where a flash may not have so many */
+bool size_holds(const struct size *size, size_t words); /* whether a sector has room for so many */
+
+/* What a flash holds that is too small for so many words; and where a larger one would do, what to ask for. */
+void size_say_too_small(const struct size *size, size_t words, char *text);
 
 /* Options (options.c). */
 
@@ -20,7 +32,8 @@ struct erasure {
 struct options {
     struct asked asked;
     bool together, keep, summary;
-    const char *flash; /* the flash file, or NULL */
+    const char *flash;       /* the flash file, or NULL */
+    const struct size *size; /* as it was asked for, or NULL */
     struct erasure *erasures;
     size_t erasure_count;
 };
@@ -59,7 +72,7 @@ struct course {
     struct logodwen_packet summary, read;
 };
 
-void node_blank(struct logodwen_node *node);
+void node_blank(struct logodwen_node *node, const struct size *size); /* of the usual size where that is NULL */
 uint32_t node_start(struct logodwen_node *node);
 void node_write_and_read(struct logodwen_node *node, const uint8_t *words, size_t count, unsigned name, struct course *course);
 uint64_t node_erase(struct logodwen_node *node, struct erasure erasure);
@@ -72,9 +85,11 @@ const char *reply_text(const struct logodwen_packet *reply);
 bool entry_is_empty(struct entry entry);
 const char *entry_status(struct entry entry);
 void entry_text(struct entry entry, char *text); /* its status and its length */
-size_t sector_words(unsigned sector);
+const struct size *node_size(const struct logodwen_node *node); /* of its flash */
+size_t sector_words(const struct logodwen_node *node, unsigned sector);
 const uint8_t *sector_begin(const struct logodwen_node *node, unsigned sector);
-unsigned directory_place(const struct entry *directory, size_t words); /* the lowest empty sector with room, or 0 */
+unsigned directory_place(const struct logodwen_node *node, const struct entry *directory, size_t words); /* the lowest empty sector with
+                                                                                                            room, or 0 */
 
 /* Sets of sectors, bit s for sector s (named.c). */
 
@@ -121,14 +136,15 @@ struct flash_file {
     struct look look; /* at the file that stands there */
 };
 
-/* Reads it; to be kept it is locked first, which may mean waiting for another audit. */
-bool flash_file_open(struct flash_file *file, const char *path, bool is_kept, struct logodwen_node *node, char *why);
+/* Reads it into the node's flash, where a full one has room; that then has as many bytes as the file. To be kept it is locked first, which may
+   mean waiting for another audit. `size` is the one that was asked for, or NULL. */
+bool flash_file_open(struct flash_file *file, const char *path, bool is_kept, const struct size *size, struct logodwen_node *node, char *why);
 bool flash_file_write(struct flash_file *file, const struct logodwen_node *node, char *why);
 void flash_file_close(struct flash_file *file);
 
 /* What is printed (report.c). */
 
-void report_head(const struct options *options);
+void report_flash(const struct options *options, const struct size *size);
 void report_new_flash(const char *path);
 void report_columns(void);
 void report_erased(unsigned sector, unsigned words);

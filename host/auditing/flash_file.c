@@ -1,4 +1,4 @@
-/* The flash file: 65,536 bytes, the words of a bench flash, low byte first.
+/* The flash file: 65,536 bytes, the words of a bench flash, low byte first; or 524,288, those of a full one.
 
    One that is kept is written whole to a file beside it, .NAME.audit-new, which then takes its name: at no time a part of it stands there.
    It keeps its mode and its owner, and a link that leads to it stays. From reading to writing it is locked, by a lock on the empty file
@@ -147,7 +147,20 @@ static bool may_be_kept(struct flash_file *file, char *why) {
 
 /* Reading. */
 
-static bool is_read(struct flash_file *file, struct logodwen_node *node, char *why) {
+/* A file of this size was read; false where a flash has none such, or another was asked for. */
+static bool is_size_right(const struct flash_file *file, const struct size *size, const struct size *asked, size_t bytes, char *why) {
+    struct text text;
+    const char *path = shown(file->path, &text);
+    bool is_longer = bytes > LOGODWEN_FLASH_FULL_BYTES; /* by one: it is not read on */
+    if (size == NULL)
+        return say(why, "%s: %s%zu bytes; a flash has 65,536 (bench size) or 524,288 (full size), the low byte of each word first", path,
+                   is_longer ? "more than " : "", is_longer ? bytes - 1 : bytes);
+    return asked == NULL || asked == size
+           || say(why, "--size %s: %s has %s bytes, which is %s size; leave --size out, or give another --flash FILE", asked->name, path,
+                  size->in_digits, size->name);
+}
+
+static bool is_read(struct flash_file *file, const struct size *asked, struct logodwen_node *node, char *why) {
     struct text text;
     int bytes = open(file->path, O_RDONLY | O_NONBLOCK);
     if (bytes < 0)
@@ -156,27 +169,25 @@ static bool is_read(struct flash_file *file, struct logodwen_node *node, char *w
     uint8_t more;
     size_t count = 0;
     ssize_t got = 1;
-    while (got > 0 && count < sizeof node->flash) {
-        got = read(bytes, node->flash + count, sizeof node->flash - count);
+    while (got > 0 && count < LOGODWEN_FLASH_FULL_BYTES) {
+        got = read(bytes, node->flash + count, LOGODWEN_FLASH_FULL_BYTES - count);
         count += got > 0 ? (size_t)got : 0;
     }
-    bool is_longer = got > 0 && read(bytes, &more, 1) == 1;
+    count += got > 0 && read(bytes, &more, 1) == 1;
     close(bytes);
     if (got < 0)
         return say(why, "%s: can't be read", shown(file->path, &text));
-    if (is_longer || count != sizeof node->flash)
-        return say(why, "%s: %s bytes; a bench flash has 65,536 bytes, 32,768 words with the low byte first", shown(file->path, &text),
-                   is_longer ? "too many" : "too few");
-    return true;
+    node->flash_len = count;
+    return is_size_right(file, size_of(count), asked, count, why);
 }
 
-bool flash_file_open(struct flash_file *file, const char *path, bool is_kept, struct logodwen_node *node, char *why) {
+bool flash_file_open(struct flash_file *file, const char *path, bool is_kept, const struct size *size, struct logodwen_node *node, char *why) {
     *file = (struct flash_file){.path = path, .lock = -1};
     if (is_kept && !(is_placed(file, why) && is_locked(file, why) && may_be_kept(file, why)))
         return false;
     if (!file->is_new)
-        return is_read(file, node, why);
-    node_blank(node);
+        return is_read(file, size, node, why);
+    node_blank(node, size);
     return true;
 }
 
@@ -240,7 +251,7 @@ bool flash_file_write(struct flash_file *file, const struct logodwen_node *node,
     int out = made_beside(file);
     if (out < 0)
         return is_not_kept(file, file->beside, why);
-    bool is_done = are_written(out, node->flash, sizeof node->flash) && is_alike(file, out) && fsync(out) == 0;
+    bool is_done = are_written(out, node->flash, node->flash_len) && is_alike(file, out) && fsync(out) == 0;
     if (close(out) == 0 && is_done && rename(file->beside, file->real) == 0) {
         settle_folder(file->real);
         return true;

@@ -8,7 +8,8 @@ struct audit {
     struct options options;
     struct paths paths;
     struct flash_file file;
-    struct logodwen_node node;
+    uint8_t flash[LOGODWEN_FLASH_FULL_BYTES];
+    struct logodwen_node node; /* is lent as many bytes of it as its size has */
     size_t totals[VERDICTS];
     char why[TEXT];
 };
@@ -24,12 +25,15 @@ static bool is_started(struct audit *audit) {
 
 static bool is_flash_there(struct audit *audit) {
     const struct options *options = &audit->options;
+    audit->node.flash = audit->flash;
     if (options->flash == NULL) {
-        node_blank(&audit->node);
-    } else if (!flash_file_open(&audit->file, options->flash, options->keep, &audit->node, audit->why)) {
+        node_blank(&audit->node, options->size);
+    } else if (!flash_file_open(&audit->file, options->flash, options->keep, options->size, &audit->node, audit->why)) {
         complain(audit->why, NOT_READ);
         return false;
     }
+    if (!options->asked.quiet)
+        report_flash(options, node_size(&audit->node));
     if (audit->file.is_new && !options->asked.quiet)
         report_new_flash(options->flash);
     return is_started(audit);
@@ -81,7 +85,7 @@ static bool is_erased(struct audit *audit, struct erasure erasure) {
     }
     unsigned set = node_erase_on(&audit->node);
     char has[TEXT];
-    if (is_empty_now(&audit->node, sector, has) && set == sector_words(sector)) {
+    if (is_empty_now(&audit->node, sector, has) && set == sector_words(&audit->node, sector)) {
         report_erased(sector, set);
         return true;
     }
@@ -122,7 +126,7 @@ static void audit_image(void *with, const char *path) {
     struct audit *audit = with;
     struct finding finding = {.verdict = UNREADABLE};
     if (!audit->options.together) {
-        node_blank(&audit->node);
+        node_blank(&audit->node, audit->options.size);
         if (!is_started(audit))
             return;
     }
@@ -159,7 +163,7 @@ static void audit_images(struct audit *audit) {
 static void run(struct audit *audit) {
     const struct options *options = &audit->options;
     if (!options->asked.quiet)
-        report_head(options);
+        lines_archive();
     if (!is_flash_there(audit) || !are_erased(audit))
         return;
     if (options->asked.path_count > 0)

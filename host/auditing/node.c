@@ -1,9 +1,14 @@
-/* The node: a CDP on a bench flash, and the calls that an audit makes of it. */
+/* The node: a CDP on a flash of either size, and the calls that an audit makes of it. */
 #include "audit.h"
 
 #include <string.h>
 
-void node_blank(struct logodwen_node *node) { logodwen_node_blank(node); }
+void node_blank(struct logodwen_node *node, const struct size *size) {
+    node->flash_len = (size != NULL ? size : size_usual())->bytes;
+    logodwen_node_blank(node);
+}
+
+const struct size *node_size(const struct logodwen_node *node) { return size_of(node->flash_len); }
 
 uint32_t node_start(struct logodwen_node *node) {
     static const struct logodwen_given given = {LOGODWEN_CDP, 1, 0, 0, 0, 0, 0};
@@ -75,7 +80,7 @@ uint32_t node_erase_on(struct logodwen_node *node) {
         uint64_t answered = logodwen_node_erase(node, BUDGET);
         set = logodwen_refusal(answered) == LOGODWEN_DONE ? logodwen_words(answered) : 0;
         all += set;
-    } while (set != 0 && all <= LOGODWEN_FLASH_WORDS);
+    } while (set != 0 && all <= node->flash_len / 2);
     return all;
 }
 
@@ -120,13 +125,15 @@ void entry_text(struct entry entry, char *text) {
         say(text, "%s with length %u", entry_status(entry), entry.words);
 }
 
-size_t sector_words(unsigned sector) { return logodwen_sector_words(sector); }
+size_t sector_words(const struct logodwen_node *node, unsigned sector) { return logodwen_sector_words(node->flash_len, sector); }
 
-const uint8_t *sector_begin(const struct logodwen_node *node, unsigned sector) { return node->flash + 2 * logodwen_sector_start(sector); }
+const uint8_t *sector_begin(const struct logodwen_node *node, unsigned sector) {
+    return node->flash + 2 * logodwen_sector_start(node->flash_len, sector);
+}
 
-unsigned directory_place(const struct entry *directory, size_t words) {
+unsigned directory_place(const struct logodwen_node *node, const struct entry *directory, size_t words) {
     for (unsigned sector = SECTOR_FIRST; sector <= SECTOR_LAST; sector++)
-        if (words <= sector_words(sector) && entry_is_empty(directory[sector - SECTOR_FIRST]))
+        if (words <= sector_words(node, sector) && entry_is_empty(directory[sector - SECTOR_FIRST]))
             return sector;
     return 0;
 }

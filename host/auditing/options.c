@@ -35,6 +35,14 @@ static bool take_flash(void *into, const char *option, const char *value, char *
     return true;
 }
 
+static bool take_size(void *into, const char *option, const char *value, char *why) {
+    struct options *options = into;
+    if (options->size != NULL)
+        return say(why, "%s: given twice; all flashes of an audit have one size", option);
+    options->size = size_named(value);
+    return options->size != NULL || say(why, "%s %s: a flash has the size bench or full", option, value);
+}
+
 /* What some options need of others. */
 static bool are_consistent(struct options *options, char *why) {
     if (options->keep && options->flash == NULL)
@@ -54,7 +62,7 @@ bool options_read(int count, char **arguments, struct options *options, char *wh
     const struct own_option own[] = {{"--together", &options->together, NULL}, {"--keep", &options->keep, NULL},
                                      {"--summary", &options->summary, NULL},   {"--flash", NULL, take_flash},
                                      {"--erase", NULL, add_erasure},           {"--erase-sector", NULL, add_erasure},
-                                     {NULL, NULL, NULL}};
+                                     {"--size", NULL, take_size},              {NULL, NULL, NULL}};
     *options = (struct options){.erasures = calloc((size_t)count + 1, sizeof *options->erasures)};
     if (options->erasures == NULL)
         return say(why, "out of memory");

@@ -12,21 +12,21 @@ static const char *flash_text(const struct options *options) {
     return options->together ? "one blank flash for all images" : "a blank flash for each image";
 }
 
-static void head_in_json(const struct options *options) {
+static void flash_in_json(const struct options *options, const struct size *size) {
     object_begin();
     object_text("flash", options->flash);
+    object_text("size", size->name);
     object_text("use", flash_text(options));
     object_end();
 }
 
-void report_head(const struct options *options) {
+void report_flash(const struct options *options, const struct size *size) {
     struct text text;
-    lines_archive();
     if (lines_are_json()) {
-        head_in_json(options);
+        flash_in_json(options, size);
         return;
     }
-    printf("# flash: " FLASH_HOLDS "\n# flash: ");
+    printf("# flash: %s\n# flash: ", size->what);
     if (options->flash != NULL)
         printf("%s, ", shown(options->flash, &text));
     printf("%s\n", flash_text(options));

@@ -25,7 +25,7 @@ static size_t length_if_good(const uint8_t *words, size_t count, size_t first, c
 /* The entry that a sector should have. Where it is bad, the rule that is broken. */
 static struct entry entry_by_rules(const struct logodwen_node *node, unsigned sector, char *rule) {
     const uint8_t *words = sector_begin(node, sector);
-    size_t count = sector_words(sector), first = past_blanks(words, count, 0);
+    size_t count = sector_words(node, sector), first = past_blanks(words, count, 0);
     struct entry entry = {logodwen_get(words, 0), LOGODWEN_SECTOR_EMPTY, 0};
     if (first == count)
         return entry;

@@ -25,15 +25,22 @@ static void say_used(const struct logodwen_node *node, unsigned holders, unsigne
         say(why, "%s has this name; erase it first (--erase %02X), or audit this image alone", sectors, name);
 }
 
+/* No sector has room for so many words. */
+static void say_too_large(const struct logodwen_node *node, size_t words, const char *cause, char *why) {
+    char holds[TEXT];
+    size_say_too_small(node_size(node), words, holds);
+    say(why, "%zu words; %s%s", words, cause, holds);
+}
+
 /* The answer to a valid file: its name must be unused, and an empty sector have room. A file that no sector has room for is told apart
    from one that other files leave no room for. */
 static struct forecast foretell_valid(const struct logodwen_node *node, const struct entry *directory, const struct contents *image) {
     unsigned name = name_of(logodwen_get(image->bytes, 0)), holders = directory_named(directory, name);
-    unsigned place = directory_place(directory, image->words);
+    unsigned place = directory_place(node, directory, image->words);
     struct forecast forecast = {.verdict = AGREES, .bc = LOGODWEN_BC_END, .sector = place};
-    if (image->words > LOGODWEN_FILE_WORDS) {
+    if (!size_holds(node_size(node), image->words)) {
         forecast = refused(TOO_LARGE);
-        say(forecast.why, "%zu words; " FLASH_HOLDS, image->words);
+        say_too_large(node, image->words, "", forecast.why);
     } else if (holders != 0) {
         forecast = refused(NAME_USED);
         say_used(node, holders, name, forecast.why);
@@ -49,7 +56,7 @@ static struct forecast foretell_valid(const struct logodwen_node *node, const st
 static struct forecast foretell(const struct logodwen_node *node, const struct entry *directory, const struct contents *image) {
     struct forecast forecast = refused(TOO_LARGE);
     if (image->words > LOGODWEN_AREA_WORDS) {
-        say(forecast.why, "%zu words; File Write takes at most 32,768, in several packets; " FLASH_HOLDS, image->words);
+        say_too_large(node, image->words, "File Write takes at most 32,768, in several packets; ", forecast.why);
         return forecast;
     }
     forecast = refused(INVALID);
@@ -70,12 +77,17 @@ static bool are_as_long(const struct contents *image, const uint8_t *read, size_
     return count == all || say(detail, "word %zu: signed nothing, read %04X; words read: %zu", all, logodwen_get(read, all), count);
 }
 
+/* The words of an image against others, up to where one of the two ends; `how` says where the others are from. */
+static bool are_alike(const struct contents *image, const uint8_t *words, size_t count, const char *how, char *detail) {
+    for (size_t i = 0; i < image->words && i < count; i++)
+        if (logodwen_get(image->bytes, i) != logodwen_get(words, i))
+            return say(detail, "word %zu: signed %04X, %s %04X", i, logodwen_get(image->bytes, i), how, logodwen_get(words, i));
+    return true;
+}
+
 /* The reply to File Read against the image: the file's words, then reply status and the reply's FCS. */
 static bool is_same(const struct contents *image, const uint8_t *reply, size_t count, char *detail) {
-    for (size_t i = 0; i < image->words && i < count; i++)
-        if (logodwen_get(image->bytes, i) != logodwen_get(reply, i))
-            return say(detail, "word %zu: signed %04X, read %04X", i, logodwen_get(image->bytes, i), logodwen_get(reply, i));
-    if (!are_as_long(image, reply, count, detail))
+    if (!are_alike(image, reply, count, "read", detail) || !are_as_long(image, reply, count, detail))
         return false;
     unsigned said = logodwen_get(reply, count + 1), is = logodwen_fcs(reply, count + 1);
     return said == is || say(detail, "the words agree, but the reply has the FCS %04X and should have %04X", said, is);
@@ -97,16 +109,29 @@ static bool is_listed(struct logodwen_node *node, unsigned holders, unsigned pla
     return sector_is_right(node, place, directory[place - SECTOR_FIRST], difference) || say(detail, "the words agree, but %s", difference);
 }
 
-/* After a File Write that was answered END: where the directory has the file, and whether it is read back as it was signed. */
+static bool is_abort(const struct logodwen_packet *reply) { return reply->bc == LOGODWEN_BC_ABORT && reply->words == 0; }
+
+/* After a File Write that was answered END: where the directory has the file, and whether it is read back as it was signed. A file that is too
+   long for File Read is compared with the words of its sector in the flash, and the detail says so: what was not compared does not agree. */
 static enum verdict read_back(struct logodwen_node *node, const struct contents *image, const struct course *course, unsigned place,
                               struct finding *finding) {
     struct entry directory[SECTORS];
     bool is_there = directory_of(course->summary.bytes, course->summary.words, directory);
     unsigned holders = is_there ? directory_named(directory, name_of(finding->header)) : 0;
+    bool is_long = image->words > LOGODWEN_FILE_READ_WORDS;
     finding->sector = set_lowest(holders);
-    if (!is_read_back(image, &course->read, finding->detail))
+    if (is_long && !is_abort(&course->read)) {
+        say(finding->detail, "File Read was answered %s; by the rules it is ABORT above 12,286 words", reply_text(&course->read));
+        return DISPUTED;
+    }
+    if (is_long ? !are_alike(image, sector_begin(node, place), image->words, "in the flash", finding->detail)
+                : !is_read_back(image, &course->read, finding->detail))
         return DIFFERS;
-    return is_listed(node, holders, place, directory, finding->detail) ? AGREES : DISPUTED;
+    if (!is_listed(node, holders, place, directory, finding->detail))
+        return DISPUTED;
+    if (is_long)
+        say(finding->detail, "compared in the flash, not read back: File Read answers at most 12,286 words");
+    return AGREES;
 }
 
 static enum verdict write_and_read_back(struct logodwen_node *node, const struct contents *image, struct finding *finding) {
@@ -140,7 +165,7 @@ static enum verdict write_and_read_back(struct logodwen_node *node, const struct
 void verdict_on_image(struct logodwen_node *node, const struct contents *image, struct finding *finding) {
     *finding = (struct finding){.verdict = TOO_LARGE};
     if (image->is_too_long) {
-        say(finding->detail, "more than 1,048,576 bytes, not read on; " FLASH_HOLDS);
+        say(finding->detail, "more than 1,048,576 bytes, not read on; %s", node_size(node)->what);
         return;
     }
     finding->has_words = true;

@@ -1,10 +1,11 @@
 /* The calls at the C border, against the independent node in plain C, which works on the lent bytes in place: both are lent the same
-   bytes. */
+   bytes. And calls on a flash of full size against the same on one of bench size. */
 #include "measure.h"
 #include "runs.h"
 
 #include "../../include/logodwen.h"
 #include "../model/model.h"
+#include "../test/long_file.h"
 
 #include <string.h>
 
@@ -16,22 +17,28 @@ enum { LISTED = 100, LONG_LISTED = 24, PINGED = 500, REPLIES = LONG_LISTED * (LA
    list of what is short. */
 static const double SHORT = 4.00, LONG = 1.30, SECTOR = 1.50, LIST = 2.00;
 
-/* Everything that a call is lent. */
+/* A flash of each size, and which is lent. */
+enum { AT_BENCH, AT_FULL, SIZES };
+static const size_t flash_len[SIZES] = {LOGODWEN_FLASH_BYTES, LOGODWEN_FLASH_FULL_BYTES};
+static unsigned size = AT_BENCH;
+
+/* Everything that a call is lent, the flash apart: as it stands, as a turn begins, and as the proved call left it. */
 static struct {
-    uint8_t state[LOGODWEN_STATE_BYTES], flash[LOGODWEN_FLASH_BYTES], pm[LOGODWEN_PM_BYTES], dm[LOGODWEN_DM_BYTES],
-        io[LOGODWEN_IO_BYTES], area[LOGODWEN_AREA_BYTES], list[LOGODWEN_LIST_BYTES], reply[LOGODWEN_REPLY_BYTES], replies[2 * REPLIES];
-} lent, first, after; /* as it stands, as a turn begins, and as the proved call left it */
+    uint8_t state[LOGODWEN_STATE_BYTES], pm[LOGODWEN_PM_BYTES], dm[LOGODWEN_DM_BYTES], io[LOGODWEN_IO_BYTES], area[LOGODWEN_AREA_BYTES],
+        list[LOGODWEN_LIST_BYTES], reply[LOGODWEN_REPLY_BYTES], replies[2 * REPLIES];
+} lent, first[SIZES], after;
+static uint8_t flash[SIZES][LOGODWEN_FLASH_FULL_BYTES], first_flash[SIZES][LOGODWEN_FLASH_FULL_BYTES], after_flash[LOGODWEN_FLASH_FULL_BYTES];
 
 static uint64_t answered;
 
 static uint8_t *state = lent.state; /* the state that is lent: that one, or one of many */
 
 static void packet_into(bool plain, uint32_t bc, const uint8_t *packet, size_t words, uint8_t *reply, size_t reply_len) {
-    answered = plain ? model_request(0, 0, bc, 0, packet, 2 * words, state, sizeof lent.state, lent.flash,
-                                     sizeof lent.flash, lent.pm, sizeof lent.pm, lent.dm, sizeof lent.dm, lent.io, sizeof lent.io,
+    answered = plain ? model_request(0, 0, bc, 0, packet, 2 * words, state, sizeof lent.state, flash[size],
+                                     flash_len[size], lent.pm, sizeof lent.pm, lent.dm, sizeof lent.dm, lent.io, sizeof lent.io,
                                      lent.area, sizeof lent.area, lent.list, sizeof lent.list, reply, reply_len)
-                     : logodwen_request(0, 0, bc, 0, packet, 2 * words, state, sizeof lent.state, lent.flash,
-                                        sizeof lent.flash, lent.pm, sizeof lent.pm, lent.dm, sizeof lent.dm, lent.io, sizeof lent.io,
+                     : logodwen_request(0, 0, bc, 0, packet, 2 * words, state, sizeof lent.state, flash[size],
+                                        flash_len[size], lent.pm, sizeof lent.pm, lent.dm, sizeof lent.dm, lent.io, sizeof lent.io,
                                         lent.area, sizeof lent.area, lent.list, sizeof lent.list, reply, reply_len);
 }
 
@@ -57,8 +64,8 @@ static void poll(bool plain) {
 }
 
 static void erase(bool plain, uint64_t budget) {
-    answered = plain ? model_erase(budget, state, sizeof lent.state, lent.flash, sizeof lent.flash)
-                     : logodwen_erase(budget, state, sizeof lent.state, lent.flash, sizeof lent.flash);
+    answered = plain ? model_erase(budget, state, sizeof lent.state, flash[size], flash_len[size])
+                     : logodwen_erase(budget, state, sizeof lent.state, flash[size], flash_len[size]);
 }
 
 static void slow(bool plain) {
@@ -85,14 +92,14 @@ static void list_at_once(bool plain, const struct logodwen_packets *list) {
     if (plain)
         list_singly(true, list);
     else
-        answered = logodwen_requests(0, list->bytes, 2 * list->words, state, sizeof lent.state, lent.flash, sizeof lent.flash, lent.pm,
+        answered = logodwen_requests(0, list->bytes, 2 * list->words, state, sizeof lent.state, flash[size], flash_len[size], lent.pm,
                                      sizeof lent.pm, lent.dm, sizeof lent.dm, lent.io, sizeof lent.io, lent.area, sizeof lent.area,
                                      lent.list, sizeof lent.list, lent.replies, sizeof lent.replies);
 }
 
 static void start(bool plain) {
-    answered = plain ? model_start(LOGODWEN_CDDC, 1, 0, 0, 0, 0, 0, lent.flash, sizeof lent.flash, state, sizeof lent.state)
-                     : logodwen_start(LOGODWEN_CDDC, 1, 0, 0, 0, 0, 0, lent.flash, sizeof lent.flash, state, sizeof lent.state);
+    answered = plain ? model_start(LOGODWEN_CDDC, 1, 0, 0, 0, 0, 0, flash[size], flash_len[size], state, sizeof lent.state)
+                     : logodwen_start(LOGODWEN_CDDC, 1, 0, 0, 0, 0, 0, flash[size], flash_len[size], state, sizeof lent.state);
 }
 
 /* Packets. */
@@ -224,7 +231,8 @@ static void lay_lists(void) {
 /* How a turn begins. */
 
 static void as_first(void) {
-    memcpy(&lent, &first, sizeof lent);
+    memcpy(&lent, &first[size], sizeof lent);
+    memcpy(flash[size], first_flash[size], flash_len[size]);
     state = lent.state;
 }
 
@@ -254,14 +262,16 @@ static void pending_group(void) {
     next = 0;
 }
 
-/* The sector where the large file stands is being erased. */
-static void erasing(void) {
+/* The sector where a file stands is being erased: the large one, or the long one of a full flash. */
+static void erasing_named(unsigned name) {
     struct packet packet;
     as_first();
     command(&packet, 0x47);
-    word(&packet, LARGE_NAME << 4 | 1);
+    word(&packet, name << 4 | 1);
     request(true, packet.bytes, packet.words);
 }
+
+static void erasing(void) { erasing_named(LARGE_NAME); }
 
 /* Entries are listed: so many, as many as can be, or some of them expired. */
 static void listing(const struct packet *packet) {
@@ -358,7 +368,7 @@ static void one_group(void) {
 static uint8_t middle[LOGODWEN_REQUEST_BYTES];
 
 static void joins_behind(uint32_t joined) {
-    memcpy(state, first.state, sizeof first.state);
+    memcpy(state, first[size].state, sizeof lent.state);
     state[LOGODWEN_AT_WRITE] = 1;
     logodwen_put_pm(state + LOGODWEN_AT_JOINED, 0, joined);
     packet_with(false, LOGODWEN_BC_MIDDLE, middle, LOGODWEN_REQUEST_WORDS);
@@ -405,6 +415,183 @@ static int perf_stepping(void) {
     return measure_against(&row, "one entry");
 }
 
+/* Whether the proved calls of a row leave other bytes than plain C, or answer otherwise. */
+static bool is_different(const struct row *row) {
+    row->prepare();
+    row->work(false);
+    uint64_t said = answered;
+    uint8_t left[LOGODWEN_STATE_BYTES];
+    memcpy(left, state, sizeof left);
+    memcpy(&after, &lent, sizeof after);
+    memcpy(after_flash, flash[size], flash_len[size]);
+    row->prepare();
+    row->work(true);
+    return answered != said || memcmp(&after, &lent, sizeof after) != 0 || memcmp(left, state, sizeof left) != 0
+           || memcmp(after_flash, flash[size], flash_len[size]) != 0;
+}
+
+static int perf_rows(const struct row *rows, size_t count) {
+    for (size_t i = 0; i < count; i++)
+        if (is_different(&rows[i]))
+            return measure_differs(rows[i].what);
+    return measure(rows, count);
+}
+
+/* A node as a turn begins, started on a blank flash, with three files in it. */
+static void begin_first(void) {
+    state = lent.state;
+    memset(flash[size], 0xFF, flash_len[size]);
+    start(true);
+    for (size_t i = 0; i < sizeof lent.dm; i++)
+        lent.dm[i] = lent.pm[i] = (uint8_t)(i * 37u);
+    for (unsigned name = FIRST_NAME; name <= SMALL_NAME; name++) {
+        struct packet small;
+        command(&small, 0x45);
+        file(&small, name, 6);
+        request(true, small.bytes, small.words);
+    }
+    request(true, large_write.bytes, large_write.words);
+}
+
+static void end_first(void) {
+    memcpy(&first[size], &lent, sizeof lent);
+    memcpy(first_flash[size], flash[size], flash_len[size]);
+}
+
+/* A flash of full size (02, request 11): with a file that File Read just answers, and files that come in packets. */
+
+enum { READ_NAME = 10, LONG_NAME = 11, OTHER_NAME = 12, READ = 12000, LONG_WORDS = 30000, FULL_SECTOR = 32768 };
+
+static uint8_t long_file[LOGODWEN_AREA_BYTES];
+static struct packet long_read, long_test, long_load, attribute;
+
+static void write_long_file(bool plain, size_t words) {
+    static uint8_t packet[LOGODWEN_REQUEST_BYTES];
+    uint32_t bc;
+    for (size_t at = 0, laid; (laid = logodwen_make_file_packet(packet, LOGODWEN_REQUEST_WORDS, long_file, words, &at, &bc)) != 0;)
+        packet_with(plain, bc, packet, laid);
+}
+
+static void begin_full(void) {
+    static const struct {
+        unsigned name;
+        size_t words;
+    } files[] = {{READ_NAME, READ}, {OTHER_NAME, FULL_SECTOR}, {LONG_NAME, LONG_WORDS}};
+    begin_first();
+    for (size_t i = 0; i < sizeof files / sizeof *files; i++)
+        write_long_file(true, lay_long_file(long_file, files[i].name, files[i].words)); /* the last one stays laid */
+    long_read.words = logodwen_make_file_read(long_read.bytes, READ_NAME);
+    long_test.words = logodwen_make_file_test(long_test.bytes, LONG_NAME);
+    long_load.words = logodwen_make_file_load(long_load.bytes, LONG_NAME);
+    attribute.words = logodwen_make_attribute_set(attribute.bytes, LONG_NAME, false);
+}
+
+static void erasing_long(void) { erasing_named(LONG_NAME); }
+
+static void without_long(void) {
+    erasing_long();
+    erase(true, FULL_SECTOR);
+}
+
+static void reads_long(bool plain) { request(plain, long_read.bytes, long_read.words); }
+static void tests_long(bool plain) { request(plain, long_test.bytes, long_test.words); }
+static void loads_long(bool plain) { request(plain, long_load.bytes, long_load.words); }
+static void sets_attribute(bool plain) { request(plain, attribute.bytes, attribute.words); }
+static void writes_long(bool plain) { write_long_file(plain, LONG_WORDS); }
+static void erases_long(bool plain) { erase(plain, FULL_SECTOR); }
+
+/* Both flashes in turn, with the state of each: a call on the full one against one on the bench flash, or against as many as have as many
+   words in their sectors. */
+
+enum { SECTORS_IN_ONE = 8 };
+
+static uint8_t of_size[SIZES][LOGODWEN_STATE_BYTES];
+
+static void on_both(void (*prepare)(void)) {
+    for (size = AT_BENCH; size < SIZES; size++) {
+        prepare();
+        memcpy(of_size[size], lent.state, sizeof lent.state);
+    }
+}
+
+/* A sector of the bench flash filled as the large file fills one of the full flash. */
+static void filled_alike(void) {
+    struct packet packet;
+    if (size == AT_FULL) {
+        as_first();
+        return;
+    }
+    without_large();
+    command(&packet, 0x45);
+    file(&packet, LARGE_NAME, LARGE / SECTORS_IN_ONE);
+    request(true, packet.bytes, packet.words);
+}
+
+static void both_first(void) { on_both(as_first); }
+static void both_filled(void) { on_both(filled_alike); }
+static void both_erasing(void) { on_both(erasing); }
+
+static void lend(bool is_bench) {
+    size = is_bench ? AT_BENCH : AT_FULL;
+    state = of_size[size];
+}
+
+static void reads_sectors(bool is_bench) {
+    lend(is_bench);
+    for (int i = 0; i < (is_bench ? SECTORS_IN_ONE : 1); i++)
+        reads_large(false);
+}
+
+static void erases_hundred(bool is_bench) {
+    lend(is_bench);
+    erase(false, 100);
+}
+
+static void reads_mode_of(bool is_bench) {
+    lend(is_bench);
+    reads_mode(false);
+}
+
+static int perf_sizes(void) {
+    static const struct row rows[] = {
+        {"Read of 4,000 words in a sector of 32,768", both_first, reads_sectors, 2, 1.30},
+        {".. with sectors filled alike", both_filled, reads_sectors, 2, 1.30},
+        {"erase of 100 words, full size", both_erasing, erases_hundred, 20, 1.10},
+        {"Mode Read, full size", both_first, reads_mode_of, 10 * TIMES, 1.10},
+    };
+    static const char *const others[] = {"8 in 4,096", "8 in 4,096", "bench", "bench"};
+    static const uint32_t words[][SIZES] = {{LARGE + 2, LARGE + 2}, {LARGE / SECTORS_IN_ONE + 2, LARGE + 2}, {100, 100}, {3, 3}};
+    int over = 0;
+    for (size_t i = 0; i < sizeof rows / sizeof *rows; i++) {
+        rows[i].prepare();
+        for (unsigned which = AT_BENCH; which < SIZES; which++) {
+            rows[i].work(which == AT_BENCH);
+            if (logodwen_words(answered) != words[i][which])
+                return measure_differs(rows[i].what);
+        }
+        over += measure_against(&rows[i], others[i]);
+    }
+    size = AT_BENCH;
+    return over;
+}
+
+static int perf_full(void) {
+    const struct row rows[] = {
+        {"start on a full flash with six files", as_first, starts, 1, 1.15},
+        {"Read of 12,000 words, full size", as_first, reads_long, 1, LONG},
+        {"Test of 30,000 words, full size", as_first, tests_long, 1, LONG},
+        {"Load of 30,000 words, full size", as_first, loads_long, 1, LONG},
+        {"Attribute Set of 30,000 words, full size", as_first, sets_attribute, 1, LONG},
+        {"Write of 30,000 words in packets, full size", without_long, writes_long, 1, LONG},
+        {"erase of 32,768 words", erasing_long, erases_long, 1, LONG},
+    };
+    size = AT_FULL;
+    begin_full();
+    end_first();
+    int over = perf_rows(rows, sizeof rows / sizeof *rows);
+    return over + perf_sizes();
+}
+
 int perf_border_runs(void) {
     const struct row rows[] = {
         {"Mode Read", as_first, reads_mode, TIMES, SHORT},
@@ -446,33 +633,10 @@ int perf_border_runs(void) {
         {"a list of 24 Reads of 4,000 words", as_first, lists_reads, 1, LONG},
         {"a list of 24 Pings of 500 words", as_first, lists_pings, 2, LONG},
     };
-    const size_t count = sizeof rows / sizeof *rows;
     lay_packets();
     lay_lists();
-    memset(lent.flash, 0xFF, sizeof lent.flash);
-    start(true);
-    for (size_t i = 0; i < sizeof lent.dm; i++)
-        lent.dm[i] = lent.pm[i] = (uint8_t)(i * 37u);
-    for (unsigned name = FIRST_NAME; name <= SMALL_NAME; name++) {
-        struct packet small;
-        command(&small, 0x45);
-        file(&small, name, 6);
-        request(true, small.bytes, small.words);
-    }
-    request(true, large_write.bytes, large_write.words);
-    memcpy(&first, &lent, sizeof first);
-    for (size_t i = 0; i < count; i++) {
-        rows[i].prepare();
-        rows[i].work(false);
-        uint64_t said = answered;
-        uint8_t *proved_state = state;
-        uint8_t left[LOGODWEN_STATE_BYTES];
-        memcpy(left, proved_state, sizeof left);
-        memcpy(&after, &lent, sizeof after);
-        rows[i].prepare();
-        rows[i].work(true);
-        if (answered != said || memcmp(&after, &lent, sizeof after) != 0 || memcmp(left, state, sizeof left) != 0)
-            return measure_differs(rows[i].what);
-    }
-    return measure(rows, count) + perf_joining() + perf_stepping();
+    begin_first();
+    end_first();
+    int over = perf_rows(rows, sizeof rows / sizeof *rows);
+    return over + perf_joining() + perf_stepping() + perf_full();
 }
