@@ -155,7 +155,7 @@ joined-laid buffer ws copied b t r slave status p q h e c =
 
 -- the fragment of a later packet that is not taken whole, from numbers
 
-later-bits : (a : Answer) (w k : ℕ) → isFirst a ≡ false → isWhole (kindOf a w k) ≡ false → bitsOf (kindOf a w k) (joinedOf a) ≡ 0
+pub later-bits : (a : Answer) (w k : ℕ) → isFirst a ≡ false → isWhole (kindOf a w k) ≡ false → bitsOf (kindOf a w k) (joinedOf a) ≡ 0
 unfolding laterJudged
 later-bits a w k f e =
     let h = a .heard in

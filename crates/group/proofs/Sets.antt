@@ -102,7 +102,8 @@ unfinished-falls set s = go (above set s) refl
     go [] e = refl
     go (t ∷ ss) e = ap (λ (x : List ℕ). suc (suc (length x))) (up-tells set (s + 1) t ss e .rest)
 
-length-from : (n s set : ℕ) → length (slavesFrom n s set) ≤ n
+-- a run of numbers has no more slaves than numbers
+pub length-from : (n s set : ℕ) → length (slavesFrom n s set) ≤ n
 unfolding slavesFrom
 length-from zero s set = omega arith
 length-from (suc n) s set =

@@ -54,23 +54,27 @@ receivedOf a = pick (a .heard .late) (a .earlier) (joinedOf a)
 abbrev pub rxOf : Answer → ℕ
 rxOf a = pick (a .heard .late) (a .kept) (a .heard .«rx_status»)
 
--- The data of a fragment: none; RX status and RX address; RX status, count of words received (FFFF if more) and first word; or the reply's
--- data, without its status word and its FCS.
+-- What a faulty reply's fragment tells: RX status, count of words received (FFFF if more) and first word.
+abbrev pub faultData : Answer → List ℕ
+faultData a = rxOf a ∷ min (length (receivedOf a)) 65535 ∷ getD (receivedOf a) 0 0 ∷ []
+
+-- The data of a fragment: none; RX status and RX address; what is told of a fault; or the reply's data, without its status word and its FCS.
 abbrev pub dataOf : Kind → Answer → List ℕ
 dataOf Kind.Late a = []
 dataOf Kind.Errors a = a .heard .«rx_status» ∷ a .heard .«rx_address» ∷ []
 dataOf (Kind.Zero z) a = []
-dataOf (Kind.Faulty f) a = rxOf a ∷ min (length (receivedOf a)) 65535 ∷ getD (receivedOf a) 0 0 ∷ []
+dataOf (Kind.Faulty f) a = faultData a
 dataOf Kind.Whole a = take (length (joinedOf a) - 2) (joinedOf a)
 
--- The data of a later packet that is not taken whole, of n words, where r words were received before it, the first of them so, and the RX
--- status of the last packet so.
+-- The same of a later packet of n words, where r words were received before it, the first of them so, and the RX status of the last packet so.
+abbrev pub laterFault : Heard → ℕ → ℕ → ℕ → ℕ → List ℕ
+laterFault h r kept first n = pick (h .late) kept (h .«rx_status») ∷ min (pick (h .late) r (r + n)) 65535 ∷ first ∷ []
+
 abbrev pub laterData : Kind → Heard → ℕ → ℕ → ℕ → ℕ → List ℕ
 laterData Kind.Late h r kept first n = []
 laterData Kind.Errors h r kept first n = h .«rx_status» ∷ h .«rx_address» ∷ []
 laterData (Kind.Zero z) h r kept first n = []
-laterData (Kind.Faulty f) h r kept first n =
-    pick (h .late) kept (h .«rx_status») ∷ min (pick (h .late) r (r + n)) 65535 ∷ first ∷ []
+laterData (Kind.Faulty f) h r kept first n = laterFault h r kept first n
 laterData Kind.Whole h r kept first n = []
 
 -- A fragment's words: how many words follow, the data, the status word.

@@ -39,7 +39,7 @@ pub fn seal(reply: &mut [u16], w: usize, status: u16) -> Reply
 }
 
 // Bit 9 of the group's status word.
-fn error_bit(tally: Tally) -> u16
+pub fn error_bit(tally: Tally) -> u16
     ensures { λ r. ⌜ (r ≡ errorBit tally) × (r < 2) ⌝ }
 {
     match tally {

@@ -50,7 +50,7 @@ fn code_of(kind: Kind) -> u16
 }
 
 // Bits 10-5 of a reply's own status word.
-fn slave_bits(words: &[u16]) -> u16
+pub fn slave_bits(words: &[u16]) -> u16
     ensures { λ r. ⌜ r ≡ slaveBits (now (words .entry)) ⌝ }
 {
     let n = words.len();
@@ -105,7 +105,7 @@ fn status_of(kind: Kind, words: &[u16], slave: u32) -> u16
 }
 
 // A number of words as a word, FFFF if more.
-fn counted(n: usize) -> u16
+pub fn counted(n: usize) -> u16
     ensures { λ r. ⌜ r ≡ min n 65535 ⌝ }
 {
     base::least(n, 65535) as u16
@@ -122,7 +122,7 @@ pub fn fits(at: usize, n: usize, run: usize) -> bool
 }
 
 // A fragment laid behind the words built, the tally then being `tally`; nothing where the buffer cannot hold it.
-fn lay(reply: &mut [u16], built: Built, tally: Tally, words: &[u16], status: u16) -> Built
+pub fn lay(reply: &mut [u16], built: Built, tally: Tally, words: &[u16], status: u16) -> Built
     requires { ⌜ length (now words) < 65535 ⌝ }
     ensures { λ r. ⌜ assembly (now (reply .exit)) r ≡ behind (assembly (now (reply .entry)) built) tally (framed (now (words .entry)) status) ⌝ }
 {
@@ -188,7 +188,7 @@ pub fn take_first(
 }
 
 // How many words are received with a later packet of n words, as a word, FFFF if more: a late one's are left out.
-fn count_with(heard: Heard, received: usize, n: usize) -> u16
+pub fn count_with(heard: Heard, received: usize, n: usize) -> u16
     requires { ⌜ received ≤ 12288 ⌝ }
     ensures { λ r. ⌜ r ≡ min (pick (heard .late) received (received + n)) 65535 ⌝ }
 {
@@ -202,7 +202,7 @@ fn count_with(heard: Heard, received: usize, n: usize) -> u16
 }
 
 // The RX status of the last packet that came in time.
-fn rx_of(heard: Heard, kept: u16) -> u16
+pub fn rx_of(heard: Heard, kept: u16) -> u16
     ensures { λ r. ⌜ r ≡ pick (heard .late) kept (heard .«rx_status») ⌝ }
 {
     if heard.late {
@@ -257,8 +257,14 @@ fn joined_bits(earlier: &[u16], words: &[u16]) -> u16
 }
 
 // A reply in packets that is whole: its earlier words stand where its fragment has them, so what is left of its data is laid behind them.
-fn lay_joined(reply: &mut [u16], built: Built, slave: u32, received: usize, words: &[u16]) -> Built
-    requires { ⌜ (0 < received) × (0 < length (now words)) × (built .words + (received + length (now words)) ≤ 12288) × (12288 ≤ length (now reply)) ⌝ }
+pub fn lay_joined(
+    reply: &mut [u16],
+    built: Built,
+    slave: u32,
+    received: usize,
+    words: &[u16],
+) -> Built
+    requires { ⌜ (0 < received) × (0 < length (now words)) × (built .words + (received + length (now words)) ≤ 12288) × (built .words + (received + length (now words)) ≤ length (now reply)) ⌝ }
     ensures { λ r. ⌜ assembly (now (reply .exit)) r ≡ behind (assembly (now (reply .entry)) built) (wholeTallied (built .tally)) (wholeFragment slave (part (now (reply .entry)) (built .words + 1) received ++ now (words .entry))) ⌝ }
 {
     let w = built.words;

@@ -78,7 +78,7 @@ lay-joined-requires c κs = let s = (c .before .before .before .before .before .
     let e = is s (c .before .before .before .before .later-kind .ensures) in
     let later : isFirst (said s) ≡ false = ne-eqb (length (earlier s)) 0 (λ z. omega (arith, z, some s)) in
     let t = later-whole (said s) (s .args .built .words) (s .args .left) later (sym e ∙ is-whole _ (sym (c .before .before .is-whole .ensures) ∙ c .before .if1 .taken)) .0 in
-    (s .pre .0, t .some, omega (arith, long s, t .room), s .pre .2)
+    (s .pre .0, t .some, omega (arith, long s, t .room), omega (arith, long s, t .room, s .pre .2))
 
 same-length : tie.Need-same-length
 same-length c = search needs
