@@ -53,13 +53,13 @@ use Rattle.codec.specs.Bytes.{numberAt, digitsOf, wordsIn, wordsOf, bytesOf, st
 use Rattle.touch.specs.InBytes.{memoryWords, memoriesLeft, replyWords, runWords, inBytes}
 use Rattle.touch.specs.Apart.{needsMemories, needsFlash}
 use Rattle.touch.specs.Touch.{Quiet, isFile, isFiling}
-use Rattle.touch.specs.Held.{Rest}
+use Rattle.assembly.specs.Held.{Rest}
 use Rattle.touch.specs.Moves.{takesSegment, performBy, MemoriesRest, Moves}
 use Rattle.codec.proofs.Runs.{length-words-of, put-one, word-in, below-each, part-each}
 use Rattle.codec.proofs.ThereAndBack.{bytes-kept}
 use Rattle.touch.proofs.Touch.{Lends, reply-front, quiet-says}
 use Rattle.touch.proofs.Taken.{verdictIn, routeIn, asked, taken-in}
-use Rattle.touch.proofs.Held.{words-laid, rest-laid, rest-none, rest-then, rest-left}
+use Rattle.assembly.proofs.Held.{words-laid, rest-laid, rest-none, rest-then, rest-left}
 
 -- all words of a run of bytes, some of them laid anew
 

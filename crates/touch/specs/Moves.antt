@@ -17,7 +17,7 @@ use Rattle.node.specs.declared.Turn.{Turn}
 use Rattle.codec.specs.Bytes.{storeWords}
 use Rattle.touch.specs.InBytes.{memoryWords}
 use Rattle.touch.specs.Touch.{ownTurn}
-use Rattle.touch.specs.Held.{Rest}
+use Rattle.assembly.specs.Held.{Rest}
 
 -- The commands that take a segment: Perform IO, PM Write, DM Write.
 abbrev pub takesSegment : ℕ → Bool

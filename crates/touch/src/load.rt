@@ -13,7 +13,7 @@ ghost use Rattle.memory.specs.Load.{isAt, fileSegments, allFit, allStored, load
 ghost use Rattle.node.specs.Files.{seenIn, loadBy, loadAt, loadOf as commandOf};
 ghost use Rattle.codec.specs.Bytes.{wordsOf};
 ghost use Rattle.touch.specs.InBytes.{memoryWords};
-ghost use Rattle.touch.specs.Held.{Rest};
+ghost use Rattle.assembly.specs.Held.{Rest};
 ghost use Rattle.touch.specs.Moves.{MemoriesRest, Moves};
 use crate::memories::run_pair;
 use crate::memories::store_dm;

@@ -18,7 +18,7 @@ ghost use Rattle.node.specs.Own.{onMemories, memoriesOf};
 ghost use Rattle.codec.specs.Bytes.{wordsOf};
 ghost use Rattle.touch.specs.InBytes.{memoryWords};
 ghost use Rattle.touch.specs.Touch.{Quiet};
-ghost use Rattle.touch.specs.Held.{Rest};
+ghost use Rattle.assembly.specs.Held.{Rest};
 ghost use Rattle.touch.specs.Moves.{takesSegment, performBy, Moves};
 use crate::replied::answer_words;
 use crate::rooms::room_64;

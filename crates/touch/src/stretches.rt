@@ -6,7 +6,7 @@ ghost use lib.ListN.{length};
 ghost use Rattle.base.specs.Words.{part, laid};
 ghost use Rattle.memory.specs.Run.{runOf, runFits, wordsAt, putAt};
 ghost use Rattle.codec.specs.Bytes.{wordsOf};
-ghost use Rattle.touch.specs.Held.{Rest};
+ghost use Rattle.assembly.specs.Held.{Rest};
 use codec::words::load16;
 use codec::words::load32;
 use codec::words::store_at16;

@@ -10,7 +10,7 @@ use Rattle.fcs.specs.Fcs.{byteWords, fcsOf}
 use Rattle.capture.proofs.Found.{EndOpen, end-open, end-breaks-at, end-found}
 use Rattle.codec.specs.Bytes.{wordsOf}
 use Rattle.codec.proofs.Runs.{length-words-of, words-front}
-use Rattle.touch.proofs.ByteWords.{byte-words}
+use Rattle.assembly.proofs.ByteWords.{byte-words}
 use Rattle.logodwen.proofs.captured.read_end.Statement.{statement}
 use Rattle.logodwen.proofs.captured.read_end.Tie as tie
 

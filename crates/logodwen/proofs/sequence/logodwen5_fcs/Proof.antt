@@ -2,7 +2,7 @@
 use mathlib.Core.Path.{_≡_, ap, _∙_}
 use borrow.Author.Needs.{needs}
 use Rattle.fcs.specs.Fcs.{fcsOf}
-use Rattle.touch.proofs.ByteWords.{byte-words}
+use Rattle.assembly.proofs.ByteWords.{byte-words}
 use Rattle.logodwen.proofs.sequence.logodwen5_fcs.Statement.{statement}
 use Rattle.logodwen.proofs.sequence.logodwen5_fcs.Tie as tie
 

@@ -8,8 +8,8 @@ use lib.ListN.{length, drop}
 use Rattle.memory.specs.Pairs.{idsOk, ioAfter}
 use Rattle.memory.proofs.Pairs.{ids-tells, after-done}
 use Rattle.codec.specs.Bytes.{wordsOf}
-use Rattle.touch.specs.Held.{Rest}
-use Rattle.touch.proofs.Held.{rest-none}
+use Rattle.assembly.specs.Held.{Rest}
+use Rattle.assembly.proofs.Held.{rest-none}
 use Rattle.touch.proofs.Moves.{rest-again, pair-after}
 use borrow.Author.Needs.{needs}
 use Rattle.touch.proofs.load.run_pairs.Statement.{statement}

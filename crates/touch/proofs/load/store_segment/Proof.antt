@@ -11,7 +11,7 @@ use Rattle.memory.specs.Segment.{firstOf, secondOf, fitsIn, Memories, memories}
 use Rattle.memory.proofs.Segment.{exact-tells, fits-by, stored-by}
 use Rattle.codec.specs.Bytes.{wordsOf}
 use Rattle.touch.specs.InBytes.{memoryWords}
-use Rattle.touch.proofs.Held.{rest-none}
+use Rattle.assembly.proofs.Held.{rest-none}
 use Rattle.touch.proofs.RunSizes.{run-most}
 use borrow.Author.Needs.{needs}
 use Rattle.touch.proofs.load.store_segment.Statement.{statement}

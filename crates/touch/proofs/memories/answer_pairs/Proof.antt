@@ -10,8 +10,8 @@ use Rattle.base.specs.Words.{laid}
 use Rattle.memory.specs.Pairs.{registerOf, valueOf, idsOk, ioAfter, ioAnswer}
 use Rattle.memory.proofs.Pairs.{ids-tells, after-done, answer-done}
 use Rattle.codec.specs.Bytes.{wordsOf}
-use Rattle.touch.specs.Held.{Rest}
-use Rattle.touch.proofs.Held.{rest-none}
+use Rattle.assembly.specs.Held.{Rest}
+use Rattle.assembly.proofs.Held.{rest-none}
 use Rattle.touch.proofs.Moves.{rest-again, pair-after, pair-answer}
 use borrow.Author.Needs.{needs}
 use Rattle.touch.proofs.memories.answer_pairs.Statement.{statement}

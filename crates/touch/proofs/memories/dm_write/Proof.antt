@@ -8,7 +8,7 @@ use Rattle.memory.specs.Segment.{memories}
 use Rattle.node.specs.Memories.{memoryWriteOf}
 use Rattle.node.proofs.Access.{write-told}
 use Rattle.codec.specs.Bytes.{wordsOf}
-use Rattle.touch.proofs.Held.{rest-none}
+use Rattle.assembly.proofs.Held.{rest-none}
 use Rattle.touch.proofs.Moves.{write-none, stores-moves}
 use borrow.Author.Needs.{needs}
 use Rattle.touch.proofs.memories.dm_write.Statement.{statement}

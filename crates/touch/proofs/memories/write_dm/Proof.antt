@@ -8,7 +8,7 @@ use Rattle.memory.specs.Command.{writable}
 use Rattle.memory.proofs.Command.{writable-tells, write-done, write-abort}
 use Rattle.codec.specs.Bytes.{wordsOf}
 use Rattle.codec.proofs.Runs.{length-words-of}
-use Rattle.touch.proofs.Held.{rest-none}
+use Rattle.assembly.proofs.Held.{rest-none}
 use borrow.Author.Needs.{needs}
 use Rattle.touch.proofs.memories.write_dm.Statement.{statement}
 use Rattle.touch.proofs.memories.write_dm.Tie as tie

@@ -10,7 +10,7 @@ use Rattle.memory.proofs.Command.{writable-tells, write-done, write-abort}
 use Rattle.memory.proofs.Segment.{exact-tells, size-packed}
 use Rattle.codec.specs.Bytes.{wordsOf}
 use Rattle.codec.proofs.Runs.{length-words-of}
-use Rattle.touch.proofs.Held.{rest-none}
+use Rattle.assembly.proofs.Held.{rest-none}
 use borrow.Author.Needs.{needs}
 use Rattle.touch.proofs.memories.write_pm.Statement.{statement}
 use Rattle.touch.proofs.memories.write_pm.Tie as tie

@@ -6,9 +6,9 @@ use lib.ListN.{length}
 use Rattle.group.proofs.Answers.{part-tells}
 use Rattle.node.proofs.Hearing.{gathers-told, awaits-told}
 use Rattle.node.proofs.Ranges.{received-room}
-use Rattle.touch.specs.Held.{bufferWords}
-use Rattle.touch.proofs.Held.{rest-then}
-use Rattle.touch.proofs.InPackets.{stored-in}
+use Rattle.assembly.specs.Held.{bufferWords}
+use Rattle.assembly.proofs.Held.{rest-then}
+use Rattle.assembly.proofs.InPackets.{stored-in}
 use borrow.Author.Needs.{needs}
 use Rattle.touch.proofs.slaves.gather_in.Statement.{statement}
 use Rattle.touch.proofs.slaves.gather_in.Tie as tie
@@ -60,7 +60,7 @@ returns c = let s = (c .before .before .before .before .before .before .before .
     let g = a .gathering in
     let ws = a .words .now in
     let t = part-tells (a .heard) (g .received .words) (length ws) (g .built .words) (c .before .before .before .before .before .before .before .before .before .slaves-above .result) (sym (c .before .before .before .before .before .before .is-part .ensures) ∙ c .before .before .before .before .before .if1 .taken) in
-    let kept = stored-in (a .reply .now) ws (g .built .words + 1 + g .received .words) (s .pre .0 .0) (λ i. omega (arith, c .before .before .before .before .before .before .before .before .before .before .slice-known2 .given i)) (λ i. omega (arith, c .before .before .before .before .before .before .before .before .before .before .before .before .shared-slice-known .given i)) (omega (arith, t .room)) (c .before .before .before .store-at16 .ensures) in
+    let kept = stored-in 12288 (a .reply .now) ws (g .built .words + 1 + g .received .words) (s .pre .0 .0) (λ i. omega (arith, c .before .before .before .before .before .before .before .before .before .before .slice-known2 .given i)) (λ i. omega (arith, c .before .before .before .before .before .before .before .before .before .before .before .before .shared-slice-known .given i)) (omega (arith, t .room)) (c .before .before .before .store-at16 .ensures) in
     (awaits-told (a .node) (a .ask) g (a .clock) (a .heard) ws (bufferWords (a .reply .now)) (c .send-next .ensures) (kept .0) (c .before .before .before .before .before .before .before .before .before .slaves-above .ensures) (sym (c .before .before .before .before .before .before .is-part .ensures) ∙ c .before .before .before .before .before .if1 .taken), kept .1)
 
 next-slave-requires : tie.Need-next-slave-requires

@@ -9,8 +9,8 @@ use Rattle.node.specs.Slaves.{goesOn}
 use Rattle.node.specs.Calls.{lentReply}
 use Rattle.node.specs.declared.Turn.{Turn}
 use Rattle.node.proofs.Hearing.{sends-told}
-use Rattle.touch.specs.Held.{bufferWords}
-use Rattle.touch.proofs.Held.{rest-none}
+use Rattle.assembly.specs.Held.{bufferWords}
+use Rattle.assembly.proofs.Held.{rest-none}
 use borrow.Author.Needs.{needs}
 use Rattle.touch.proofs.slaves.go_on_in.Statement.{statement}
 use Rattle.touch.proofs.slaves.go_on_in.Tie as tie

@@ -13,8 +13,8 @@ use Rattle.node.specs.Slaves.{hears}
 use Rattle.node.specs.Calls.{lentReply}
 use Rattle.node.specs.declared.Answer.{Answer}
 use Rattle.node.specs.declared.Pending.{Pending}
-use Rattle.touch.specs.Held.{bufferWords}
-use Rattle.touch.proofs.Held.{rest-none, rest-then}
+use Rattle.assembly.specs.Held.{bufferWords}
+use Rattle.assembly.proofs.Held.{rest-none, rest-then}
 use borrow.Author.Needs.{needs}
 use Rattle.touch.proofs.slaves.hear_in.Statement.{statement}
 use Rattle.touch.proofs.slaves.hear_in.Tie as tie

@@ -11,7 +11,7 @@ use Rattle.node.specs.Slaves.{heard, hears, withAmswire, errorIn, replyEffect}
 use Rattle.node.specs.Calls.{lentReply}
 use Rattle.node.proofs.Hearing.{hears-told}
 use Rattle.codec.specs.Bytes.{wordsOf}
-use Rattle.touch.specs.Held.{bufferWords}
+use Rattle.assembly.specs.Held.{bufferWords}
 use borrow.Author.Needs.{needs}
 use Rattle.touch.proofs.slaves.reply_taken.Statement.{statement}
 use Rattle.touch.proofs.slaves.reply_taken.Tie as tie

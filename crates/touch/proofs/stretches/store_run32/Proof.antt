@@ -11,9 +11,9 @@ use Rattle.base.specs.Words.{part, laid}
 use Rattle.image.specs.declared.Memory.{Memory}
 use Rattle.memory.specs.Run.{lowCount, runFits}
 use Rattle.codec.specs.Bytes.{wordsOf}
-use Rattle.touch.specs.Held.{Rest}
+use Rattle.assembly.specs.Held.{Rest}
 use Rattle.codec.proofs.Runs.{length-words-of}
-use Rattle.touch.proofs.Held.{rest-then}
+use Rattle.assembly.proofs.Held.{rest-then}
 use Rattle.touch.proofs.Moves.{Stands, stands, rest-again, run-stored}
 use borrow.Author.Needs.{needs}
 use Rattle.touch.proofs.stretches.store_run32.Statement.{statement}
