@@ -30,39 +30,31 @@ class Answer:
         self.words = words
 
 
-def has_room(words, built, left):
-    return built + len(words) + 5 * left + 2 <= AREA
-
-
 def is_sealed(words):
     return check_sequence(words[:-1]) == words[-1]
 
 
 MORE = None  # in place of DAT and code: the packet's words are stored, and the slave is sent NEXT
+COMPLETE = "complete"  # in place of them too: the packet is the last one, and the reply's words decide
 
 
-def first_judged(answer, built, left):
-    """DAT and code of a first packet, or MORE."""
-    words = answer.words
+def first_judged(answer, room):
+    """DAT and code of a first packet, MORE or COMPLETE; `room` says whether the words so far have room, its own among them."""
     if answer.late:
         return 0, 5
     if answer.errors:
         return 0, 6
-    if not words:
+    if not answer.words:
         return 0, ZERO_CODES[answer.bc]
     if not answer.bc & 2:
         return 1, 1
     if answer.bc == 0b10:
-        return MORE if has_room(words, built, left) else (1, 0xA)
-    if len(words) == 1:
-        return 1, 3
-    if not is_sealed(words):
-        return 1, 5
-    return (1, 0) if has_room(words, built, left) else (1, 2)
+        return MORE if room else (1, 0xA)
+    return COMPLETE
 
 
-def later_judged(answer, joined, built, left):
-    """The same of a later packet, the answer to NEXT, with the words received before it in front of its own."""
+def later_judged(answer, room):
+    """The same of a later packet, the answer to NEXT."""
     if answer.late:
         return 1, 6
     if answer.errors:
@@ -71,32 +63,49 @@ def later_judged(answer, joined, built, left):
         return 1, 7
     if answer.bc & 2:
         return 1, 8
-    if not has_room(joined, built, left):
+    if not room:
         return 1, 0xA
-    if answer.bc == 0b00:
-        return MORE
-    return (1, 0) if is_sealed(joined) else (1, 0xC)
+    return MORE if answer.bc == 0b00 else COMPLETE
+
+
+class GroupRules:
+    """What a group has of its own, since an event build (02, request 12) has it otherwise."""
+
+    kept = 2  # words that are kept free for what stands around the fragments: node status and FCS
+
+    def code(self, words, in_packets, room):
+        """The code of a complete reply. One in packets has two words at least, and room by now."""
+        if len(words) == 1:
+            return 3
+        if not is_sealed(words):
+            return 0xC if in_packets else 5
+        return 0 if room else 2
+
+    def data(self, words):
+        """Those of its words that stand in its fragment."""
+        return words[:-2]
 
 
 def status_word(dat, code, slave_bits, slave):
     return dat << 15 | code << 11 | slave_bits | slave
 
 
-def fragment(slave, answer, built, left, stored=(), rx_status=0):
+def fragment(slave, answer, built, left, stored=(), rx_status=0, rules=GroupRules()):
     """DAT, code and the fragment's words, with `built` words before it and `left` slaves yet to ask; or MORE. Of a reply in packets the
     words received before are `stored`, and `rx_status` came with the last of them."""
     joined = [*stored, *([] if answer.late else answer.words)]
-    judged = later_judged(answer, joined, built, left) if stored else first_judged(answer, built, left)
+    room = built + len(joined) + 5 * left + rules.kept <= AREA
+    judged = later_judged(answer, room) if stored else first_judged(answer, room)
     if judged is MORE:
         return MORE
-    dat, code = judged
+    dat, code = (1, rules.code(joined, len(stored) > 0, room)) if judged is COMPLETE else judged
     bits = joined[-2] & 0x07E0 if dat and code in (0, 2) else 0
     if not dat:
         body = [answer.rx_status, answer.rx_address] if code == 6 else []
     elif code:
         body = [rx_status if answer.late else answer.rx_status, min(len(joined), 0xFFFF), joined[0]]
     else:
-        body = joined[:-2]
+        body = rules.data(joined)
     return dat, code, [len(body) + 1] + body + [status_word(dat, code, bits, slave)]
 
 

@@ -16,8 +16,10 @@ MARK = 0xA5A5
 HEAD, PACKET, LONGEST = 5, 12, 600  # words of a line
 
 
-def made(n, seed, status, last):
+def made(n, seed, status, last, first=None):
     words = list(run_of(seed, n))
+    if n >= 1 and first is not None:
+        words[0] = first
     if n >= 2:
         words[n - 2] = status
     if n >= 1:
@@ -115,8 +117,11 @@ class Maker:
     def joined(self, *sizes, wrong=0, **given):
         """A reply in packets of so many words, two or more, its FCS at the very end."""
         front = self.front(*sizes[:-1], **given)
-        before = [word for packet in front for word in words_in(packet)]
+        before = [word for packet in front for word in self.words_in(packet)]
         return front + [self.packet(bc=self.high() | 1, n=sizes[-1], wrong=wrong, before=before, **given)]
+
+    def words_in(self, packet):
+        return words_in(packet)
 
     def of_packets(self, kind):
         """Packets that end a reply in one of the ways that a later packet can, or a first one without room."""

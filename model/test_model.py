@@ -1,7 +1,8 @@
 #!/usr/bin/env python3
 """The model against documents 01 and 02: each example of 01, the lines of the bench, what 01 says of every call, and what 02 says of
 files that come in several packets, of the masks at start, of the lengths in the summary, of remains behind a file, of names that
-several sectors have, of captured group replies, of slaves that answer in packets, of the Q-List and of lists of requests."""
+several sectors have, of captured group replies, of slaves that answer in packets, of the Q-List, of lists of requests and of event
+builds."""
 
 import random
 import unittest
@@ -11,6 +12,7 @@ from itertools import product
 
 from build import file_of, segment
 from capture import answered, broken_at, fragment_of
+from event import Build
 from fcs import fcs
 from files import DM, IO, PM, sealed
 from flash import SECTORS, address_of, attributed, directory_of, extent, kept
@@ -851,6 +853,153 @@ class Replies(unittest.TestCase):
                 self.assertEqual(erase(node, self.lent.flash, 1), (node, ("erased", 0) if fine else ("refused", 5)))
                 self.assertEqual(request(node, self.lent, 100, 0, 3, 0, [7])[1], ("refused", 6 if fine else 5))
                 self.assertEqual(reply(node, self.lent.reply, 100, 9, 3, 0, 0, 0, [])[1], ("refused", 7 if fine else 5))
+
+
+class Events(unittest.TestCase):
+    """02, request 12, sentence by sentence, with section 12 and Table 15 of the note. The node's own status word is 01A0."""
+
+    FIRST, MIDDLE, LAST, WHOLE = 2, 0, 1, 3
+
+    def begin(self, *slaves, last=0, now=100):
+        self.area = [0x5A5A] * AREA
+        self.build = Build(self.area, sum(1 << slave for slave in slaves), last, 0x01A0, now)
+        self.assertEqual((self.build.answer, self.build.times), (("ask", slaves[0]), 1))
+
+    def give(self, words, bc=WHOLE, now=100, errors=0, rx=(0x1234, 0x4321)):
+        return self.build.reply(now, errors, *rx, bc, list(words))
+
+    def is_built(self, answer, *words):
+        """The event is these words and their FCS, and what stands behind it stays."""
+        event = sealed(list(words))
+        self.assertEqual((answer, self.area[:len(event)]), (("built", len(event)), event))
+
+    def test_an_event(self):
+        """Event number, one fragment without it, no slave left out, status with bit 5 clear, FCS: Table 15."""
+        self.begin(7)
+        answer = self.give(sealed([0x0001, 0xAAAA, 0xBBBB, 0x01A0]))
+        self.is_built(answer, 0x0001, 3, 0xAAAA, 0xBBBB, 0x81A7, 0x0000, 0x0000, 0x0180)
+        self.assertEqual(self.area[9:], [0x5A5A] * (AREA - 9))
+
+    def test_numbers(self):
+        """One more than the last, modulo 2^16, from 1."""
+        for last, number in ((0, 1), (1, 2), (0x00FF, 0x0100), (0xFFFE, 0xFFFF), (0xFFFF, 0)):
+            self.begin(7, last=last)
+            self.is_built(self.give(sealed([number, 5, 0])), number, 2, 5, 0x8007, 0, 0, 0x0180)
+
+    def test_another_number(self):
+        """Code 4, or B if the reply came in packets, without the slave's bits; the first word is shown."""
+        for other in (5, 7, 0, 0x0600, 0x8006):
+            self.begin(7, last=5)
+            answer = self.give(sealed([other, 0xAAAA, 0x07E0]))
+            self.is_built(answer, 6, 4, 0x1234, 4, other, 0xA007, 0, 0, 0x0380)
+            for cut in (1, 2, 3):
+                self.begin(7, last=5)
+                words = sealed([other, 0xAAAA, 0x07E0])
+                self.assertEqual(self.give(words[:cut], self.FIRST), ("next", 7))
+                self.is_built(self.give(words[cut:], self.LAST), 6, 4, 0x1234, 4, other, 0xD807, 0, 0, 0x0380)
+
+    def test_what_comes_first(self):
+        """The number is compared after the FCS and before the room; below three words it is not looked at, nor is the FCS."""
+        large = [0] * 12282
+        for words, code in (([9, 9, 9], 0xA807), (sealed([9, *large]), 0xA007), (sealed([1, *large]), 0x9007), ([1, *large, 1, 1], 0xA807),
+                            ([1], 0x9807), ([9, 9], 0x9807), (sealed([1]), 0x9807)):
+            self.begin(7)
+            self.is_built(self.give(words), 1, 4, 0x1234, len(words), words[0], code, 0, 0, 0x0380)
+
+    def test_two_words_in_two_packets(self):
+        """Code 3 for a joined reply too."""
+        for words in ([1, 9], sealed([1]), [9, 9]):
+            self.begin(7)
+            self.give(words[:1], self.FIRST)
+            self.is_built(self.give(words[1:], self.LAST), 1, 4, 0x1234, 2, words[0], 0x9807, 0, 0, 0x0380)
+
+    def test_left_out(self):
+        """Code 0 and length 1: no fragment, but a bit of the mask words, slaves 23-16 first. All had code 0: bit 9 is clear."""
+        self.begin(0, 5, 16, 23)
+        self.assertEqual(self.give(sealed([1, 0x01A0])), ("ask", 5))
+        self.assertEqual(self.area, [0x5A5A] * AREA)
+        self.give(sealed([1, 0xCCCC, 0x0020]))
+        self.give(sealed([1, 0x07E0]))
+        self.is_built(self.give(sealed([1, 0])), 1, 2, 0xCCCC, 0x8025, 0x0081, 0x0001, 0x0180)
+
+    def test_all_left_out(self):
+        """They had DAT: five words are an event."""
+        self.begin(*range(24))
+        for slave in range(24):
+            answer = self.give(sealed([1, 0]))
+        self.is_built(answer, 1, 0x00FF, 0xFFFF, 0x0180)
+
+    def test_left_out_in_packets(self):
+        """What was stored of it stays, uncounted, and the next fragment stands over it."""
+        words = sealed([1, 0x01A0])
+        self.begin(5, 7)
+        self.give(words[:2], self.FIRST)
+        self.assertEqual(self.give(words[2:], self.LAST), ("ask", 7))
+        self.assertEqual((self.build.built, self.build.left_out, self.area[:5]), (0, 0x20, [0x5A5A, 0x5A5A, 1, 0x01A0, 0x5A5A]))
+        self.is_built(self.build.poll(160), 1, 1, 0x2807, 0, 0x0020, 0x0380)
+
+    def test_moved_down(self):
+        """Packets stand from word w + 2 on with the number; in the end the data are moved down, and the word past the fragment stays."""
+        words = sealed([1, 0xAAAA, 0xBBBB, 0x01A0])
+        for cut, past in ((1, 0x5A5A), (2, 0x5A5A), (3, 0x5A5A), (4, 0x01A0)):
+            self.begin(7, 8)
+            self.give(words[:cut], self.FIRST)
+            self.assertEqual(self.area[:7], [0x5A5A, 0x5A5A, *words[:cut], *[0x5A5A] * (5 - cut)])
+            self.assertEqual(self.give(words[cut:], self.LAST), ("ask", 8))
+            self.assertEqual(self.area[:7], [0x5A5A, 3, 0xAAAA, 0xBBBB, 0x81A7, past, 0x5A5A])
+
+    def test_end_is_asked_again(self):
+        """Twice, at this clock, and a slave that has data then is as any other; the third END is the fragment."""
+        self.begin(5, 7)
+        for times, now in ((2, 159), (3, 218)):
+            self.assertEqual(self.give([], self.WHOLE, now), ("ask", 5))
+            self.assertEqual((self.build.times, self.build.asked_at, self.build.built, self.build.tally), (times, now, 0, 0))
+            self.assertEqual(self.build.poll(now + 59), ("waiting",))
+        self.assertEqual(self.give(sealed([1, 0xAAAA, 0x01A0]), now=277), ("ask", 7))
+        self.assertEqual((self.build.times, self.build.built), (1, 3))
+        for answer in (("ask", 7), ("ask", 7)):
+            self.assertEqual(self.give([], now=277), answer)
+        self.is_built(self.give([], now=277), 1, 2, 0xAAAA, 0x81A5, 1, 0x2007, 0, 0, 0x0380)
+
+    def test_nothing_else_is_asked_again(self):
+        """NEXT, ERROR, ABORT, receive errors and timeouts are fragments at once; END behind NEXT is code 7."""
+        for bc, status in ((0, 0x0805), (1, 0x1805), (2, 0x1005)):
+            self.begin(5, 7)
+            self.assertEqual(self.give([], bc), ("ask", 7))
+            self.assertEqual(self.area[1:3], [1, status])
+        for now, errors, fragment in ((160, 0, [1, 0x2805]), (160, 1, [1, 0x2805]), (159, 1, [3, 0x1234, 0x4321, 0x3005])):
+            self.begin(5, 7)
+            self.assertEqual(self.give([], self.WHOLE, now, errors), ("ask", 7))
+            self.assertEqual((self.area[1:1 + len(fragment)], self.build.tally), (fragment, 1))
+        self.begin(5, 7)
+        self.give([1, 2], self.FIRST)
+        self.assertEqual(self.give([], self.WHOLE, rx=(7, 7)), ("ask", 7))
+        self.assertEqual((self.area[1:6], self.build.times), ([4, 7, 2, 1, 0xB805], 1))
+
+    def test_no_event(self):
+        """No fragment has DAT: word 0 stays, and nothing stands behind the fragments."""
+        self.begin(0, 5, 7, 23)
+        self.give([], 2)
+        self.build.poll(160)
+        self.give([1, 9, 9], errors=1, now=160)
+        for answer in (("ask", 23), ("ask", 23), ("no event",)):
+            self.assertEqual(self.give([], now=160), answer)
+        self.assertEqual(self.area[:12], [0x5A5A, 1, 0x1000, 1, 0x2805, 3, 0x1234, 0x4321, 0x3007, 1, 0x2017, 0x5A5A])
+
+    def test_room(self):
+        """Fragment words, the reply's words, 5 for each slave yet to ask and 5 are at most 12,288. What is left out takes none."""
+        for n, status in ((12283, 0x8007), (12284, 0x9007)):
+            for before in ((), (3,)):
+                self.begin(*before, 7)
+                for _ in before:
+                    self.give(sealed([1, 0]))
+                answer = self.give(sealed([1, *[0] * (n - 2)]))
+                words = [n - 2, *[0] * (n - 3), status] if status == 0x8007 else [4, 0x1234, n, 1, status]
+                self.is_built(answer, 1, *words, 0, 8 if before else 0, 0x0180 if status == 0x8007 else 0x0380)
+        for n, answer in ((12278, ("next", 7)), (12279, ("ask", 9))):
+            self.begin(7, 9)
+            self.assertEqual(self.give([1] * n, self.FIRST), answer)
+        self.assertEqual(self.area[1:6], [4, 0x1234, 12279, 1, 0xD007])
 
 
 class QList(unittest.TestCase):

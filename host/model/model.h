@@ -9,7 +9,8 @@
 
 enum { CDP = 1, CDDC = 2 };
 enum { NEXT = 0, ERROR = 1, ABORT = 2, END = 3, DATA = 3 }; /* the BC of a reply */
-enum { PENDING_NOTHING = 0, PENDING_SLAVE = 1, PENDING_GROUP = 2 };
+enum { PENDING_NOTHING = 0, PENDING_SLAVE = 1, PENDING_GROUP = 2, PENDING_BUILD = 3 };
+enum { TALLY_WHOLE = 5, TALLY_MIXED = 6 }; /* all code 0 with DAT; otherwise */
 enum { AREA = 12288, JOIN_AREA = 32768, SLAVES = 24 };
 enum { NO_SECTOR = 0, SEVERAL = 1, SECTOR_FIRST = 3, SECTOR_LAST = 10 }; /* what a search finds: none, several, or one of 3 to 10 */
 enum { BENCH = 32768, FULL = 262144 }; /* words of a flash */
@@ -40,12 +41,22 @@ struct node {
     bool erasing;
     uint32_t sector, done; /* while erasing */
     uint32_t pending, link, slave, asked_at;
-    uint32_t asked, from, built, tally; /* of a group */
-    uint32_t received;                  /* of a reply in packets (02, request 8): words so far, from word built + 1 of the buffer on */
+    uint32_t asked, from, built, tally; /* of a group; of a build too, but for `from` */
+    uint32_t received;                  /* of a reply in packets (02, request 8): words so far, behind the fragment's length word */
     uint16_t rx_status;                 /* of its last packet */
     bool writing;                       /* a File Write in several packets stands (02, request 1) */
     uint32_t writer, joined;            /* its link, and the words joined so far */
     uint16_t listed, turn;              /* entries of the Q-List (02, request 7), and the place whose turn is next */
+    uint16_t event;                     /* the last event's number (02, request 12) */
+    uint32_t asks, left_out;            /* of a build: times that the slave has been asked, and the slaves left out so far */
+};
+
+/* What came of the slave now being asked: a packet, or nothing in time. */
+struct answer {
+    bool late, errors;
+    unsigned bc, rx_status, rx_address;
+    const uint8_t *packet;
+    size_t n;
 };
 
 /* Words in bytes. */
@@ -65,6 +76,18 @@ static inline void put_long(uint8_t *bytes, size_t at, uint32_t value) {
     put_word(bytes + at, 0, value & 0xFFFF);
     put_word(bytes + at, 1, value >> 16);
 }
+
+/* The numbers that calls answer. */
+
+static inline uint64_t reply_of(unsigned bc, size_t words) { return 1u << 8 | bc << 16 | (uint64_t)words << 32; }
+static inline uint64_t ask_of(unsigned slave, unsigned from) { return 2u << 8 | slave << 16 | from << 24; }
+static inline uint64_t waiting(void) { return 3u << 8; }
+static inline uint64_t handed(unsigned place) { return 6u << 8 | (uint64_t)place << 32; }
+static inline uint64_t nothing(void) { return 7u << 8; }
+static inline uint64_t next_of(unsigned slave) { return 8u << 8 | slave << 16; }
+static inline uint64_t ask_event_of(unsigned slave) { return 9u << 8 | slave << 16; }
+static inline uint64_t no_event(void) { return 10u << 8; }
+static inline uint64_t built_of(size_t words) { return 11u << 8 | (uint64_t)words << 32; }
 
 uint16_t model_fcs(const uint8_t *bytes, size_t words);
 uint16_t model_fcs_on(uint16_t before, const uint8_t *bytes, size_t words); /* behind words that have an FCS */
@@ -115,6 +138,44 @@ void model_list_clear(struct run list, size_t place);
 uint16_t model_list_close_up(struct run list, uint16_t listed); /* answers how many stay listed */
 size_t model_list_read(struct run list, uint16_t listed, uint8_t *reply); /* answers how many words it put there */
 bool model_list_step(struct run list, size_t place, uint32_t now); /* whether the entry is handed out */
+
+/* Slaves' answers (group.c), in a group and in a build. A judgement is DAT in bit 15 and the code in bits 14-11, as in the status word; or that
+   a packet is stored, and the next one sent for; or that the reply is complete, and its words decide. A reply in packets stands in the
+   fragment that is to be, from its second word on, but for its last packet. */
+
+enum { MORE = 1, COMPLETE = 2 };
+
+static inline unsigned with_data(unsigned code) { return 0x8000 | code << 11; }
+static inline unsigned without_data(unsigned code) { return code << 11; }
+
+unsigned model_how_many(uint32_t set);
+uint32_t model_yet_to_ask(const struct node *node);
+void model_ask(struct node *node, uint32_t now, uint32_t set); /* the lowest slave of a set */
+bool model_is_late(const struct node *node, uint32_t now);
+bool model_has_room(const struct node *node, const struct answer *answer, unsigned kept); /* so many words kept free */
+unsigned model_packet_judged(const struct node *node, const struct answer *answer, bool has_room);
+bool model_is_sealed(const struct node *node, const struct answer *answer, const uint8_t *fragment); /* a complete reply, by its FCS */
+unsigned model_first_word(const struct node *node, const struct answer *answer, const uint8_t *fragment);
+unsigned model_tally_with(unsigned tally, unsigned kind); /* it stays while all are of one kind */
+
+/* Puts the data of a code 0 fragment, and answers how many words stand before its status. */
+typedef size_t model_put_data(const struct node *node, const struct answer *answer, uint8_t *fragment);
+
+size_t model_put_fragment(const struct node *node, unsigned judgement, const struct answer *answer, uint8_t *fragment,
+                          model_put_data *put_its_data); /* answers how many words it has */
+uint64_t model_keep_packet(struct node *node, uint32_t now, const struct answer *answer, uint8_t *fragment); /* 60 ticks begin anew */
+size_t model_put_end(const struct node *node, unsigned tally, uint8_t *words, size_t n); /* status and FCS: how many words with them */
+uint64_t model_group_take(struct node *node, uint32_t now, const struct answer *answer, uint8_t *reply);
+
+/* An event build (event.c), of the slaves of mask 0 in an event area of 12,288 words or more; what it answers is a number as above. */
+
+uint64_t model_event_begin(struct node *node, uint32_t now);
+uint64_t model_event_take(struct node *node, uint32_t now, const struct answer *answer, uint8_t *events);
+
+/* Of the node (node.c): its status word, and that nothing is pending any more. */
+
+unsigned model_own_status(const struct node *node);
+void model_drop(struct node *node);
 
 /* The seven calls (node.c), with the number that they answer. */
 

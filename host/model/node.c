@@ -1,18 +1,9 @@
-/* 01 'Call refusals', 'Requests', 'Group assembly', 'State and status reply', and 02, requests 1, 2, 7, 8 and 9: the node and its
-   seven calls. */
+/* 01 'Call refusals', 'Requests', 'State and status reply', and 02, requests 1, 2, 7 and 9: the node and its seven calls. */
 #include "model.h"
 
 #include <string.h>
 
-enum { ALL_SLAVES = 0xFFFFFF, ALL_ENTRIES = 0xFFFF, TIMEOUT = 60 };
-enum { TALLY_WHOLE = 5, TALLY_MIXED = 6 };
-
-static uint64_t reply_of(unsigned bc, size_t words) { return 1u << 8 | bc << 16 | (uint64_t)words << 32; }
-static uint64_t ask_of(unsigned slave, unsigned from) { return 2u << 8 | slave << 16 | from << 24; }
-static uint64_t waiting(void) { return 3u << 8; }
-static uint64_t next_of(unsigned slave) { return 8u << 8 | slave << 16; }
-static uint64_t handed(unsigned place) { return 6u << 8 | (uint64_t)place << 32; }
-static uint64_t nothing(void) { return 7u << 8; }
+enum { ALL_SLAVES = 0xFFFFFF, ALL_ENTRIES = 0xFFFF };
 
 static bool is_reply(uint64_t answer) { return (answer & 0xFFFF) == 1u << 8; }
 static bool is_ask(uint64_t answer) { return (answer & 0xFFFF) == 2u << 8; }
@@ -24,26 +15,8 @@ static void count_error(uint16_t *count) {
         ++*count;
 }
 
-/* The lowest slave of a set that is not empty. */
-static unsigned lowest(uint32_t set) {
-    unsigned slave = 0;
-    while ((set >> slave & 1) == 0)
-        slave++;
-    return slave;
-}
-
-static unsigned how_many(uint32_t set) {
-    unsigned count = 0;
-    for (; set != 0; set &= set - 1)
-        count++;
-    return count;
-}
-
-/* The slaves of the asked set above the one asked. */
-static uint32_t yet_to_ask(const struct node *node) { return node->asked & ~((2u << node->slave) - 1); }
-
 /* Own status word: bit 8 the OR of bits 11-8, bit 7 compressed, bit 6 raw, bit 5 set. */
-static unsigned own_status(const struct node *node) {
+unsigned model_own_status(const struct node *node) {
     return (node->start_tests & 0x0F00 ? 0x0100 : 0) | (node->mode & 3) << 6 | 0x0020;
 }
 
@@ -62,7 +35,7 @@ static bool is_list_wrong(const struct node *node, struct run list) {
 static bool is_group_wrong(const struct node *node) {
     if (node->asked > ALL_SLAVES || (node->asked >> node->slave & 1) == 0)
         return true;
-    unsigned left = how_many(yet_to_ask(node));
+    unsigned left = model_how_many(model_yet_to_ask(node));
     if ((uint64_t)node->built + 5 * (left + 1) + 2 > AREA || (uint64_t)node->built + node->received + 5 * left + 2 > AREA)
         return true;
     if (node->received == 0 && node->rx_status != 0)
@@ -380,7 +353,7 @@ static struct outcome command(struct node *node, unsigned id, struct parameters 
 static uint64_t finished(const struct node *node, struct outcome outcome, uint8_t *reply) {
     if (!outcome.is_data)
         return reply_of(outcome.bc, 0);
-    put_word(reply, outcome.words, own_status(node));
+    put_word(reply, outcome.words, model_own_status(node));
     put_word(reply, outcome.words + 1, model_fcs(reply, outcome.words + 1));
     return reply_of(DATA, outcome.words + 2);
 }
@@ -403,18 +376,18 @@ static uint64_t forward(struct node *node, uint32_t now, uint32_t link, const ui
         return reply_of(ABORT, 0);
     node->pending = first < SLAVES ? PENDING_SLAVE : PENDING_GROUP;
     node->link = link;
-    node->slave = lowest(set);
-    node->asked_at = now;
     node->asked = first < SLAVES ? 0 : set;
     node->from = first < SLAVES ? 0 : stripped;
-    node->built = node->tally = node->received = node->rx_status = 0;
+    node->built = node->tally = 0;
+    model_ask(node, now, set);
     return ask_of(node->slave, stripped);
 }
 
-static void drop(struct node *node) {
+void model_drop(struct node *node) {
     node->pending = PENDING_NOTHING;
     node->link = node->slave = node->asked_at = node->asked = node->from = node->built = node->tally = node->received = 0;
     node->rx_status = 0;
+    node->asks = node->left_out = 0;
 }
 
 static uint64_t error_of(struct node *node) {
@@ -433,7 +406,7 @@ static uint64_t no_words(struct node *node, uint32_t link, unsigned bc) {
     if (bc != 2 || (!has_request && !has_write))
         return reply_of(ABORT, 0);
     if (has_request)
-        drop(node);
+        model_drop(node);
     if (has_write)
         drop_write(node);
     return reply_of(END, 0);
@@ -532,7 +505,7 @@ static size_t next_request(const struct limits *limits, struct node *node, uint3
     alone.reply = (struct run){left.bytes + 2 * BEFORE_REPLY, AREA}; /* no reply has more words */
     uint64_t answer = model_node_request(limits, node, now, link, bc, 0, packet + 2 * BEFORE_PACKET, word_at(packet, 2), &alone);
     if (is_ask(answer))
-        drop(node); /* nothing was pending before it, or it would have been refused */
+        model_drop(node); /* nothing was pending before it, or it would have been refused */
     if (!is_reply(answer))
         return 0;
     put_word(left.bytes, 0, reply_bc(answer));
@@ -558,125 +531,8 @@ uint64_t model_node_requests(const struct limits *limits, struct node *node, uin
 
 /* Slave replies. */
 
-/* What came of the slave now being asked. */
-struct answer {
-    bool late, errors;
-    unsigned bc, rx_status, rx_address;
-    const uint8_t *packet;
-    size_t n;
-};
-
-static bool is_late(const struct node *node, uint32_t now) { return (uint32_t)(now - node->asked_at) >= TIMEOUT; }
-
-/* A judgement is DAT in bit 15 and the code in bits 14-11, as in the status word; or that a packet is stored, and the next one sent for. */
-enum { MORE = 1 };
-
-static unsigned with_data(unsigned code) { return 0x8000 | code << 11; }
-
-/* Of a first packet. */
-static unsigned judged_first(const struct answer *answer, bool has_room) {
-    static const unsigned zero_codes[4] = {1, 3, 2, 4}; /* NEXT, ERROR, ABORT, END */
-    if (answer->late)
-        return 5u << 11;
-    if (answer->errors)
-        return 6u << 11;
-    if (answer->n == 0)
-        return zero_codes[answer->bc] << 11;
-    if ((answer->bc & 2) == 0)
-        return with_data(1);
-    if (answer->bc == 2)
-        return has_room ? MORE : with_data(0xA);
-    if (answer->n == 1)
-        return with_data(3);
-    if (word_at(answer->packet, answer->n - 1) != model_fcs(answer->packet, answer->n - 1))
-        return with_data(5);
-    return with_data(has_room ? 0 : 2);
-}
-
-/* Of a later one, the answer to NEXT (02, request 8), behind the words that stand in the buffer. */
-static unsigned judged_later(const struct answer *answer, bool has_room, const uint8_t *stored, size_t received) {
-    if (answer->late)
-        return with_data(6);
-    if (answer->errors)
-        return 6u << 11;
-    if (answer->n == 0)
-        return with_data(7);
-    if ((answer->bc & 2) != 0)
-        return with_data(8);
-    if (!has_room)
-        return with_data(0xA);
-    if (answer->bc == 0)
-        return MORE;
-    uint16_t sequence = model_fcs_on(model_fcs(stored, received), answer->packet, answer->n - 1);
-    return with_data(word_at(answer->packet, answer->n - 1) == sequence ? 0 : 0xC);
-}
-
-/* The five-word fragment: RX status and count of the words that came in time, and the first of them, which may stand where the fragment is
-   put. */
-static size_t put_fault(const struct node *node, const struct answer *answer, uint8_t *fragment) {
-    size_t count = node->received + (answer->late ? 0 : answer->n);
-    unsigned first = node->received != 0 ? word_at(fragment, 1) : word_at(answer->packet, 0);
-    put_word(fragment, 1, answer->late ? node->rx_status : answer->rx_status);
-    put_word(fragment, 2, count > 0xFFFF ? 0xFFFF : (unsigned)count);
-    put_word(fragment, 3, first);
-    return 4;
-}
-
-/* The data behind those that stand in the buffer already. Slave's status and FCS aren't put; of a last packet of one word, the FCS, the
-   status stands there as the last word before. */
-static size_t put_data(const struct node *node, const struct answer *answer, uint8_t *fragment) {
-    if (answer->n > 2)
-        memcpy(fragment + 2 * (1 + (size_t)node->received), answer->packet, 2 * (answer->n - 2));
-    return node->received + answer->n - 1;
-}
-
-/* The slave's own status word, the last but one of its reply. */
-static unsigned status_of_slave(const struct node *node, const struct answer *answer, const uint8_t *fragment) {
-    return answer->n > 1 ? word_at(answer->packet, answer->n - 2) : word_at(fragment, node->received);
-}
-
-/* Puts the fragment behind the words built, and answers how many words it has. */
-static size_t put_fragment(const struct node *node, unsigned judgement, const struct answer *answer, uint8_t *fragment) {
-    unsigned status = judgement | node->slave;
-    size_t words = 1;
-    if (judgement == with_data(0) || judgement == with_data(2))
-        status |= status_of_slave(node, answer, fragment) & 0x07E0;
-    if (judgement == with_data(0)) {
-        words = put_data(node, answer, fragment);
-    } else if (judgement >= with_data(0)) {
-        words = put_fault(node, answer, fragment);
-    } else if (judgement == 6u << 11) {
-        put_word(fragment, words++, answer->rx_status);
-        put_word(fragment, words++, answer->rx_address);
-    }
-    put_word(fragment, words, status);
-    put_word(fragment, 0, (unsigned)words);
-    return words + 1;
-}
-
-/* 1 to 4 a 0-length reply, 5 data with code 0, 6 anything else; mixed as soon as two differ. */
-static unsigned tally_with(unsigned tally, unsigned judgement) {
-    unsigned code = judgement >> 11 & 15, kind = TALLY_MIXED;
-    if (judgement >= 0x8000)
-        kind = code == 0 ? TALLY_WHOLE : TALLY_MIXED;
-    else if (code <= 4)
-        kind = code;
-    return tally == 0 || tally == kind ? kind : TALLY_MIXED;
-}
-
-static uint64_t group_ends(struct node *node, uint8_t *reply, size_t built, unsigned tally) {
-    static const unsigned zero_bcs[5] = {0, NEXT, ABORT, ERROR, END};
-    drop(node);
-    if (tally >= 1 && tally <= 4)
-        return reply_of(zero_bcs[tally], 0);
-    unsigned status = (own_status(node) & ~0x0020u) | (tally == TALLY_WHOLE ? 0 : 0x0200);
-    put_word(reply, built, status);
-    put_word(reply, built + 1, model_fcs(reply, built + 1));
-    return reply_of(DATA, built + 2);
-}
-
 static uint64_t single(struct node *node, const struct answer *answer, uint8_t *reply) {
-    drop(node);
+    model_drop(node);
     if (answer->late)
         return reply_of(ABORT, 0);
     if (answer->errors)
@@ -688,36 +544,10 @@ static uint64_t single(struct node *node, const struct answer *answer, uint8_t *
     return reply_of(answer->bc, answer->n);
 }
 
-/* A packet's words stand behind those received before, and the slave has 60 ticks anew. */
-static uint64_t store(struct node *node, uint32_t now, const struct answer *answer, uint8_t *fragment) {
-    memcpy(fragment + 2 * (1 + (size_t)node->received), answer->packet, 2 * answer->n);
-    node->received += (uint32_t)answer->n;
-    node->rx_status = (uint16_t)answer->rx_status;
-    node->asked_at = now;
-    return next_of(node->slave);
-}
-
 static uint64_t take(struct node *node, uint32_t now, const struct answer *answer, uint8_t *reply) {
     if (answer->errors && !answer->late)
         count_error(&node->amswire_errors);
-    if (node->pending == PENDING_SLAVE)
-        return single(node, answer, reply);
-    uint32_t rest = yet_to_ask(node);
-    uint8_t *fragment = reply + 2 * (size_t)node->built;
-    bool has_room = node->built + node->received + answer->n + 5 * how_many(rest) + 2 <= AREA;
-    unsigned judgement = node->received == 0 ? judged_first(answer, has_room) : judged_later(answer, has_room, fragment + 2, node->received);
-    if (judgement == MORE)
-        return store(node, now, answer, fragment);
-    unsigned tally = tally_with(node->tally, judgement);
-    size_t built = node->built + put_fragment(node, judgement, answer, fragment);
-    if (rest == 0)
-        return group_ends(node, reply, built, tally);
-    node->built = (uint32_t)built;
-    node->tally = tally;
-    node->received = node->rx_status = 0;
-    node->slave = lowest(rest);
-    node->asked_at = now;
-    return ask_of(node->slave, node->from);
+    return node->pending == PENDING_SLAVE ? single(node, answer, reply) : model_group_take(node, now, answer, reply);
 }
 
 uint64_t model_node_reply(const struct limits *limits, struct node *node, uint32_t now, uint32_t slave, uint32_t bc,
@@ -733,7 +563,7 @@ uint64_t model_node_reply(const struct limits *limits, struct node *node, uint32
         return 5;
     if (node->pending == PENDING_NOTHING || node->slave != slave)
         return 7;
-    struct answer answer = {is_late(node, now), receive_error != 0, bc & 3, rx_status, rx_address, packet, n};
+    struct answer answer = {model_is_late(node, now), receive_error != 0, bc & 3, rx_status, rx_address, packet, n};
     return take(node, now, &answer, reply.bytes);
 }
 
@@ -744,7 +574,7 @@ uint64_t model_node_poll(struct node *node, uint32_t now, struct run reply) {
         return 5;
     if (node->pending == PENDING_NOTHING)
         return 7;
-    if (!is_late(node, now))
+    if (!model_is_late(node, now))
         return waiting();
     struct answer answer = {true, false, 0, 0, 0, NULL, 0};
     return take(node, now, &answer, reply.bytes);

@@ -1,13 +1,13 @@
 /* Runs scripts of calls on the model, by the lines that model/node_lines.py describes: the same lines that the model in Python runs,
    so that the two can be compared. Lines on standard input, what they print on standard output. */
 #include "../model/model.h"
+#include "line_words.h"
 
 #include <stdio.h>
 #include <stdlib.h>
-#include <string.h>
 
 enum { FLASH, PROGRAM, DATA_MEMORY, REGISTERS, BUFFER, JOINING, LISTING, MEMORIES };
-enum { MOST_WORDS = 1024, MOST_RUN = 65552, NODE_WORDS = 101 };
+enum { MOST_RUN = 65552, NODE_WORDS = 101 };
 static const size_t rooms[MEMORIES] = {262160, 32784, 32784, 4112, 16400, 32784, 6386};
 static const struct limits wide = {32768, 32768, 4096, SIZE_MAX};
 
@@ -15,29 +15,6 @@ static uint8_t *memories[MEMORIES];
 static size_t lent_words[MEMORIES];
 static struct node node;
 static uint8_t run_bytes[2 * MOST_RUN];
-
-/* The words of a line, one after the other; past its end a word is 0. */
-static uint16_t line_words[MOST_WORDS];
-static size_t line_length, line_at;
-
-static uint64_t number(int count) {
-    uint64_t value = 0;
-    for (; count > 0; count--, line_at++)
-        value = value << 16 | (line_at < line_length ? line_words[line_at] : 0u);
-    return value;
-}
-
-static void read_line(char *text) {
-    line_length = line_at = 0;
-    for (char *end; line_length < MOST_WORDS; text = end) {
-        unsigned long word = strtoul(text, &end, 16);
-        if (end == text)
-            break;
-        line_words[line_length++] = (uint16_t)word;
-    }
-}
-
-static uint16_t next_word(uint16_t word) { return (uint16_t)(word * 25173u + 13849u); }
 
 /* A run of words into bytes; answers how many. */
 static size_t run_of_line(uint8_t *to) {

@@ -6,6 +6,8 @@ ghost use mathlib.Core.Path.{_≡_};
 ghost use lib.ListN.{length, getD};
 ghost use Rattle.feed.specs.Bounds.{Within, beforeAll, readAs};
 
+pub mod packets;
+
 // What a read came to: how many bytes it put at the start of what it was handed, none at the end of the input, and whether it failed.
 pub struct Came {
     pub bytes: usize,

@@ -13,56 +13,22 @@ ghost use mathlib.Core.Path.{_≡_};
 ghost use mathlib.Core.Bool.{true};
 ghost use Prim.Native.Nat.{_+_, _≤_, _<_};
 ghost use lib.ListN.{length};
+use feed::packets::area_room;
+use feed::packets::digest;
+use feed::packets::double;
+use feed::packets::line_room;
+use feed::packets::mark;
+use feed::packets::packet_room;
+use feed::packets::packets_in;
+use feed::packets::print_number;
+use feed::packets::print_word;
+use feed::packets::set_last;
 use group::Built;
 use group::Heard;
 use group::Next;
 use group::Received;
 use group::Reply;
 use group::Tally;
-
-// What a line can hold.
-fn line_room() -> [u16; 600]
-    ensures { λ r. ⌜ length r ≡ 600 ⌝ }
-{
-    [0; 600]
-}
-
-// The reply buffer, and some words behind it.
-fn buffer_room() -> [u16; 12300]
-    ensures { λ r. ⌜ length r ≡ 12300 ⌝ }
-{
-    [0; 12300]
-}
-
-// The longest reply of a slave.
-fn reply_room() -> [u16; 65536]
-    ensures { λ r. ⌜ length r ≡ 65536 ⌝ }
-{
-    [0; 65536]
-}
-
-fn print_word(word: u16) {
-    io::print_hex(1, word as u64, 4);
-}
-
-fn print_number(n: usize) {
-    io::print_decimal(1, n as u64);
-}
-
-// Two words as one number, high word first.
-fn double(high: u16, low: u16) -> u32 {
-    high as u32 * 65536 + low as u32
-}
-
-// A word set at a place counted from the end: 1 is the last.
-fn set_last(run: &mut [u16], place: usize, word: u16)
-    requires { ⌜ 0 < place ⌝ }
-{
-    let n = run.len();
-    if place <= n {
-        run[n - place] = word;
-    }
-}
 
 // A reply's words: from a seed on, the last two as given.
 fn make_reply(reply: &mut [u16], seed: u16, status: u16, last: u16) {
@@ -71,39 +37,12 @@ fn make_reply(reply: &mut [u16], seed: u16, status: u16, last: u16) {
     set_last(reply, 1, last);
 }
 
-// Every word of the buffer the same, before each line.
-fn clear(buffer: &mut [u16]) {
-    let mut i = 0;
-    while i < buffer.len() {
-        buffer[i] = 0xA5A5;
-        i += 1;
-    }
-}
-
-// One word more of a digest.
-fn mixed(digest: u64, word: u16) -> u64
-    requires { ⌜ digest < 4294967291 ⌝ }
-    ensures { λ r. ⌜ r < 4294967291 ⌝ }
-{
-    (digest * 31 + word as u64) % 4294967291
-}
-
-fn digest(buffer: &[u16]) -> u64 {
-    let mut d = 0;
-    let mut i = 0;
-    while i < buffer.len() {
-        d = mixed(d, buffer[i]);
-        i += 1;
-    }
-    d
-}
-
 // What the answer at a place of a line says besides its words.
 fn heard_at(line: &[u16], at: usize) -> Heard
     requires { ⌜ at < 1000 ⌝ }
 {
-    let asked = double(feed::item(line, at), feed::item(line, at + 1));
-    let clock = double(feed::item(line, at + 2), feed::item(line, at + 3));
+    let asked = double(line, at);
+    let clock = double(line, at + 2);
     Heard {
         late: group::slaves::is_late(clock, asked),
         errors: feed::item(line, at + 4) != 0,
@@ -258,14 +197,6 @@ fn step(
     packet(line, at, set, slave, buffer, reply, standing)
 }
 
-// How many packets a line of n words has, twelve words each, behind its first five.
-fn packets_in(n: usize) -> usize {
-    if n < 5 {
-        return 0;
-    }
-    (n - 5) / 12
-}
-
 // All slaves of a set, each asked once, ascending.
 fn answers(line: &[u16], set: u32, buffer: &mut [u16], reply: &mut [u16]) -> Built {
     let mut standing = Standing {
@@ -276,7 +207,7 @@ fn answers(line: &[u16], set: u32, buffer: &mut [u16], reply: &mut [u16]) -> Bui
         received: nothing_received(),
         next: group::slaves::first_slave(set),
     };
-    let packets = base::least(packets_in(line.len()), 49);
+    let packets = base::least(packets_in(line.len(), 5), 49);
     let mut turn = 0;
     while turn < packets {
         standing = step(line, 5 + turn * 12, set, buffer, reply, standing);
@@ -295,7 +226,7 @@ fn show_reply(sent: Reply) {
 // A line's reply, in the part of the buffer that is lent.
 fn reply_to(line: &[u16], buffer: &mut [u16], reply: &mut [u16]) {
     if feed::item(line, 0) == 0 {
-        let set = double(feed::item(line, 1), feed::item(line, 2));
+        let set = double(line, 1);
         let built = answers(line, set, buffer, reply);
         show_reply(group::ending::finish(buffer, built, feed::item(line, 3)));
         return;
@@ -308,7 +239,7 @@ fn reply_to(line: &[u16], buffer: &mut [u16], reply: &mut [u16]) {
 fn turn(bytes: &[u8], line: &mut [u16], buffer: &mut [u16], reply: &mut [u16]) {
     let n = feed::words_of(bytes, line);
     let lent = base::least(base::wide(feed::item(&line[0..n], 4)), buffer.len());
-    clear(buffer);
+    mark(buffer);
     reply_to(&line[0..n], &mut buffer[0..lent], reply);
     io::print_hex(1, digest(buffer), 8);
     io::write_all(1, b"\n");
@@ -317,8 +248,8 @@ fn turn(bytes: &[u8], line: &mut [u16], buffer: &mut [u16], reply: &mut [u16]) {
 fn main() {
     let mut bytes = io::large_buffer();
     let mut items = line_room();
-    let mut buffer = buffer_room();
-    let mut reply = reply_room();
+    let mut buffer = area_room();
+    let mut reply = packet_room();
     let mut line = feed::before();
     let mut turns = u64::MAX;
     while 0 < turns {

@@ -17,11 +17,11 @@ large-buffer-requires c κs = search needs
 line-room-requires : tie.Need-line-room-requires Inv-loop μ-loop
 line-room-requires c κs = search needs
 
-buffer-room-requires : tie.Need-buffer-room-requires Inv-loop μ-loop
-buffer-room-requires c κs = search needs
+area-room-requires : tie.Need-area-room-requires Inv-loop μ-loop
+area-room-requires c κs = search needs
 
-reply-room-requires : tie.Need-reply-room-requires Inv-loop μ-loop
-reply-room-requires c κs = search needs
+packet-room-requires : tie.Need-packet-room-requires Inv-loop μ-loop
+packet-room-requires c κs = search needs
 
 before-requires : tie.Need-before-requires Inv-loop μ-loop
 before-requires c κs = search needs
@@ -79,8 +79,8 @@ main-spec =
     μ-loop
     large-buffer-requires
     line-room-requires
-    buffer-room-requires
-    reply-room-requires
+    area-room-requires
+    packet-room-requires
     before-requires
     loop-holds
     sub-turns

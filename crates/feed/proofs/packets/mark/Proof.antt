@@ -1,25 +1,25 @@
--- `group_vectors::clear` meets its contract: the buffer keeps its length. The measure is what is left of it. Assumes nothing.
+-- `feed::packets::mark` meets its contract: the area keeps its length. The measure is what is left of it. Assumes nothing.
 use Prim.Native.Nat.{_≤_, _-_}
 use mathlib.Core.Path.{_≡_}
 use borrow.Author.Needs.{needs}
 use lib.ListN.{length}
-use Rattle.group_vectors.proofs.clear.Statement.{statement}
-use Rattle.group_vectors.proofs.clear.Tie as tie
+use Rattle.feed.proofs.packets.mark.Statement.{statement}
+use Rattle.feed.proofs.packets.mark.Tie as tie
 
 abbrev Inv-loop : tie.InvT-loop
-Inv-loop buffer₀ i₀ buffer i = (i ≤ length buffer₀) × (length buffer ≡ length buffer₀)
+Inv-loop area₀ i₀ area i = (i ≤ length area₀) × (length area ≡ length area₀)
 
 abbrev μ-loop : tie.MeasureT-loop
-μ-loop buffer₀ i₀ buffer i = length buffer₀ - i
+μ-loop area₀ i₀ area i = length area₀ - i
 
 loop-holds : tie.Need-loop-holds Inv-loop μ-loop
 loop-holds c = search needs
 
-mul-buffer : tie.Need-mul-buffer Inv-loop μ-loop
-mul-buffer c = search needs
+mul-area : tie.Need-mul-area Inv-loop μ-loop
+mul-area c = search needs
 
-slice-write-buffer : tie.Need-slice-write-buffer Inv-loop μ-loop
-slice-write-buffer c = search needs
+slice-write-area : tie.Need-slice-write-area Inv-loop μ-loop
+slice-write-area c = search needs
 
 add-i : tie.Need-add-i Inv-loop μ-loop
 add-i c = search needs
@@ -36,15 +36,15 @@ same-length c = search needs
 returns : tie.Need-returns Inv-loop μ-loop
 returns c = search needs
 
-pub clear-spec : {M : Type 1} → statement M
-clear-spec =
+pub mark-spec : {M : Type 1} → statement M
+mark-spec =
     tie.close
     (tie.spec
     Inv-loop
     μ-loop
     loop-holds
-    mul-buffer
-    slice-write-buffer
+    mul-area
+    slice-write-area
     add-i
     loop-less
     loop-again

@@ -1,15 +1,15 @@
--- `group_vectors::digest` meets its contract: the digest stays below its modulus. The measure is what is left of the buffer. Assumes nothing.
+-- `feed::packets::digest` meets its contract: the digest stays below its modulus. The measure is what is left of the area. Assumes nothing.
 use Prim.Native.Nat.{_≤_, _<_, _-_}
 use borrow.Author.Needs.{needs}
 use lib.ListN.{length}
-use Rattle.group_vectors.proofs.digest.Statement.{statement}
-use Rattle.group_vectors.proofs.digest.Tie as tie
+use Rattle.feed.proofs.packets.digest.Statement.{statement}
+use Rattle.feed.proofs.packets.digest.Tie as tie
 
 abbrev Inv-loop : tie.InvT-loop
-Inv-loop buffer d₀ i₀ d i = (i ≤ length buffer) × (d < 4294967291)
+Inv-loop area d₀ i₀ d i = (i ≤ length area) × (d < 4294967291)
 
 abbrev μ-loop : tie.MeasureT-loop
-μ-loop buffer d₀ i₀ d i = length buffer - i
+μ-loop area d₀ i₀ d i = length area - i
 
 loop-holds : tie.Need-loop-holds Inv-loop μ-loop
 loop-holds c = search needs
