@@ -148,9 +148,9 @@ pub record Called (first : List ℕ) (w : Call) (e : Event) (h : Host) : Type 0 
 
 abbrev pub wordOf : Event → Call
 wordOf (Event.Requested clock link bc errors packet m x) = Call.Requested clock link bc (isSet errors) (wordsOf 2 packet) (memoryWords m) (furtherWords x)
-wordOf (Event.Replied clock slave bc errors status address packet) =
-    Call.Replied clock slave bc (isSet errors) status address (wordsOf 2 packet)
-wordOf (Event.Polled clock) = Call.Polled clock
+wordOf (Event.Replied clock slave bc errors status address packet events) =
+    Call.Replied clock slave bc (isSet errors) status address (wordsOf 2 packet) (replyWords events)
+wordOf (Event.Polled clock events) = Call.Polled clock (replyWords events)
 wordOf (Event.Erased budget) = Call.Erased budget
 wordOf (Event.Slowed clock list) = Call.Slowed clock (wordsOf 2 list)
 
@@ -159,9 +159,9 @@ does e h = outcomeOf (entryOf e (h .buffer)) (h .state) (h .flash)
 
 abbrev pub bufferOf : Event → Host → List ℕ
 bufferOf (Event.Requested clock link bc errors packet m x) h = does (Event.Requested clock link bc errors packet m x) h .after .reply
-bufferOf (Event.Replied clock slave bc errors status address packet) h =
-    does (Event.Replied clock slave bc errors status address packet) h .after .reply
-bufferOf (Event.Polled clock) h = does (Event.Polled clock) h .after .reply
+bufferOf (Event.Replied clock slave bc errors status address packet events) h =
+    does (Event.Replied clock slave bc errors status address packet events) h .after .reply
+bufferOf (Event.Polled clock events) h = does (Event.Polled clock events) h .after .reply
 bufferOf (Event.Erased budget) h = replyWords (h .buffer)
 bufferOf (Event.Slowed clock list) h = replyWords (h .buffer)
 
@@ -170,38 +170,41 @@ stepped-is : (e : Event) (h : Host) (a : Answer)
     ≡ nodeHost (h .asked) (does e h .turn)
     (flashOf logodwen (onWords (entryOf e (h .buffer))) (nodeIn (h .state)) (wordsOf 2 (h .flash))) (bufferOf e h)
 stepped-is (Event.Requested clock link bc errors packet m x) h a = refl
-stepped-is (Event.Replied clock slave bc errors status address packet) h a = refl
-stepped-is (Event.Polled clock) h a = refl
+stepped-is (Event.Replied clock slave bc errors status address packet events) h a = refl
+stepped-is (Event.Polled clock events) h a = refl
+stepped-is (Event.Built clock events) h a = refl
 stepped-is (Event.Erased budget) h a = refl
 stepped-is (Event.Slowed clock list) h a = refl
 
 node-is : (e : Event) (h : Host)
     → nodeAfter logodwen (onWords (entryOf e (h .buffer))) (nodeIn (h .state)) (wordsOf 2 (h .flash)) ≡ does e h .turn .node
 node-is (Event.Requested clock link bc errors packet m x) h = refl
-node-is (Event.Replied clock slave bc errors status address packet) h = refl
-node-is (Event.Polled clock) h = refl
+node-is (Event.Replied clock slave bc errors status address packet events) h = refl
+node-is (Event.Polled clock events) h = refl
+node-is (Event.Built clock events) h = refl
 node-is (Event.Erased budget) h = refl
 node-is (Event.Slowed clock list) h = refl
 
 answer-is : (e : Event) (h : Host) → answerIn (entryOf e (h .buffer)) (h .state) (h .flash) ≡ does e h .turn .answer
 answer-is (Event.Requested clock link bc errors packet m x) h = refl
-answer-is (Event.Replied clock slave bc errors status address packet) h = refl
-answer-is (Event.Polled clock) h = refl
+answer-is (Event.Replied clock slave bc errors status address packet events) h = refl
+answer-is (Event.Polled clock events) h = refl
+answer-is (Event.Built clock events) h = refl
 answer-is (Event.Erased budget) h = refl
 answer-is (Event.Slowed clock list) h = refl
 
 buffer-is : {first : List ℕ} (e : Event) (h : Host) → Holds first h → Made (entryOf e (h .buffer)) (h .state) (h .flash)
     → stepped entries e h .buffer ≡ storeWords 2 (bufferOf e h) (h .buffer)
 buffer-is (Event.Requested clock link bc errors packet m x) h k made = ap (λ (a : Answered). a .runs .reply) (made .does)
-buffer-is (Event.Replied clock slave bc errors status address packet) h k made = ap (λ (a : Answered). a .runs .reply) (made .does)
-buffer-is (Event.Polled clock) h k made = ap (λ (a : Answered). a .runs .reply) (made .does)
+buffer-is (Event.Replied clock slave bc errors status address packet events) h k made = ap (λ (a : Answered). a .runs .reply) (made .does)
+buffer-is (Event.Polled clock events) h k made = ap (λ (a : Answered). a .runs .reply) (made .does)
 buffer-is (Event.Erased budget) h k made = sym (kept-reply (h .buffer) (k .long) (k .bytes))
 buffer-is (Event.Slowed clock list) h k made = sym (kept-reply (h .buffer) (k .long) (k .bytes))
 
 in-c : (e : Event) (buffer : List ℕ) → InC (entryOf e []) → Below 256 buffer → InC (entryOf e buffer)
 in-c (Event.Requested clock link bc errors packet m x) buffer c b = (c .0, c .1, c .2, c .3, c .4, c .5, c .6, c .7, c .8, c .9, b)
-in-c (Event.Replied clock slave bc errors status address packet) buffer c b = (c .0, c .1, c .2, c .3, c .4, c .5, c .6, b)
-in-c (Event.Polled clock) buffer c b = (c .0, b)
+in-c (Event.Replied clock slave bc errors status address packet events) buffer c b = (c .0, c .1, c .2, c .3, c .4, c .5, c .6, b)
+in-c (Event.Polled clock events) buffer c b = (c .0, b)
 in-c (Event.Erased budget) buffer c b = c
 in-c (Event.Slowed clock list) buffer c b = c
 
@@ -274,12 +277,12 @@ undone-same (Event.Requested clock link bc errors packet m x) h u =
       buffer = ap (λ (l : Lent). l .reply) (s .lent);
       asked = none-asked (Event.Requested clock link bc errors packet m x) h u;
     }
-undone-same (Event.Replied clock slave bc errors status address packet) h u =
+undone-same (Event.Replied clock slave bc errors status address packet events) h u =
     let s = refused-exactly .reply clock slave bc errors status address packet (h .state) (h .buffer) .1 (eqb-false _ 0 u) in
-    record { state = s .bytes; flash = refl; buffer = ap (λ (l : Lent). l .reply) (s .lent); asked = none-asked (Event.Replied clock slave bc errors status address packet) h u }
-undone-same (Event.Polled clock) h u =
+    record { state = s .bytes; flash = refl; buffer = ap (λ (l : Lent). l .reply) (s .lent); asked = none-asked (Event.Replied clock slave bc errors status address packet events) h u }
+undone-same (Event.Polled clock events) h u =
     let s = refused-exactly .poll clock (h .state) (h .buffer) .1 (eqb-false _ 0 u) in
-    record { state = s .bytes; flash = refl; buffer = ap (λ (l : Lent). l .reply) (s .lent); asked = none-asked (Event.Polled clock) h u }
+    record { state = s .bytes; flash = refl; buffer = ap (λ (l : Lent). l .reply) (s .lent); asked = none-asked (Event.Polled clock events) h u }
 undone-same (Event.Erased budget) h u =
     let s = refused-exactly .erase budget (h .state) (h .flash) .1 (eqb-false _ 0 u) in
     record { state = s .bytes; flash = ap (λ (l : Lent). l .flash) (s .lent); buffer = refl; asked = none-asked (Event.Erased budget) h u }
@@ -382,13 +385,13 @@ module _ {first : List ℕ} (h : Host) (k : Holds first h) (p : isPending (h .st
 
   -- the five kinds of entries: a reply and a poll are calls ..
   pub reply-called : (clock slave bc errors status address : ℕ) (packet : List ℕ)
-      → let e : Event = Event.Replied clock slave bc errors status address packet in
+      → let e : Event = Event.Replied clock slave bc errors status address packet events in
       InC (entryOf e []) → length packet / 2 ≤ 32768 → Called first (wordOf e) e h
   unfolding replyEntry replyOf
   reply-called clock slave bc errors status address packet c short = by (isDone (stepped entries e h .number)) refl
     where
       e : Event
-      e = Event.Replied clock slave bc errors status address packet
+      e = Event.Replied clock slave bc errors status address packet events
 
       words : List ℕ
       words = wordsOf 2 packet
@@ -407,22 +410,22 @@ module _ {first : List ℕ} (h : Host) (k : Holds first h) (p : isPending (h .st
 
   -- one that is too long isn't done
   pub long-undone : (clock slave bc errors status address : ℕ) (packet : List ℕ) → ltb 32768 (length packet / 2) ≡ true
-      → isDone (stepped entries (Event.Replied clock slave bc errors status address packet) h .number) ≡ false
+      → isDone (stepped entries (Event.Replied clock slave bc errors status address packet events) h .number) ≡ false
   unfolding replyEntry replyCheck
   long-undone clock slave bc errors status address packet long =
-      let e : Event = Event.Replied clock slave bc errors status address packet in
+      let e : Event = Event.Replied clock slave bc errors status address packet events in
       let room : ltb (length (h .buffer) / 2) 12288 ≡ false = le-ltb (length (h .buffer) / 2) 12288 (omega (arith, k .long)) in
       let rest : Verdict = firstOf (slaveCause slave ∷ bytesCause (h .state) ∷ unaskedCause n slave ∷ []) in
       let check : replyCheck slave (length packet / 2) (h .state) (length (h .buffer) / 2) ≡ Verdict.No Refusal.MemorySize =
       λ i. pick (room i) (Verdict.No Refusal.ReplySize) (pick (long i) (Verdict.No Refusal.MemorySize) rest) in
       ap (λ (v : Verdict). isDone (entered v (h .state) (lentReply (h .buffer)) (does e h) .number)) check
 
-  pub poll-called : (clock : ℕ) → let e : Event = Event.Polled clock in InC (entryOf e []) → Called first (wordOf e) e h
+  pub poll-called : (clock : ℕ) → let e : Event = Event.Polled clock events in InC (entryOf e []) → Called first (wordOf e) e h
   unfolding pollEntry pollOf
   poll-called clock c = by (isDone (stepped entries e h .number)) refl
     where
       e : Event
-      e = Event.Polled clock
+      e = Event.Polled clock events
 
       by : (t : Bool) → isDone (stepped entries e h .number) ≡ t → Called first (wordOf e) e h
       by true d = done-called first e h k c d (poll-kept n clock buffer kept-status (reply-below (h .buffer) (k .bytes)) (length-reply (h .buffer) (k .long)))

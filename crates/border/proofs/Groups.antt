@@ -53,13 +53,13 @@ heards-on : (c : Call) (cs ds : List Call) → ((x : Awaited) (ss : List ℕ) (w
 unfolding heards
 heards-on c cs ds q x [] w = refl
 heards-on (Call.Requested clock link bc errors packet m y) cs ds q x (s ∷ ss) w = q x (s ∷ ss) w
-heards-on (Call.Replied clock slave bc errors status address words) cs ds q x (s ∷ ss) w =
+heards-on (Call.Replied clock slave bc errors status address words events) cs ds q x (s ∷ ss) w =
     let a : SlaveAnswer = answeredBy x clock bc errors status address words in
     λ i. pick (eqb s slave)
     (pick (isPart a w (length ss)) (q (sentNext clock a) (s ∷ ss) w i)
     (endedBy a (q (asked clock) ss (w + length (fragmentOf s a w (length ss))) i)))
     (q x (s ∷ ss) w i)
-heards-on (Call.Polled clock) cs ds q x (s ∷ ss) w =
+heards-on (Call.Polled clock events) cs ds q x (s ∷ ss) w =
     λ i. pick (isLate clock (x .at))
     (endedBy (silentBy x) (q (asked clock) ss (w + length (fragmentOf s (silentBy x) w (length ss))) i)) (q x (s ∷ ss) w i)
 heards-on (Call.Erased budget) cs ds q x (s ∷ ss) w = q x (s ∷ ss) w
@@ -128,15 +128,17 @@ silent-none (c ∷ cs) h f = λ p. absurd (false≢true (sym f ∙ p))
 -- an entry's clock and poll are its call's
 comes-at : (tick : ℕ) (e : Event) → ComesAt tick e → NodeComesAt tick (wordOf e)
 comes-at tick (Event.Requested clock link bc errors packet m x) c = c
-comes-at tick (Event.Replied clock slave bc errors status address packet) c = c
-comes-at tick (Event.Polled clock) c = c
+comes-at tick (Event.Replied clock slave bc errors status address packet events) c = c
+comes-at tick (Event.Polled clock events) c = c
+comes-at tick (Event.Built clock events) c = c
 comes-at tick (Event.Erased budget) c = c
 comes-at tick (Event.Slowed clock list) c = c
 
 polled-by : (polled tick : ℕ) (e : Event) → polledBy polled tick e ≡ nodePolledBy polled tick (wordOf e)
 polled-by polled tick (Event.Requested clock link bc errors packet m x) = refl
-polled-by polled tick (Event.Replied clock slave bc errors status address packet) = refl
-polled-by polled tick (Event.Polled clock) = refl
+polled-by polled tick (Event.Replied clock slave bc errors status address packet events) = refl
+polled-by polled tick (Event.Polled clock events) = refl
+polled-by polled tick (Event.Built clock events) = refl
 polled-by polled tick (Event.Erased budget) = refl
 polled-by polled tick (Event.Slowed clock list) = refl
 
@@ -357,11 +359,11 @@ means first (Event.Slowed clock list) h p k c = by (isDone (stepped entries e h 
     by : (t : Bool) → isDone (stepped entries e h .number) ≡ t → Means first e h
     by true d = Means.ACall refl (slow-called h k p clock list c d)
     by false d = Means.Naught (unheard-slow clock (wordsOf 2 list)) refl (λ _ _. refl) (undone-same e h d)
-means first (Event.Polled clock) h p k c = Means.ACall refl (poll-called h k p clock c)
-means first (Event.Replied clock slave bc errors status address packet) h p k c = by (ltb 32768 (length packet / 2)) refl
+means first (Event.Polled clock events) h p k c = Means.ACall refl (poll-called h k p clock c)
+means first (Event.Replied clock slave bc errors status address packet events) h p k c = by (ltb 32768 (length packet / 2)) refl
   where
     e : Event
-    e = Event.Replied clock slave bc errors status address packet
+    e = Event.Replied clock slave bc errors status address packet events
 
     by : (t : Bool) → ltb 32768 (length packet / 2) ≡ t → Means first e h
     by true l =

@@ -34,6 +34,8 @@ pub mod Turns
 pub mod Unread
 pub mod Series
 pub mod PastStays
+pub mod Built
+pub mod Builds
 pub mod Demands
 pub mod Examples
 pub mod Settled

@@ -166,9 +166,10 @@ pub node-settled : NodeSettled
 node-settled =
     record {
       start = λ κs given x y v w p q. (p ∙ sym q, refl);
-      request = λ κs given x y v w p q. (ap (λ (o : Outcome). o .turn) (p ∙ sym q), λ i. (v .0, (v .1 .0, (v .1 .1 .0, (v .1 .1 .1 .0, (v .1 .1 .1 .1 .0, (v .1 .1 .1 .1 .1 .0, ((p ∙ sym q) i .after .flash, ((p ∙ sym q) i .after .memories .pm, ((p ∙ sym q) i .after .memories .dm, ((p ∙ sym q) i .after .memories .io, ((p ∙ sym q) i .after .further .area, ((p ∙ sym q) i .after .further .list, ((p ∙ sym q) i .after .reply, v .1 .1 .1 .1 .1 .1 .1 .1 .1 .1 .1 .1 .1))))))))))))));
-      reply = λ κs given x y v w p q. (ap (λ (o : Outcome). o .turn) (p ∙ sym q), λ i. (v .0, (v .1 .0, (v .1 .1 .0, (v .1 .1 .1 .0, (v .1 .1 .1 .1 .0, (v .1 .1 .1 .1 .1 .0, (v .1 .1 .1 .1 .1 .1 .0, (v .1 .1 .1 .1 .1 .1 .1 .0, ((p ∙ sym q) i .after .reply, v .1 .1 .1 .1 .1 .1 .1 .1 .1))))))))));
-      poll = λ κs given x y v w p q. (ap (λ (o : Outcome). o .turn) (p ∙ sym q), λ i. (v .0, (v .1 .0, ((p ∙ sym q) i .after .reply, v .1 .1 .1))));
+      request = λ κs given x y v w p q. (ap (λ (o : Outcome). o .turn) (p ∙ sym q), λ i. (v .0, (v .1 .0, (v .1 .1 .0, (v .1 .1 .1 .0, (v .1 .1 .1 .1 .0, (v .1 .1 .1 .1 .1 .0, ((p ∙ sym q) i .after .flash, ((p ∙ sym q) i .after .memories .pm, ((p ∙ sym q) i .after .memories .dm, ((p ∙ sym q) i .after .memories .io, ((p ∙ sym q) i .after .further .area, ((p ∙ sym q) i .after .further .list, (v .1 .1 .1 .1 .1 .1 .1 .1 .1 .1 .1 .1 .0, ((p ∙ sym q) i .after .reply, v .1 .1 .1 .1 .1 .1 .1 .1 .1 .1 .1 .1 .1 .1)))))))))))))));
+      reply = λ κs given x y v w p q. (ap (λ (o : Outcome). o .turn) (p ∙ sym q), λ i. (v .0, (v .1 .0, (v .1 .1 .0, (v .1 .1 .1 .0, (v .1 .1 .1 .1 .0, (v .1 .1 .1 .1 .1 .0, (v .1 .1 .1 .1 .1 .1 .0, (v .1 .1 .1 .1 .1 .1 .1 .0, ((p ∙ sym q) i .after .further .events, ((p ∙ sym q) i .after .reply, v .1 .1 .1 .1 .1 .1 .1 .1 .1 .1)))))))))));
+      poll = λ κs given x y v w p q. (ap (λ (o : Outcome). o .turn) (p ∙ sym q), λ i. (v .0, (v .1 .0, ((p ∙ sym q) i .after .further .events, ((p ∙ sym q) i .after .reply, v .1 .1 .1 .1)))));
+      build = λ κs given x y v w p q. (ap (λ (o : Outcome). o .turn) (p ∙ sym q), refl);
       erase = λ κs given x y v w p q. (ap (λ (o : Outcome). o .turn) (p ∙ sym q), λ i. (v .0, (v .1 .0, ((p ∙ sym q) i .after .flash, v .1 .1 .1))));
       slow = λ κs given x y v w p q. (ap (λ (o : Outcome). o .turn) (p ∙ sym q), λ i. (v .0, (v .1 .0, ((p ∙ sym q) i .after .further .list, v .1 .1 .1))));
       refusals-refusal-number = λ κs given x y v w p q. (p ∙ sym q, refl);
@@ -177,6 +178,7 @@ node-settled =
       refusals-request-verdict = λ κs given x y v w p q. (p ∙ sym q, refl);
       refusals-reply-verdict = λ κs given x y v w p q. (p ∙ sym q, refl);
       refusals-poll-verdict = λ κs given x y v w p q. (p ∙ sym q, refl);
+      refusals-build-verdict = λ κs given x y v w p q. (p ∙ sym q, refl);
       refusals-erase-verdict = λ κs given x y v w p q. (p ∙ sym q, refl);
       refusals-slow-verdict = λ κs given x y v w p q. (p ∙ sym q, refl);
       refusals-start-verdict = λ κs given x y v w p q. (p ∙ sym q, refl);
@@ -208,7 +210,7 @@ series-settled =
     record {
       fits = λ κs given x y v w p q. (p ∙ sym q, refl);
       is-left = λ κs given x y v w p q. (p ∙ sym q, refl);
-      requests = λ κs given x y v w p q. (ap (λ (c : Came). c .series) (p ∙ sym q), λ i. (v .0, (v .1 .0, (v .1 .1 .0, ((p ∙ sym q) i .after .flash, ((p ∙ sym q) i .after .memories .pm, ((p ∙ sym q) i .after .memories .dm, ((p ∙ sym q) i .after .memories .io, ((p ∙ sym q) i .after .further .area, ((p ∙ sym q) i .after .further .list, ((p ∙ sym q) i .after .reply, v .1 .1 .1 .1 .1 .1 .1 .1 .1 .1)))))))))));
+      requests = λ κs given x y v w p q. (ap (λ (c : Came). c .series) (p ∙ sym q), λ i. (v .0, (v .1 .0, (v .1 .1 .0, ((p ∙ sym q) i .after .flash, ((p ∙ sym q) i .after .memories .pm, ((p ∙ sym q) i .after .memories .dm, ((p ∙ sym q) i .after .memories .io, ((p ∙ sym q) i .after .further .area, ((p ∙ sym q) i .after .further .list, (v .1 .1 .1 .1 .1 .1 .1 .1 .1 .0, ((p ∙ sym q) i .after .reply, v .1 .1 .1 .1 .1 .1 .1 .1 .1 .1 .1))))))))))));
     }
 
 pub settled : Settled

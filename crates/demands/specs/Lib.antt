@@ -12,6 +12,8 @@ pub mod Anchors
 pub mod ClosedRun
 pub mod Listing
 pub mod Series
+pub mod Built
+pub mod Builds
 pub mod Demands
 pub mod Examples
 pub mod Settled

@@ -166,12 +166,13 @@ pub record CaptureSettled : Type 0 where
   pub judge-end : Settles Capture.judge_end.Kinds.ps Capture.judge_end.Kinds.r Capture.judge_end.Reads.Learnt
   pub judge-fcs : Settles Capture.judge_fcs.Kinds.ps Capture.judge_fcs.Kinds.r Capture.judge_fcs.Reads.Learnt
 
--- The node: the six calls, and the parts that decide before anything is done.
+-- The node: the seven calls, and the parts that decide before anything is done.
 pub record NodeSettled : Type 0 where
   pub start : Settles Node.Node.start.Kinds.ps Node.Node.start.Kinds.r Node.Node.start.Reads.Learnt
   pub request : Settles Node.Node.request.Kinds.ps Node.Node.request.Kinds.r Node.Node.request.Reads.Learnt
   pub reply : Settles Node.Node.reply.Kinds.ps Node.Node.reply.Kinds.r Node.Node.reply.Reads.Learnt
   pub poll : Settles Node.Node.poll.Kinds.ps Node.Node.poll.Kinds.r Node.Node.poll.Reads.Learnt
+  pub build : Settles Node.Node.build.Kinds.ps Node.Node.build.Kinds.r Node.Node.build.Reads.Learnt
   pub erase : Settles Node.Node.erase.Kinds.ps Node.Node.erase.Kinds.r Node.Node.erase.Reads.Learnt
   pub slow : Settles Node.Node.slow.Kinds.ps Node.Node.slow.Kinds.r Node.Node.slow.Reads.Learnt
   pub refusals-refusal-number : Settles Node.refusals.refusal_number.Kinds.ps Node.refusals.refusal_number.Kinds.r Node.refusals.refusal_number.Reads.Learnt
@@ -180,6 +181,7 @@ pub record NodeSettled : Type 0 where
   pub refusals-request-verdict : Settles Node.refusals.request_verdict.Kinds.ps Node.refusals.request_verdict.Kinds.r Node.refusals.request_verdict.Reads.Learnt
   pub refusals-reply-verdict : Settles Node.refusals.reply_verdict.Kinds.ps Node.refusals.reply_verdict.Kinds.r Node.refusals.reply_verdict.Reads.Learnt
   pub refusals-poll-verdict : Settles Node.refusals.poll_verdict.Kinds.ps Node.refusals.poll_verdict.Kinds.r Node.refusals.poll_verdict.Reads.Learnt
+  pub refusals-build-verdict : Settles Node.refusals.build_verdict.Kinds.ps Node.refusals.build_verdict.Kinds.r Node.refusals.build_verdict.Reads.Learnt
   pub refusals-erase-verdict : Settles Node.refusals.erase_verdict.Kinds.ps Node.refusals.erase_verdict.Kinds.r Node.refusals.erase_verdict.Reads.Learnt
   pub refusals-slow-verdict : Settles Node.refusals.slow_verdict.Kinds.ps Node.refusals.slow_verdict.Kinds.r Node.refusals.slow_verdict.Reads.Learnt
   pub refusals-start-verdict : Settles Node.refusals.start_verdict.Kinds.ps Node.refusals.start_verdict.Kinds.r Node.refusals.start_verdict.Reads.Learnt
