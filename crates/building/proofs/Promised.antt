@@ -16,7 +16,7 @@ use Rattle.base.proofs.Pick.{and-left, and-right, pick-case}
 use Rattle.base.proofs.Laid.{length-laid, getD-laid-before, getD-laid-in}
 use Rattle.group.specs.Kind.{Answer, joinedOf}
 use Rattle.group.specs.Slaves.{hasSlave, above, nextOf, nextNumber}
-use Rattle.group.specs.Ending.{Sent, sent, replied, groupStatus}
+use Rattle.group.specs.Ending.{Sent, sealed, sent, replied, groupStatus}
 use Rattle.group.specs.declared.Built.{Built}
 use Rattle.group.specs.declared.Heard.{Heard}
 use Rattle.group.specs.declared.Next.{Next}
@@ -35,7 +35,7 @@ use Rattle.event.proofs.Rooms.{taken-room, slave-within}
 use Rattle.event.proofs.Counts.{isCount, Counted, one-more, or-false}
 use Rattle.building.specs.Build.{asked, leftIn, asksAgain, again, awaiting, Moved, behindNumber, withRest, packetIn}
 use Rattle.building.specs.Valid.{tallyOk, buildingOk}
-use Rattle.building.specs.Promised.{Going, BegunOk, KeepsOk, AskedNext, AsksOf, AskedThreeTimes, wordZero, NumberAtEventOnly, hadData, givesData, EventIfData}
+use Rattle.building.specs.Promised.{Going, BegunOk, KeepsOk, Most, EventMost, AskedNext, AsksOf, AskedThreeTimes, wordZero, NumberAtEventOnly, hadData, givesData, EventIfData}
 use Rattle.building.specs.declared.Building.{Building}
 use Rattle.building.proofs.Ok.{Ok, ok-tells, ok-told}
 use Rattle.building.proofs.Cases.{grown, area, isPartly, hears-case}
@@ -102,7 +102,7 @@ taken-out number rest g k slave a h l =
     pick-case (λ (x : ℕ). x < 16777216) (isLeftOut (saidOf number a (g .built .words) k) (length (joinedOf a)))
     (λ e. slave-within (g .«left_out») slave h (omega arith)) (λ e. h)
 
-taken-long : (number : ℕ) (rest : List ℕ) (g : Gathered) (k slave : ℕ) (a : Answer) → length (takenIn number rest g k slave a .rest) ≡ length rest
+pub taken-long : (number : ℕ) (rest : List ℕ) (g : Gathered) (k slave : ℕ) (a : Answer) → length (takenIn number rest g k slave a .rest) ≡ length rest
 unfolding takenIn placed
 taken-long number rest g k slave a = long (g .built .words) (fragmentIn (saidOf number a (g .built .words) k) slave a)
   where
@@ -190,6 +190,36 @@ keeps number own clock b h words events ok =
   where
     k : Ok b
     k = ok-tells b ok
+
+sealed-most : (buffer : List ℕ) (w status : ℕ) → sealed buffer w status .reply .words ≤ w + 2
+unfolding sealed
+sealed-most buffer w status =
+    pick-case (λ (s : Sent). s .reply .words ≤ w + 2) (leb (w + 2) (length buffer)) (λ e. omega arith) (λ e. omega arith)
+
+closed-most : (events : List ℕ) (number : ℕ) (g : Built) (out own : ℕ) → eventEnd events number g out own .reply .words ≤ g .words + 5
+unfolding eventEnd
+closed-most events number g out own =
+    pick-case (λ (s : Sent). s .reply .words ≤ g .words + 5) (hasData (g .tally))
+    (λ e. omega (arith, sealed-most (laid (laid events 0 (number ∷ [])) (g .words + 1) (maskPair out)) (g .words + 3) (groupStatus (g .tally) own)))
+    (λ e. omega arith)
+
+pub event-most : EventMost
+event-most number own clock b h words events ok =
+    let k = ok-tells b ok in
+    let g = grown number own clock b h words events .gathered in
+    hears-case number own clock b h words events (λ (m : Moved). Most (m .progress))
+    (record {
+      again = λ e. tt;
+      part = λ e f. tt;
+      next = λ e f s ss g. tt;
+      event = λ e f q d.
+          omega (
+            arith,
+            closed-most (area number own clock b h words events) number (g .built) (g .«left_out») own,
+            taken-room number (behindNumber events) (b .gathered) (leftIn b) (b .slave) (packetIn b h words events) (k .room),
+          );
+      none = λ e f g d. tt;
+    })
 
 pub asked-three-times : AskedThreeTimes
 asked-three-times number own clock b h words events =

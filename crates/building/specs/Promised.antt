@@ -31,6 +31,18 @@ KeepsOk =
     (number own clock : ℕ) (b : Building) (h : Heard) (words events : List ℕ) → buildingOk b ≡ true
     → Going (λ b′. buildingOk b′ ≡ true) (hearsIn number own clock b h words events .progress)
 
+-- An event has at most 12,288 words.
+abbrev pub Most : Progress → Type 0
+Most (Progress.Asks b) = Unit {0}
+Most (Progress.Awaits b) = Unit {0}
+Most Progress.NoEvent = Unit {0}
+Most (Progress.Event words error) = words ≤ 12288
+
+abbrev pub EventMost : Type 0
+EventMost =
+    (number own clock : ℕ) (b : Building) (h : Heard) (words events : List ℕ) → buildingOk b ≡ true
+    → Most (hearsIn number own clock b h words events .progress)
+
 -- The same slave is asked once more, at most three times in all: only on END, in time and without receive errors, to the request itself.
 pub record AskedAgain (b b′ : Building) (h : Heard) (words : List ℕ) : Type 0 where
   pub same : b′ .slave ≡ b .slave

@@ -37,7 +37,7 @@ outIn out (s ∷ ss) (a ∷ ended) [] = out
 outIn out (s ∷ ss) (a ∷ ended) (x ∷ xs) = outIn (leftOutBy x (length (joinedOf a)) out s) ss ended xs
 
 -- each answer's fragment leaves the room of those behind it
-piece-room : (number s : ℕ) (a : Answer) (w k : ℕ) → w + 5 * (k + 1) + 5 ≤ 12288 → w + length (eventFragment number s a w k) + 5 * k + 5 ≤ 12288
+pub piece-room : (number s : ℕ) (a : Answer) (w k : ℕ) → w + 5 * (k + 1) + 5 ≤ 12288 → w + length (eventFragment number s a w k) + 5 * k + 5 ≤ 12288
 unfolding eventFragment
 piece-room number s a w k h = fragment-room number s a w k h
 
@@ -53,7 +53,7 @@ data-room number (s ∷ ss) (a ∷ ended) w h =
     simp length-append (omega arith)
 
 -- an answer taken in, where its fragment has its place
-taken-fits : (number : ℕ) (rest : List ℕ) (w : ℕ) (t : Tally) (out k s : ℕ) (a : Answer) → w + 5 * (k + 1) + 5 ≤ 12288 → 12287 ≤ length rest
+pub taken-fits : (number : ℕ) (rest : List ℕ) (w : ℕ) (t : Tally) (out k s : ℕ) (a : Answer) → w + 5 * (k + 1) + 5 ≤ 12288 → 12287 ≤ length rest
     → takenIn number rest (gathered w t out) k s a
     ≡ takingAt (place (laid rest w (eventFragment number s a w k)) (w + length (eventFragment number s a w k))) (talliedIn t (saidOf number a w k))
     (leftOutBy (saidOf number a w k) (length (joinedOf a)) out s)

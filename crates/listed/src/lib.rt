@@ -32,10 +32,11 @@ fn step(
     io: &mut [u16],
     area: &mut [u16],
     list: &mut [u16],
+    events: &[u16],
     replies: &mut [u16],
 ) -> Stepped
     requires { ⌜ endAt (now packets) at ≤ length (now packets) ⌝ }
-    ensures { λ r. ⌜ stepped r (lent (now (flash .exit)) (memories (now (pm .exit)) (now (dm .exit)) (now (io .exit))) (further (now (area .exit)) (now (list .exit))) (now (replies .exit))) ≡ stepBy requestOf clock (now (packets .entry)) (kept node (lent (now (flash .entry)) (memories (now (pm .entry)) (now (dm .entry)) (now (io .entry))) (further (now (area .entry)) (now (list .entry))) (now (replies .entry))) filled) (packetAt (now (packets .entry)) at) ⌝ }
+    ensures { λ r. ⌜ stepped r (lent (now (flash .exit)) (memories (now (pm .exit)) (now (dm .exit)) (now (io .exit))) (further (now (area .exit)) (now (list .exit)) (now (events .entry))) (now (replies .exit))) ≡ stepBy requestOf clock (now (packets .entry)) (kept node (lent (now (flash .entry)) (memories (now (pm .entry)) (now (dm .entry)) (now (io .entry))) (further (now (area .entry)) (now (list .entry)) (now (events .entry))) (now (replies .entry))) filled) (packetAt (now (packets .entry)) at) ⌝ }
 {
     let bc = number(packets[at + 1]);
     if is_left(bc, replies.len(), filled) {
@@ -61,6 +62,7 @@ fn step(
         io,
         area,
         list,
+        events,
         &mut replies[behind..],
     );
     let next = turn.node;
@@ -79,10 +81,11 @@ fn take_all(
     io: &mut [u16],
     area: &mut [u16],
     list: &mut [u16],
+    events: &[u16],
     replies: &mut [u16],
 ) -> Rowed
     requires { ⌜ fits (now packets) ≡ true ⌝ }
-    ensures { λ r. ⌜ rowed r (lent (now (flash .exit)) (memories (now (pm .exit)) (now (dm .exit)) (now (io .exit))) (further (now (area .exit)) (now (list .exit))) (now (replies .exit))) ≡ row (stepBy requestOf clock (now (packets .entry))) (kept node (lent (now (flash .entry)) (memories (now (pm .entry)) (now (dm .entry)) (now (io .entry))) (further (now (area .entry)) (now (list .entry))) (now (replies .entry))) 0) (packetsIn (now (packets .entry))) ⌝ }
+    ensures { λ r. ⌜ rowed r (lent (now (flash .exit)) (memories (now (pm .exit)) (now (dm .exit)) (now (io .exit))) (further (now (area .exit)) (now (list .exit)) (now (events .entry))) (now (replies .exit))) ≡ row (stepBy requestOf clock (now (packets .entry))) (kept node (lent (now (flash .entry)) (memories (now (pm .entry)) (now (dm .entry)) (now (io .entry))) (further (now (area .entry)) (now (list .entry)) (now (events .entry))) (now (replies .entry))) 0) (packetsIn (now (packets .entry))) ⌝ }
 {
     let mut kept = node;
     let mut at: usize = 0;
@@ -101,6 +104,7 @@ fn take_all(
             io,
             area,
             list,
+            events,
             replies,
         );
         if !next.on {
@@ -134,9 +138,10 @@ pub fn requests(
     io: &mut [u16],
     area: &mut [u16],
     list: &mut [u16],
+    events: &[u16],
     replies: &mut [u16],
 ) -> Series
-    ensures { λ r. ⌜ came r (lent (now (flash .exit)) (memories (now (pm .exit)) (now (dm .exit)) (now (io .exit))) (further (now (area .exit)) (now (list .exit))) (now (replies .exit))) ≡ requestsOf node clock (now (packets .entry)) (lent (now (flash .entry)) (memories (now (pm .entry)) (now (dm .entry)) (now (io .entry))) (further (now (area .entry)) (now (list .entry))) (now (replies .entry))) ⌝ }
+    ensures { λ r. ⌜ came r (lent (now (flash .exit)) (memories (now (pm .exit)) (now (dm .exit)) (now (io .exit))) (further (now (area .exit)) (now (list .exit)) (now (events .entry))) (now (replies .exit))) ≡ requestsOf node clock (now (packets .entry)) (lent (now (flash .entry)) (memories (now (pm .entry)) (now (dm .entry)) (now (io .entry))) (further (now (area .entry)) (now (list .entry)) (now (events .entry))) (now (replies .entry))) ⌝ }
 {
     if !fits(packets) {
         return Series {
@@ -144,7 +149,19 @@ pub fn requests(
             done: Done::Refused(Refusal::Overrun),
         };
     }
-    let all = take_all(node, clock, packets, flash, pm, dm, io, area, list, replies);
+    let all = take_all(
+        node,
+        clock,
+        packets,
+        flash,
+        pm,
+        dm,
+        io,
+        area,
+        list,
+        events,
+        replies,
+    );
     let next = all.node;
     Series {
         node: next,

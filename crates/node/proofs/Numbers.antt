@@ -14,7 +14,7 @@ use Rattle.group.specs.declared.ZeroLength.{ZeroLength}
 use Rattle.group.proofs.Tallies.{zero-same}
 use Rattle.node.specs.State.{refusalNumber}
 use Rattle.node.specs.Valid.{sizeOk, kindOk, portsOk}
-use Rattle.node.specs.Refusals.{Cause, cause, firstOf, verdictNumber, flashCause, replyCause, memoryCause, areaCause, listCause, linkCause, slaveCause, stateCause, busyCause, pollCause, unaskedCause, requestVerdict, replyVerdict, pollVerdict, eraseVerdict, slowVerdict, startVerdict}
+use Rattle.node.specs.Refusals.{Cause, cause, firstOf, verdictNumber, flashCause, replyCause, memoryCause, areaCause, listCause, eventsCause, linkCause, slaveCause, stateCause, busyCause, buildingCause, pollCause, unaskedCause, requestVerdict, replyVerdict, pollVerdict, eraseVerdict, slowVerdict, buildVerdict, startVerdict}
 use Rattle.node.specs.Route.{routeNumber}
 use Rattle.node.specs.Effect.{Lent}
 use Rattle.node.specs.Files.{setTo}
@@ -39,27 +39,35 @@ verdict-rows (c ∷ causes) = by (c .holds) (verdict-rows causes)
     by true e = refl
     by false e = e
 
--- so the verdict on each call is by the numbers of 01's table, in its order, and 8 and 9 where 02, requests 1 and 7, have them
-pub request-number : (n : Node) (link packet flash pm dm io area records reply : ℕ)
-    → verdictNumber (requestVerdict n link packet flash pm dm io area records reply)
+-- so the verdict on each call is by the numbers of 01's table, in its order, and 8, 9 and 11 where 02, requests 1, 7 and 12, have them
+pub request-number : (n : Node) (link packet flash pm dm io area records events reply : ℕ)
+    → verdictNumber (requestVerdict n link packet flash pm dm io area records events reply)
     ≡ pick (flashCause n flash .holds) 1 (pick (replyCause reply .holds) 2 (pick (memoryCause pm dm io .holds) 3 (pick (areaCause area .holds) 8
-    (pick (listCause n records .holds) 9 (pick (linkCause n link .holds) 4 (pick (stateCause n .holds) 5 (pick (busyCause n packet .holds) 6 0)))))))
+    (pick (listCause n records .holds) 9 (pick (eventsCause events .holds) 11 (pick (linkCause n link .holds) 4 (pick (stateCause n .holds) 5
+    (pick (busyCause n packet .holds) 6 0))))))))
 unfolding requestVerdict
-request-number n link packet flash pm dm io area records reply =
+request-number n link packet flash pm dm io area records events reply =
     verdict-rows
-    (flashCause n flash ∷ replyCause reply ∷ memoryCause pm dm io ∷ areaCause area ∷ listCause n records ∷ linkCause n link ∷ stateCause n
-    ∷ busyCause n packet ∷ [])
+    (flashCause n flash ∷ replyCause reply ∷ memoryCause pm dm io ∷ areaCause area ∷ listCause n records ∷ eventsCause events ∷ linkCause n link
+    ∷ stateCause n ∷ busyCause n packet ∷ [])
 
-pub reply-number : (n : Node) (slave reply : ℕ)
-    → verdictNumber (replyVerdict n slave reply)
-    ≡ pick (replyCause reply .holds) 2 (pick (slaveCause slave .holds) 4 (pick (stateCause n .holds) 5 (pick (unaskedCause n slave .holds) 7 0)))
+pub reply-number : (n : Node) (slave events reply : ℕ)
+    → verdictNumber (replyVerdict n slave events reply)
+    ≡ pick (replyCause reply .holds) 2 (pick (eventsCause events .holds) 11
+    (pick (slaveCause slave .holds) 4 (pick (stateCause n .holds) 5 (pick (unaskedCause n slave .holds) 7 0))))
 unfolding replyVerdict
-reply-number n slave reply = verdict-rows (replyCause reply ∷ slaveCause slave ∷ stateCause n ∷ unaskedCause n slave ∷ [])
+reply-number n slave events reply = verdict-rows (replyCause reply ∷ eventsCause events ∷ slaveCause slave ∷ stateCause n ∷ unaskedCause n slave ∷ [])
 
-pub poll-number : (n : Node) (reply : ℕ)
-    → verdictNumber (pollVerdict n reply) ≡ pick (replyCause reply .holds) 2 (pick (stateCause n .holds) 5 (pick (pollCause n .holds) 7 0))
+pub poll-number : (n : Node) (events reply : ℕ)
+    → verdictNumber (pollVerdict n events reply)
+    ≡ pick (replyCause reply .holds) 2 (pick (eventsCause events .holds) 11 (pick (stateCause n .holds) 5 (pick (pollCause n .holds) 7 0)))
 unfolding pollVerdict
-poll-number n reply = verdict-rows (replyCause reply ∷ stateCause n ∷ pollCause n ∷ [])
+poll-number n events reply = verdict-rows (replyCause reply ∷ eventsCause events ∷ stateCause n ∷ pollCause n ∷ [])
+
+pub build-number : (n : Node) (events : ℕ)
+    → verdictNumber (buildVerdict n events) ≡ pick (eventsCause events .holds) 11 (pick (stateCause n .holds) 5 (pick (buildingCause n .holds) 6 0))
+unfolding buildVerdict
+build-number n events = verdict-rows (eventsCause events ∷ stateCause n ∷ buildingCause n ∷ [])
 
 pub erase-number : (n : Node) (flash : ℕ)
     → verdictNumber (eraseVerdict n flash) ≡ pick (flashCause n flash .holds) 1 (pick (stateCause n .holds) 5 0)

@@ -10,11 +10,12 @@ use Rattle.group.specs.Ending.{Sent, replied, zeroReply, sealed}
 use Rattle.group.specs.declared.ZeroLength.{ZeroLength}
 use Rattle.group.proofs.Groups.{sealed-all}
 use Rattle.memory.specs.Segment.{Memories}
-use Rattle.node.specs.State.{turn, faulted, withSettings}
+use Rattle.node.specs.State.{turn, faulted, withSettings, withEvents}
 use Rattle.node.specs.Settings.{statusIn}
-use Rattle.node.specs.Effect.{Setup, masksAfter, modeAfter, Did, says, sets, answers, lent, outcome, ownOutcome, Said, said, told, Replies, Sets}
+use Rattle.node.specs.Effect.{Setup, masksAfter, modeAfter, Did, says, sets, answers, knows, hands, lent, outcome, ownOutcome, Said, said, told, Replies, Sets}
 use Rattle.node.specs.Files.{withFault}
 use Rattle.node.specs.declared.Answer.{Answer}
+use Rattle.node.specs.declared.Events.{Events}
 use Rattle.node.specs.declared.Node.{Node}
 use Rattle.node.specs.declared.Turn.{Turn}
 
@@ -70,3 +71,18 @@ replies-as n before e h flash m others = e flash m others ∙ ap (ownOutcome n (
 
 pub sets-as : (n : Node) {d d′ : Did} {r : Turn} (reply : List ℕ) → Sets n d r → d ≡ d′ → Replies n d′ reply r reply
 sets-as n reply e h flash m others = e (lent flash m others reply) ∙ ap (ownOutcome n (lent flash m others reply)) h
+
+-- .. or to other events known ..
+pub ends-known : (n : Node) (e : Events) {n′ : Node} {r : Turn} {d : Did}
+    → r ≡ turn n′ (Answer.Reply (zeroReply ZeroLength.End)) → n′ ≡ withEvents n e → knows e ≡ d → Sets n d r
+ends-known n e f g h l =
+    ap (λ (t : Turn). outcome t l) f
+    ∙ ap (λ (x : Node). outcome (turn x (Answer.Reply (zeroReply ZeroLength.End))) l) g
+    ∙ ap (λ (x : List ℕ). outcome (turn (withEvents n e) (Answer.Reply (zeroReply ZeroLength.End))) (lent (l .flash) (l .memories) (l .further) x)) (laid-none (l .reply) 0)
+    ∙ ap (ownOutcome n l) h
+
+-- .. or to an event handed out
+pub hands-out : (n : Node) (e : Events) (ws before : List ℕ) {after : List ℕ} {r : Turn} {d : Did}
+    → r ≡ turn (withEvents n e) (Answer.Reply (replied 3 (length ws))) → after ≡ laid before 0 ws → hands e ws ≡ d → Replies n d before r after
+hands-out n e ws before f g h flash m others =
+    (λ i. outcome (f i) (lent flash m others (g i))) ∙ ap (ownOutcome n (lent flash m others before)) h

@@ -4,7 +4,7 @@ use mathlib.Core.Path.{_≡_, refl, ap, _∙_}
 use mathlib.Core.Bool.{Bool, true, false, false≢true}
 use mathlib.Core.List.{List}
 use Rattle.base.proofs.Pick.{pick-case}
-use Rattle.node.specs.Effect.{Lent, lent, outcome, applied, Further, furtherAfter, Join, Relist}
+use Rattle.node.specs.Effect.{Lent, lent, outcome, applied, Further, furtherAfter, Join, Relist, Occur}
 use Rattle.node.specs.Route.{writes}
 use Rattle.node.specs.Calls.{routed, passedBy}
 use Rattle.node.specs.declared.Node.{Node}
@@ -31,7 +31,7 @@ module _ (n : Node) (clock link : ℕ) (packet : List ℕ) (l : Lent) where
   passed-by Route.Overlong h = refl
   passed-by Route.Dropped h =
       ap (λ (x : Further). outcome (passedBy Route.Dropped n clock link) (lent (l .flash) (l .memories) x (l .reply)))
-      (pick-case (λ (j : Join). l .further ≡ furtherAfter j Relist.Kept (l .further)) (writes (n .writing) link) (λ _. refl) (λ _. refl))
+      (pick-case (λ (j : Join). l .further ≡ furtherAfter j Relist.Kept Occur.Kept (l .further)) (writes (n .writing) link) (λ _. refl) (λ _. refl))
   passed-by (Route.Join from at) h = absurd (false≢true h)
   passed-by (Route.Last at) h = absurd (false≢true h)
   passed-by (Route.Slave a) h = refl

@@ -56,18 +56,18 @@ delete-keeps g parameters ws =
 -- a command that changes the list
 pub list-changed : (n : Node) (before : List ℕ) {c : Changed} {listed : Listed} {after : List ℕ} {r : Turn}
     → Keeps before c → r ≡ endsWith n listed → changed listed after ≡ c → Lists n (changesList c) before r after
-list-changed n before {c} {listed} {after} k e h flash m area reply =
-    ap (λ (t : Turn). outcome t (lent flash m (further area after) reply)) e
-    ∙ ap (λ (x : Changed). outcome (endsWith n (x .listed)) (lent flash m (further area (x .words)) reply)) h
+list-changed n before {c} {listed} {after} k e h flash m area events reply =
+    ap (λ (t : Turn). outcome t (lent flash m (further area after events) reply)) e
+    ∙ ap (λ (x : Changed). outcome (endsWith n (x .listed)) (lent flash m (further area (x .words) events) reply)) h
     ∙ by (c .listed) (c .words) k
   where
     by : (x : Listed) (words : List ℕ) → (x ≡ Listed.Abort → words ≡ before)
-        → outcome (endsWith n x) (lent flash m (further area words) reply) ≡ ownOutcome n (lent flash m (further area before) reply) (relisted x words)
+        → outcome (endsWith n x) (lent flash m (further area words events) reply) ≡ ownOutcome n (lent flash m (further area before events) reply) (relisted x words)
     by (Listed.Entries g) words kept =
-        ap (λ (x : List ℕ). outcome (turn (withListing n g) (Answer.Reply (zeroReply ZeroLength.End))) (lent flash m (further area words) x)) (laid-none reply 0)
+        ap (λ (x : List ℕ). outcome (turn (withListing n g) (Answer.Reply (zeroReply ZeroLength.End))) (lent flash m (further area words events) x)) (laid-none reply 0)
     by Listed.Abort words kept =
-        ap (λ (x : List ℕ). outcome (turn n (Answer.Reply (zeroReply ZeroLength.Abort))) (lent flash m (further area x) reply)) (kept refl)
-        ∙ says-told n ZeroLength.Abort (lent flash m (further area before) reply)
+        ap (λ (x : List ℕ). outcome (turn n (Answer.Reply (zeroReply ZeroLength.Abort))) (lent flash m (further area x events) reply)) (kept refl)
+        ∙ says-told n ZeroLength.Abort (lent flash m (further area before events) reply)
 
 -- a read of what is listed and lent has room in a reply
 abbrev pub wordsIn : Told → ℕ

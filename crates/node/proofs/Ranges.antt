@@ -30,17 +30,26 @@ use Rattle.qlist.specs.Commands.{Changed, changed, countIn, isWrite, canWrite, 
 use Rattle.qlist.specs.declared.Listed.{Listed}
 use Rattle.qlist.specs.declared.Listing.{Listing}
 use Rattle.qlist.proofs.Lengths.{close-count}
-use Rattle.node.specs.Effect.{Effect, Lent, Change, erasingNext, Setup, modeAfter, masksAfter, Join, writingAfter, Relist, listingAfter}
-use Rattle.node.specs.Valid.{sizeOk, givenOk, masksOk, erasingOk, askOk, receivedOk, gatheringOk, pendingOk, writingOk, listingOk, stateOk}
+use Rattle.report.specs.Status.{hasMasks}
+use Rattle.building.specs.Build.{hearsIn}
+use Rattle.building.specs.Promised.{Going, Most}
+use Rattle.building.specs.Valid.{buildingOk}
+use Rattle.building.specs.declared.Building.{Building}
+use Rattle.building.specs.declared.Progress.{Progress}
+use Rattle.building.proofs.Promised.{begun-ok, keeps, event-most}
+use Rattle.node.specs.Effect.{Effect, Lent, Change, erasingNext, Setup, modeAfter, masksAfter, Join, writingAfter, Relist, listingAfter, Occur, knownAfter}
+use Rattle.node.specs.Valid.{sizeOk, givenOk, masksOk, erasingOk, askOk, receivedOk, gatheringOk, pendingOk, writingOk, listingOk, eventsOk, stateOk}
 use Rattle.node.specs.Route.{asks, writes, routeOf}
-use Rattle.node.specs.Slaves.{received, nothingReceived, gathering, heard, silent, goesOn, packetIn, awaits, gathers, hears, askedAt, replyEffect, pollEffect}
-use Rattle.node.specs.Calls.{routed}
+use Rattle.node.specs.Slaves.{received, nothingReceived, gathering, heard, silent, goesOn, packetIn, awaits, gathers, comesTo, hears, askedAt, replyEffect, pollEffect}
+use Rattle.node.specs.Settings.{statusIn}
+use Rattle.node.specs.Events.{numberIn}
+use Rattle.node.specs.Calls.{routed, buildFrom, buildEffect}
 use Rattle.node.specs.declared.Ask.{Ask}
 use Rattle.node.specs.declared.Gathering.{Gathering}
 use Rattle.node.specs.declared.Node.{Node}
 use Rattle.node.specs.declared.Pending.{Pending}
 use Rattle.node.proofs.Routes.{Named, joins-fit, route-case}
-use Rattle.node.proofs.Why.{Why, Sets, Relisted, Relists}
+use Rattle.node.proofs.Why.{Why, Sets, Relisted, Relists, Emptied, Occurs}
 use Rattle.node.proofs.Directories.{some-words}
 
 -- two tests that hold
@@ -56,6 +65,7 @@ pub record Ranges (n : Node) : Type 0 where
   pub pending : pendingOk (n .given .ports) (n .pending) ≡ true
   pub writing : writingOk (n .given .ports) (n .writing) ≡ true
   pub listing : listingOk (n .listing) ≡ true
+  pub events : eventsOk (n .events) ≡ true
 
 pub ranges-tell : (n : Node) → stateOk n ≡ true → Ranges n
 unfolding stateOk
@@ -67,7 +77,9 @@ ranges-tell n h =
     let e = pendingOk (n .given .ports) (n .pending) in
     let f = writingOk (n .given .ports) (n .writing) in
     let g = listingOk (n .listing) in
-    let abcdef = and-left (a && b && c && d && e && f) g h in
+    let i = eventsOk (n .events) in
+    let abcdefg = and-left (a && b && c && d && e && f && g) i h in
+    let abcdef = and-left (a && b && c && d && e && f) g abcdefg in
     let abcde = and-left (a && b && c && d && e) f abcdef in
     let abcd = and-left (a && b && c && d) e abcde in
     let abc = and-left (a && b && c) d abcd in
@@ -79,13 +91,15 @@ ranges-tell n h =
       erasing = and-right (a && b && c) d abcd;
       pending = and-right (a && b && c && d) e abcde;
       writing = and-right (a && b && c && d && e) f abcdef;
-      listing = and-right (a && b && c && d && e && f) g h;
+      listing = and-right (a && b && c && d && e && f) g abcdefg;
+      events = and-right (a && b && c && d && e && f && g) i h;
     }
 
 pub ranges-told : (n : Node) → Ranges n → stateOk n ≡ true
 unfolding stateOk
 ranges-told n r =
-    and-both (and-both (and-both (and-both (and-both (and-both (r .given) (r .mode)) (r .masks)) (r .erasing)) (r .pending)) (r .writing)) (r .listing)
+    and-both (and-both (and-both (and-both (and-both (and-both (and-both (r .given) (r .mode)) (r .masks)) (r .erasing)) (r .pending)) (r .writing)) (r .listing))
+    (r .events)
 
 -- a flash of either size has words for every sector
 pub size-some : (words : ℕ) → sizeOk words ≡ true → 0 < words / 16
@@ -397,19 +411,64 @@ module _ (ports : ℕ) (n : Node) (clock : ℕ) (h : Heard) (words reply : List 
         pick-case (λ (e : Effect). pendingOk ports (e .pending) ≡ true) (partBy h (g .received .words) (length words) (g .built .words) (length yet))
         awaited (λ _. next-asked yet refl)
 
-  hears-pending : (p : Pending) → pendingOk ports p ≡ true → pendingOk ports (hears p n clock h words reply .pending) ≡ true
-  hears-pending Pending.Nothing ok = refl
-  hears-pending (Pending.Slave a) ok = refl
-  hears-pending (Pending.Group a g) ok = gathers-pending a g ok
+-- .. and of a build's slave too; an event has at most 12,288 words
+abbrev pub Heeded : ℕ → Node → Effect → Type 0
+Heeded ports n e = (pendingOk ports (e .pending) ≡ true) × (eventsOk (n .events) ≡ true → eventsOk (knownAfter (e .event) (n .events)) ≡ true)
 
-pub reply-pending : (n : Node) (ports clock : ℕ) (errors : Bool) (status address bc : ℕ) (words reply : List ℕ) → 12288 ≤ length reply
-    → pendingOk ports (n .pending) ≡ true → pendingOk ports (replyEffect n clock errors status address bc words reply .pending) ≡ true
+module _ (ports : ℕ) (n : Node) (clock : ℕ) (h : Heard) (words events reply : List ℕ) (large : 12288 ≤ length events) (big : 12288 ≤ length reply) where
+  hears-pending : (p : Pending) → pendingOk ports p ≡ true → Heeded ports n (hears p n clock h words events reply)
+  hears-pending Pending.Nothing ok = (refl, λ e. e)
+  hears-pending (Pending.Slave a) ok = (refl, λ e. e)
+  hears-pending (Pending.Group a g) ok = (gathers-pending ports n clock h words reply big a g ok, quiet)
+    where
+      quiet : eventsOk (n .events) ≡ true → eventsOk (knownAfter (gathers n a g clock h words reply .event) (n .events)) ≡ true
+      quiet =
+          pick-case (λ (x : Effect). eventsOk (n .events) ≡ true → eventsOk (knownAfter (x .event) (n .events)) ≡ true)
+          (partBy h (g .received .words) (length words) (g .built .words) (length (above (g .set) (a .slave)))) (λ _ e. e) (λ _. by (nextOf (above (g .set) (a .slave))))
+        where
+          by : (next : Next) → eventsOk (n .events) ≡ true
+              → eventsOk (knownAfter (goesOn n a g clock (taken (assembly reply (g .built)) (length (above (g .set) (a .slave))) (a .slave) (packetIn g h words reply)) next .event) (n .events)) ≡ true
+          by Next.Nobody e = e
+          by (Next.Slave s) e = e
+  hears-pending (Pending.Build b) ok =
+      by (hearsIn (numberIn n) (statusIn n) clock b h words events .progress) (keeps (numberIn n) (statusIn n) clock b h words events ok)
+      (event-most (numberIn n) (statusIn n) clock b h words events ok)
+    where
+      by : (p : Progress) → Going (λ (x : Building). buildingOk x ≡ true) p → Most p → Heeded ports n (comesTo p n (hearsIn (numberIn n) (statusIn n) clock b h words events .events) reply)
+      by (Progress.Asks x) k m = (k, λ e. e)
+      by (Progress.Awaits x) k m = (k, λ e. e)
+      by Progress.NoEvent k m = (refl, λ e. e)
+      by (Progress.Event w error) k m = (refl, λ e. le-leb w 12288 m)
+
+pub reply-pending : (n : Node) (ports clock : ℕ) (errors : Bool) (status address bc : ℕ) (words events reply : List ℕ) → 12288 ≤ length events
+    → 12288 ≤ length reply → pendingOk ports (n .pending) ≡ true → Heeded ports n (replyEffect n clock errors status address bc words events reply)
 unfolding replyEffect
-reply-pending n ports clock errors status address bc words reply big ok =
-    hears-pending ports n clock (heard (isLate clock (askedAt (n .pending))) errors status address bc) words reply big (n .pending) ok
+reply-pending n ports clock errors status address bc words events reply large big ok =
+    hears-pending ports n clock (heard (isLate clock (askedAt (n .pending))) errors status address bc) words events reply large big (n .pending) ok
 
-pub poll-pending : (n : Node) (ports clock : ℕ) (reply : List ℕ) → 12288 ≤ length reply → pendingOk ports (n .pending) ≡ true → pendingOk ports (pollEffect n clock reply .pending) ≡ true
+pub poll-pending : (n : Node) (ports clock : ℕ) (events reply : List ℕ) → 12288 ≤ length events → 12288 ≤ length reply → pendingOk ports (n .pending) ≡ true
+    → Heeded ports n (pollEffect n clock events reply)
 unfolding pollEffect
-poll-pending n ports clock reply big ok =
-    pick-case (λ (e : Effect). pendingOk ports (e .pending) ≡ true) (isLate clock (askedAt (n .pending)))
-    (λ _. hears-pending ports n clock silent [] reply big (n .pending) ok) (λ _. ok)
+poll-pending n ports clock events reply large big ok =
+    pick-case (Heeded ports n) (isLate clock (askedAt (n .pending)))
+    (λ _. hears-pending ports n clock silent [] events reply large big (n .pending) ok) (λ _. (ok, λ e. e))
+
+-- a build begins with the lowest slave of mask 0
+pub build-pending : (n : Node) (ports clock : ℕ) → masksOk (n .masks) ≡ true → pendingOk ports (n .pending) ≡ true → Heeded ports n (buildEffect n clock)
+build-pending n ports clock m ok =
+    pick-case (Heeded ports n) (hasMasks (n .given .kind) && eqb (n .events .unread) 0) (λ _. by (nextOf (slavesOf (getD (n .masks) 0 0))) refl)
+    (λ _. (ok, λ e. e))
+  where
+    by : (next : Next) → nextOf (slavesOf (getD (n .masks) 0 0)) ≡ next → Heeded ports n (buildFrom next n clock)
+    by Next.Nobody h = (ok, λ e. e)
+    by (Next.Slave s) h =
+        let t = next-slave (slavesOf (getD (n .masks) 0 0)) s h in
+        let u = up-tells (getD (n .masks) 0 0) 0 s (t .0) (t .1) in
+        (begun-ok (getD (n .masks) 0 0) s clock (mask-below (n .masks) 0 m) (omega (arith, u .below)) (u .member), λ e. e)
+
+-- a request leaves an event unread, or none
+pub occurs-known : (o : Occur) (n : Node) (packet : List ℕ) → Occurs o n packet → eventsOk (n .events) ≡ true → eventsOk (knownAfter o (n .events)) ≡ true
+occurs-known Occur.Kept n packet w h = h
+occurs-known (Occur.Knows e) n packet (Emptied.Handed c) h = refl
+occurs-known (Occur.Knows e) n packet (Emptied.Reset c) h = refl
+occurs-known (Occur.Laid e words) n packet w h = absurd w

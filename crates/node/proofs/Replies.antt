@@ -32,19 +32,20 @@ use Rattle.qlist.specs.declared.Listed.{Listed}
 use Rattle.qlist.proofs.Lengths.{length-told}
 use Rattle.node.specs.Refusals.{requestVerdict}
 use Rattle.node.specs.Route.{routeOf}
-use Rattle.node.specs.Effect.{Did, Effect, Lent, Outcome, says, answers, applied}
+use Rattle.node.specs.Effect.{Did, Effect, Lent, Outcome, says, hands, answers, applied}
 use Rattle.node.specs.Status.{statusWords, maskWords, maskWordsFrom}
 use Rattle.node.specs.Settings.{statusIn, statusOf, pingOf, modeReadOf, modeWriteOf, maskReadOf, maskWriteOf}
 use Rattle.node.specs.Files.{joined, isErasing, unlessErasing, namedBy, seen, readBy, readAt, readOf, testAt, testOf, loadBy, loadAt, loadOf, placedFor, writeAt, fileWriteOf, toErase, eraseAt, eraseStartOf, setTo, attributeBy, attributeAt, attributeSetOf, summaryOf}
 use Rattle.node.specs.Memories.{dataRoom, memoryReadOf, memoryWriteOf, performIoOf}
 use Rattle.node.specs.Lists.{relisted, changesList, listWriteOf, listDeleteOf, listReadOf}
-use Rattle.node.specs.Own.{settingsOf, memoriesOf, filesOf, listsOf, onFiles, onMemories, onList, ownOf}
+use Rattle.node.specs.Events.{allRead, eventReadOf, numberReadOf, resetOf}
+use Rattle.node.specs.Own.{settingsOf, memoriesOf, filesOf, listsOf, onFiles, onMemories, onList, onEvents, ownOf}
 use Rattle.node.specs.Calls.{judged, routed, requestOf}
 use Rattle.node.specs.declared.Answer.{Answer}
 use Rattle.node.specs.declared.Node.{Node}
 use Rattle.node.specs.declared.Verdict.{Verdict}
 use Rattle.node.proofs.Routes.{route-case}
-use Rattle.node.proofs.Verdicts.{request-fine}
+use Rattle.node.proofs.Verdicts.{request-fine, unread-most}
 
 -- a reply that has its place in an answer
 abbrev pub Short : Reply → Type 0
@@ -209,9 +210,9 @@ module _ (n : Node) (l : Lent) (packet : List ℕ) where
 
   -- the commands on the node itself
   settings-replied : (id clock link : ℕ) → Replied (settingsOf id n clock link packet)
-  unfolding settingsOf statusOf statusWords pingOf modeReadOf modeWriteOf maskReadOf maskWriteOf
+  unfolding settingsOf statusOf statusWords pingOf modeReadOf modeWriteOf maskReadOf maskWriteOf numberReadOf resetOf
   settings-replied id clock link =
-      pick-case Replied (eqb id 0x0C) (λ _. sized 1 _ (short (statusIn n) (statusWords (n .given) (n .counts) clock link) (omega arith)))
+      pick-case Replied (eqb id 0x0C) (λ _. sized 1 _ (short (statusIn n) (statusWords (n .given) (n .counts) (n .events) clock link) (omega arith)))
       (λ _. pick-case Replied (eqb id 0x0D)
       (λ _. pick-case Replied (leb (length packet) 8001)
       (λ e. short (statusIn n) (drop 1 packet) (omega (arith, leb-true (length packet) 8001 e, length-drop 1 packet))) (λ _. abort))
@@ -223,7 +224,9 @@ module _ (n : Node) (l : Lent) (packet : List ℕ) where
       (λ _. pick-case Replied (eqb id 0x57)
       (λ _. pick-case Replied (hasMasks (n .given .kind))
       (λ _. sized 3 _ (pick-case Replied (ltb (getD packet 1 0) 4096) (λ _. end) (λ _. abort))) (λ _. abort))
-      (λ _. abort))))))
+      (λ _. pick-case Replied (eqb id 0x02) (λ _. sized 1 _ (short (statusIn n) (n .events .last ∷ 0 ∷ []) (omega arith)))
+      (λ _. pick-case Replied (eqb id 0x42) (λ _. sized 1 _ end)
+      (λ _. abort))))))))
 
   -- the commands on the Q-List, of which at most 910 entries are listed
   changes-replied : (c : Changed) → Replied (changesList c)
@@ -243,13 +246,22 @@ module _ (n : Node) (l : Lent) (packet : List ℕ) where
       (λ _. pick-case Replied (eqb id 0x5C) (λ _. changes-replied (writeIn (n .listing) clock (drop 1 packet) (l .further .list)))
       (λ _. abort)))
 
+  -- Read Event, of at most 12,288 words
+  events-replied : n .events .unread ≤ 12288 → Replied (eventReadOf n (l .further .events) packet)
+  unfolding eventReadOf
+  events-replied most =
+      sized 1 (pick (eqb (n .events .unread) 0) (says ZeroLength.End) (hands (allRead (n .events)) (take (n .events .unread) (l .further .events))))
+      (pick-case Replied (eqb (n .events .unread) 0) (λ _. end)
+      (λ _. let k = length-take (n .events .unread) (l .further .events) in ((omega arith, omega (arith, k, most)), refl)))
+
   pub own-replied : (id clock link : ℕ) → length (n .directory) ≡ 32 → n .listing .entries ≤ 910 → n .listing .entries ≤ recordsIn (l .further .list)
-      → Replied (ownOf id n clock link packet l)
+      → n .events .unread ≤ 12288 → Replied (ownOf id n clock link packet l)
   unfolding ownOf
-  own-replied id clock link d most lent =
+  own-replied id clock link d most lent unread =
       pick-case Replied (onFiles id) (λ _. files-replied id d)
       (λ _. pick-case Replied (onMemories id) (λ _. memories-replied id)
-      (λ _. pick-case Replied (onList id) (λ _. lists-replied id clock most lent) (λ _. settings-replied id clock link)))
+      (λ _. pick-case Replied (onList id) (λ _. lists-replied id clock most lent)
+      (λ _. pick-case Replied (onEvents id) (λ _. events-replied unread) (λ _. settings-replied id clock link))))
 
 -- whether a call is answered by a reply, and that its reply is short
 abbrev pub isReply : Answer → Bool
@@ -261,6 +273,9 @@ isReply (Answer.Next slave) = false
 isReply Answer.Waiting = false
 isReply (Answer.Erased count) = false
 isReply (Answer.Slow slow) = false
+isReply (Answer.AskEvent slave) = false
+isReply Answer.NoEvent = false
+isReply (Answer.Built words) = false
 
 abbrev ShortIn : Answer → Type 0
 ShortIn (Answer.Refused r) = Unit {0}
@@ -271,12 +286,15 @@ ShortIn (Answer.Next slave) = Unit {0}
 ShortIn Answer.Waiting = Unit {0}
 ShortIn (Answer.Erased count) = Unit {0}
 ShortIn (Answer.Slow slow) = Unit {0}
+ShortIn (Answer.AskEvent slave) = Unit {0}
+ShortIn Answer.NoEvent = Unit {0}
+ShortIn (Answer.Built words) = Unit {0}
 
 module _ (n : Node) (clock link bc : ℕ) (errors : Bool) (packet : List ℕ) (l : Lent) where
   abbrev verdict : Verdict
   verdict =
       requestVerdict n link (length packet) (length (l .flash)) (length (l .memories .pm)) (length (l .memories .dm)) (length (l .memories .io))
-      (length (l .further .area)) (recordsIn (l .further .list)) (length (l .reply))
+      (length (l .further .area)) (recordsIn (l .further .list)) (length (l .further .events)) (length (l .reply))
 
   -- the directory is an array of 32 words, and a call that is taken lists at most 910 entries, all of them lent
   pub request-short : length (n .directory) ≡ 32 → (r : Reply) → requestOf n clock link bc errors packet l .turn .answer ≡ Answer.Reply r → Short r
@@ -285,11 +303,11 @@ module _ (n : Node) (clock link bc : ℕ) (errors : Bool) (packet : List ℕ) (l
     where
       by : (v : Verdict) → verdict ≡ v → ShortIn (judged v n l (routed (routeOf n link bc errors packet) n clock link packet l) .turn .answer)
       by Verdict.Fine q =
-          let f = request-fine n link (length packet) _ _ _ _ _ _ _ q in
+          let f = request-fine n link (length packet) _ _ _ _ _ _ _ _ q in
           route-case (λ t. ShortIn (routed t n clock link packet l .answer)) n link bc errors packet (omega arith, omega arith) (omega arith, omega arith)
           (λ _ _. (omega arith, omega arith)) (λ _ _. (omega arith, omega arith)) (λ _ _. (omega arith, omega arith))
           (λ from at j. (omega arith, omega arith)) (λ at k. write-replied n l packet (joined (l .further .area) at packet) .0)
-          (λ id w c. own-replied n l packet id clock link d (omega (arith, f .most, f .listed)) (f .listed) .0) (λ s h. tt) (λ set from s named e. tt)
+          (λ id w c. own-replied n l packet id clock link d (omega (arith, f .most, f .listed)) (f .listed) (unread-most n (f .fits .state)) .0) (λ s h. tt) (λ set from s named e. tt)
       by (Verdict.No x) q = tt
 
   -- what a request is lent changes only where it is answered by a reply
@@ -323,6 +341,9 @@ LaysIn (Answer.Next slave) before after = Unit {0}
 LaysIn Answer.Waiting before after = Unit {0}
 LaysIn (Answer.Erased count) before after = Unit {0}
 LaysIn (Answer.Slow slow) before after = Unit {0}
+LaysIn (Answer.AskEvent slave) before after = Unit {0}
+LaysIn Answer.NoEvent before after = Unit {0}
+LaysIn (Answer.Built words) before after = Unit {0}
 
 module _ (n : Node) (clock link bc : ℕ) (errors : Bool) (packet : List ℕ) (l : Lent) where
   none : Lays (l .reply) (l .reply) 0
@@ -339,10 +360,10 @@ module _ (n : Node) (clock link bc : ℕ) (errors : Bool) (packet : List ℕ) (l
       by : (v : Verdict) → verdict n clock link bc errors packet l ≡ v
           → let o : Outcome = judged v n l (routed (routeOf n link bc errors packet) n clock link packet l) in LaysIn (o .turn .answer) (l .reply) (o .after .reply)
       by Verdict.Fine q =
-          let f = request-fine n link (length packet) _ _ _ _ _ _ _ q in
+          let f = request-fine n link (length packet) _ _ _ _ _ _ _ _ q in
           route-case (λ t. LaysBy (routed t n clock link packet l)) n link bc errors packet none none (λ _ _. none) (λ _ _. none) (λ _ _. none)
           (λ from at j. none)
           (λ at k. let w = fileWriteOf n (l .flash) (joined (l .further .area) at packet) in record { laying = w .words; size = write-replied n l packet (joined (l .further .area) at packet) .1; laid = refl })
-          (λ id w c. record { laying = ownOf id n clock link packet l .words; size = own-replied n l packet id clock link d (omega (arith, f .most, f .listed)) (f .listed) .1; laid = refl })
+          (λ id w c. record { laying = ownOf id n clock link packet l .words; size = own-replied n l packet id clock link d (omega (arith, f .most, f .listed)) (f .listed) (unread-most n (f .fits .state)) .1; laid = refl })
           (λ s h. tt) (λ set from s named e. tt)
       by (Verdict.No x) q = tt

@@ -2,7 +2,7 @@
 -- all commands; a command that leaves both is told by `none`. A slave's answer leaves both, and the write that stands. Assumes nothing.
 use Prim.Native.Nat.{ℕ, _+_, _*_, _%_, _≤_, _<_}
 use mathlib.Core.Path.{_≡_, refl, ap, _∙_}
-use mathlib.Core.Bool.{Bool, true, false, false≢true}
+use mathlib.Core.Bool.{Bool, true, false, _&&_, false≢true}
 use mathlib.Core.List.{List, []}
 use native.Mathlib.Omega.{arith}
 use lib.ListN.{length, getD, drop}
@@ -28,7 +28,7 @@ use Rattle.flash.proofs.Kept.{Place, kept-words, place-tells, target-tells}
 use Rattle.flash.proofs.Searches.{found-tells}
 use Rattle.flash.proofs.Statuses.{good-file, first-word}
 use Rattle.group.specs.Kind.{partBy}
-use Rattle.group.specs.Slaves.{above, nextOf}
+use Rattle.group.specs.Slaves.{slavesOf, above, nextOf}
 use Rattle.group.specs.Fragment.{assembly, taken}
 use Rattle.group.specs.Time.{isLate}
 use Rattle.group.specs.declared.Heard.{Heard}
@@ -36,18 +36,24 @@ use Rattle.group.specs.declared.Next.{Next}
 use Rattle.group.specs.declared.ZeroLength.{ZeroLength}
 use Rattle.memory.specs.Command.{readable, writable, performable}
 use Rattle.memory.specs.Load.{loadable}
+use Rattle.report.specs.Status.{hasMasks}
+use Rattle.building.specs.Build.{hearsIn}
+use Rattle.building.specs.declared.Progress.{Progress}
 use Rattle.qlist.specs.Commands.{Changed, changed, writeIn, deleteIn}
 use Rattle.qlist.specs.declared.Listed.{Listed}
 use Rattle.qlist.specs.declared.Listing.{Listing}
-use Rattle.node.specs.Effect.{Effect, Did, Lent, says, Change, Setup, Join, Relist}
+use Rattle.node.specs.State.{known}
+use Rattle.node.specs.Effect.{Effect, Did, Lent, says, Change, Setup, Join, Relist, Occur}
 use Rattle.node.specs.Settings.{statusIn as ownStatus, statusOf as statusWordsOf, pingOf, modeReadOf, modeWriteOf, maskReadOf, maskWriteOf}
 use Rattle.node.specs.Files.{isErasing, unlessErasing, namedBy, seen, readBy, readAt, readOf, testAt, testOf, loadBy, loadAt, loadOf, isExact, isMissing, placedFor, writeAt, fileWriteOf, joined, foundBy, toErase, eraseAt, eraseStartOf, setTo, attributeBy, attributeAt, attributeSetOf, summaryOf}
 use Rattle.node.specs.Memories.{dataRoom, memoryReadOf, memoryWriteOf, performIoOf}
 use Rattle.node.specs.Lists.{relisted, changesList, listReadOf, listDeleteOf, listWriteOf}
-use Rattle.node.specs.Own.{settingsOf, memoriesOf, filesOf, listsOf, onFiles, onMemories, onList, ownOf}
-use Rattle.node.specs.Slaves.{heard, silent, goesOn, packetIn, yetToAsk, hears, askedAt, replyEffect, pollEffect}
-use Rattle.node.specs.Calls.{routed}
+use Rattle.node.specs.Events.{numberIn, allRead, eventReadOf, numberReadOf, resetOf}
+use Rattle.node.specs.Own.{settingsOf, memoriesOf, filesOf, listsOf, onFiles, onMemories, onList, onEvents, ownOf}
+use Rattle.node.specs.Slaves.{heard, silent, goesOn, packetIn, yetToAsk, comesTo, hears, askedAt, replyEffect, pollEffect}
+use Rattle.node.specs.Calls.{routed, buildFrom, buildEffect}
 use Rattle.node.specs.Route.{routeOf}
+use Rattle.node.specs.declared.Events.{Events}
 use Rattle.node.specs.declared.Node.{Node}
 use Rattle.node.specs.declared.Pending.{Pending}
 use Rattle.node.proofs.Routes.{Command, Later, Whole, route-case}
@@ -117,6 +123,16 @@ abbrev pub Relists : Relist → Node → ℕ → List ℕ → List ℕ → Type 
 Relists Relist.Kept n clock packet list = Unit {0}
 Relists (Relist.Became g words) n clock packet list = Relisted n clock packet list g words
 
+-- what is known of events changes by Read Event, which hands one out, and by Reset Event FIFO
+pub data Emptied (n : Node) (packet : List ℕ) : Events → Type 0 where
+  Handed : Command packet 0x01 → Emptied n packet (allRead (n .events))
+  Reset : Command packet 0x42 → Emptied n packet (known 0 (n .events .errors) 0)
+
+abbrev pub Occurs : Occur → Node → List ℕ → Type 0
+Occurs Occur.Kept n packet = Unit {0}
+Occurs (Occur.Knows e) n packet = Emptied n packet e
+Occurs (Occur.Laid e words) n packet = ⊥
+
 -- the placing rule was asked for a valid file of an unused name
 exact-valid : (file : List ℕ) → isExact (fileEnd file) (length file) ≡ true → fileEnd file ≡ End.At (length file)
 exact-valid file h = by (fileEnd file) h
@@ -153,10 +169,12 @@ module _ (n : Node) (link bc : ℕ) (packet : List ℕ) (l : Lent) (clock : ℕ)
 
   -- why a command does what it does
   abbrev pub Reason : Did → Type 0
-  Reason d = Why (d .change) n link bc packet l × (Sets (d .setup) packet × Relists (d .list) n clock packet (l .further .list))
+  Reason d =
+      Why (d .change) n link bc packet l
+      × (Sets (d .setup) packet × (Relists (d .list) n clock packet (l .further .list) × Occurs (d .event) n packet))
 
-  none : Unit {0} × (Unit {0} × Unit {0})
-  none = (tt, (tt, tt))
+  none : Unit {0} × (Unit {0} × (Unit {0} × Unit {0}))
+  none = (tt, (tt, (tt, tt)))
 
   idle-reason : (d : Did) → (n .erasing ≡ Erasing.Nothing → Reason d) → Reason (unlessErasing n d)
   unfolding none
@@ -229,7 +247,7 @@ module _ (n : Node) (link bc : ℕ) (packet : List ℕ) (l : Lent) (clock : ℕ)
     where
       by : n .erasing ≡ Erasing.Nothing → (f : Found) → placedFor n flash file ≡ f → Reason (writeAt file f)
       by e Found.Nothing h = none
-      by e (Found.At s) h = (placed-tells file s w e h, (tt, tt))
+      by e (Found.At s) h = (placed-tells file s w e h, (tt, (tt, tt)))
 
   erase-reason : Whole n link bc → Command packet 0x47 → Reason (eraseStartOf n packet)
   unfolding eraseStartOf none
@@ -237,7 +255,7 @@ module _ (n : Node) (link bc : ℕ) (packet : List ℕ) (l : Lent) (clock : ℕ)
     where
       by : n .erasing ≡ Erasing.Nothing → (f : Found) → toErase n (getD packet 1 0) ≡ f → Reason (eraseAt f)
       by e Found.Nothing h = none
-      by e (Found.At s) h = (record { whole = w; command = c; idle = e; named = h; sector = erase-sector n (getD packet 1 0) s h }, (tt, tt))
+      by e (Found.At s) h = (record { whole = w; command = c; idle = e; named = h; sector = erase-sector n (getD packet 1 0) s h }, (tt, (tt, tt)))
 
   attribute-reason : Whole n link bc → Command packet 0x48 → Reason (attributeSetOf n flash packet)
   unfolding attributeSetOf none
@@ -261,7 +279,7 @@ module _ (n : Node) (link bc : ℕ) (packet : List ℕ) (l : Lent) (clock : ℕ)
               good = g;
               set = ap (λ (x : ℕ). settingOf x (getD packet 2 0)) w ∙ q;
             },
-            (tt, tt),
+            (tt, (tt, tt)),
           )
 
       by : n .erasing ≡ Erasing.Nothing → (s : ℕ) → namedBy n (getD packet 1 0) ≡ Target.At s → (x : Status) → seen n flash s ≡ x → Reason (attributeBy s (sectorOf flash s) (getD packet 2 0) x)
@@ -313,14 +331,14 @@ module _ (n : Node) (link bc : ℕ) (packet : List ℕ) (l : Lent) (clock : ℕ)
 
   -- the commands on the node itself leave the flash
   settings-reason : (id : ℕ) → Command packet id → Reason (settingsOf id n clock link packet)
-  unfolding settingsOf statusWordsOf pingOf modeReadOf modeWriteOf maskReadOf maskWriteOf none
+  unfolding settingsOf statusWordsOf pingOf modeReadOf modeWriteOf maskReadOf maskWriteOf none numberReadOf resetOf
   settings-reason id c =
       pick-case Reason (eqb id 0x0C) (λ _. pick-case Reason (eqb (length packet) 1) (λ _. none) (λ _. none))
       (λ _. pick-case Reason (eqb id 0x0D) (λ _. pick-case Reason (leb (length packet) 8001) (λ _. none) (λ _. none))
       (λ _. pick-case Reason (eqb id 0x12) (λ _. pick-case Reason (eqb (length packet) 1) (λ _. none) (λ _. none))
       (λ _. pick-case Reason (eqb id 0x52)
       (λ e. pick-case Reason (eqb (length packet) 2)
-      (λ _. pick-case Reason (leb (getD packet 1 0) 3) (λ q. (tt, (record { command = is 0x52 c e; most = leb-true (getD packet 1 0) 3 q }, tt))) (λ _. none))
+      (λ _. pick-case Reason (leb (getD packet 1 0) 3) (λ q. (tt, (record { command = is 0x52 c e; most = leb-true (getD packet 1 0) 3 q }, (tt, tt)))) (λ _. none))
       (λ _. none))
       (λ _. pick-case Reason (eqb id 0x17)
       (λ _. pick-case Reason (eqb (n .given .kind) 2) (λ _. pick-case Reason (eqb (length packet) 1) (λ _. none) (λ _. none)) (λ _. none))
@@ -328,11 +346,14 @@ module _ (n : Node) (link bc : ℕ) (packet : List ℕ) (l : Lent) (clock : ℕ)
       (λ e. pick-case Reason (eqb (n .given .kind) 2)
       (λ _. pick-case Reason (eqb (length packet) 3)
       (λ _. pick-case Reason (ltb (getD packet 1 0) 4096)
-      (λ q. let b = ltb-true (getD packet 1 0) 4096 q in (tt, (record { command = is 0x57 c e; below = omega arith; words = refl }, tt)))
+      (λ q. let b = ltb-true (getD packet 1 0) 4096 q in (tt, (record { command = is 0x57 c e; below = omega arith; words = refl }, (tt, tt))))
       (λ _. none))
       (λ _. none))
       (λ _. none))
-      (λ _. none))))))
+      (λ _. pick-case Reason (eqb id 0x02) (λ _. pick-case Reason (eqb (length packet) 1) (λ _. none) (λ _. none))
+      (λ _. pick-case Reason (eqb id 0x42)
+      (λ e. pick-case Reason (eqb (length packet) 1) (λ _. (tt, (tt, (tt, Emptied.Reset (is 0x42 c e))))) (λ _. none))
+      (λ _. none))))))))
 
   -- the commands on the Q-List leave flash and settings
   lists-reason : (id : ℕ) → Command packet id → Reason (listsOf id n clock (l .further .list) packet)
@@ -348,19 +369,30 @@ module _ (n : Node) (link bc : ℕ) (packet : List ℕ) (l : Lent) (clock : ℕ)
       by x f = at (x .listed) refl
         where
           at : (y : Listed) → x .listed ≡ y → Reason (relisted y (x .words))
-          at (Listed.Entries g) h = (tt, (tt, f g (x .words) (ap (λ (z : Listed). changed z (x .words)) h)))
+          at (Listed.Entries g) h = (tt, (tt, (f g (x .words) (ap (λ (z : Listed). changed z (x .words)) h), tt)))
           at Listed.Abort h = none
+
+  -- Read Event leaves them, and all but what is known of events
+  events-reason : Command packet 0x01 → Reason (eventReadOf n (l .further .events) packet)
+  unfolding eventReadOf none
+  events-reason c =
+      pick-case Reason (eqb (length packet) 1)
+      (λ _. pick-case Reason (eqb (n .events .unread) 0) (λ _. none) (λ _. (tt, (tt, (tt, Emptied.Handed c)))))
+      (λ _. none)
 
   pub own-reason : (id : ℕ) → Whole n link bc → Command packet id → Reason (ownOf id n clock link packet l)
   unfolding ownOf
   own-reason id w c =
       pick-case Reason (onFiles id) (λ _. files-reason id w c)
       (λ _. pick-case Reason (onMemories id) (λ _. memories-reason id)
-      (λ _. pick-case Reason (onList id) (λ _. lists-reason id c) (λ _. settings-reason id c)))
+      (λ _. pick-case Reason (onList id) (λ _. lists-reason id c)
+      (λ _. pick-case Reason (onEvents id) (λ e. events-reason (is 0x01 c e)) (λ _. settings-reason id c))))
 
   -- and why a request does: own commands and the last packet of a write alone change anything
   abbrev pub Because : Effect → Type 0
-  Because e = Why (e .change) n link bc packet l × (Sets (e .setup) packet × Relists (e .list) n clock packet (l .further .list))
+  Because e =
+      Why (e .change) n link bc packet l
+      × (Sets (e .setup) packet × (Relists (e .list) n clock packet (l .further .list) × Occurs (e .event) n packet))
 
   pub request-why : (errors : Bool) → Because (routed (routeOf n link bc errors packet) n clock link packet l)
   unfolding none
@@ -376,24 +408,43 @@ pub record Quiet (e : Effect) : Type 0 where
   pub join : e .join ≡ Join.Kept
   pub list : e .list ≡ Relist.Kept
 
-hears-quiet : (p : Pending) (n : Node) (clock : ℕ) (h : Heard) (words reply : List ℕ) → Quiet (hears p n clock h words reply)
-hears-quiet Pending.Nothing n clock h words reply = record { change = refl; setup = refl; join = refl; list = refl }
-hears-quiet (Pending.Slave a) n clock h words reply = record { change = refl; setup = refl; join = refl; list = refl }
-hears-quiet (Pending.Group a g) n clock h words reply =
+hears-quiet : (p : Pending) (n : Node) (clock : ℕ) (h : Heard) (words events reply : List ℕ) → Quiet (hears p n clock h words events reply)
+hears-quiet Pending.Nothing n clock h words events reply = record { change = refl; setup = refl; join = refl; list = refl }
+hears-quiet (Pending.Slave a) n clock h words events reply = record { change = refl; setup = refl; join = refl; list = refl }
+hears-quiet (Pending.Group a g) n clock h words events reply =
     pick-case Quiet (partBy h (g .received .words) (length words) (g .built .words) (yetToAsk a g))
     (λ _. record { change = refl; setup = refl; join = refl; list = refl }) (λ _. by (nextOf (above (g .set) (a .slave))))
   where
     by : (next : Next) → Quiet (goesOn n a g clock (taken (assembly reply (g .built)) (yetToAsk a g) (a .slave) (packetIn g h words reply)) next)
     by Next.Nobody = record { change = refl; setup = refl; join = refl; list = refl }
     by (Next.Slave s) = record { change = refl; setup = refl; join = refl; list = refl }
+hears-quiet (Pending.Build b) n clock h words events reply = by (hearsIn (numberIn n) (ownStatus n) clock b h words events .progress)
+  where
+    by : (p : Progress) → Quiet (comesTo p n (hearsIn (numberIn n) (ownStatus n) clock b h words events .events) reply)
+    by (Progress.Asks x) = record { change = refl; setup = refl; join = refl; list = refl }
+    by (Progress.Awaits x) = record { change = refl; setup = refl; join = refl; list = refl }
+    by Progress.NoEvent = record { change = refl; setup = refl; join = refl; list = refl }
+    by (Progress.Event w error) = record { change = refl; setup = refl; join = refl; list = refl }
 
-pub reply-quiet : (n : Node) (clock : ℕ) (errors : Bool) (status address bc : ℕ) (words reply : List ℕ) → Quiet (replyEffect n clock errors status address bc words reply)
+pub reply-quiet : (n : Node) (clock : ℕ) (errors : Bool) (status address bc : ℕ) (words events reply : List ℕ)
+    → Quiet (replyEffect n clock errors status address bc words events reply)
 unfolding replyEffect
-reply-quiet n clock errors status address bc words reply =
-    let q = hears-quiet (n .pending) n clock (heard (isLate clock (askedAt (n .pending))) errors status address bc) words reply in
+reply-quiet n clock errors status address bc words events reply =
+    let q = hears-quiet (n .pending) n clock (heard (isLate clock (askedAt (n .pending))) errors status address bc) words events reply in
     record { change = q .change; setup = q .setup; join = q .join; list = q .list }
 
-pub poll-quiet : (n : Node) (clock : ℕ) (reply : List ℕ) → Quiet (pollEffect n clock reply)
+pub poll-quiet : (n : Node) (clock : ℕ) (events reply : List ℕ) → Quiet (pollEffect n clock events reply)
 unfolding pollEffect
-poll-quiet n clock reply =
-    pick-case Quiet (isLate clock (askedAt (n .pending))) (λ _. hears-quiet (n .pending) n clock silent [] reply) (λ _. record { change = refl; setup = refl; join = refl; list = refl })
+poll-quiet n clock events reply =
+    pick-case Quiet (isLate clock (askedAt (n .pending))) (λ _. hears-quiet (n .pending) n clock silent [] events reply)
+    (λ _. record { change = refl; setup = refl; join = refl; list = refl })
+
+-- neither does a build that begins, nor anything that is known of events
+pub build-quiet : (n : Node) (clock : ℕ) → Quiet (buildEffect n clock)
+build-quiet n clock =
+    pick-case Quiet (hasMasks (n .given .kind) && eqb (n .events .unread) 0) (λ _. by (nextOf (slavesOf (getD (n .masks) 0 0))))
+    (λ _. by Next.Nobody)
+  where
+    by : (next : Next) → Quiet (buildFrom next n clock)
+    by Next.Nobody = record { change = refl; setup = refl; join = refl; list = refl }
+    by (Next.Slave s) = record { change = refl; setup = refl; join = refl; list = refl }

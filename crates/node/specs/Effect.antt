@@ -1,4 +1,5 @@
--- What a call does, as values: its answer, what it changes of flash, memories, settings, the write that stands and the Q-List, the errors it counts.
+-- What a call does, as values: its answer, what it changes of flash, memories, settings, the write that stands, the Q-List and what is known of
+-- events, the errors it counts.
 -- A command that does not name a change does not make it. Assumes nothing.
 use Prim.Native.Nat.{ℕ, _+_}
 use mathlib.Core.Path.{_≡_}
@@ -23,6 +24,7 @@ use Rattle.qlist.specs.declared.Listing.{Listing}
 use Rattle.report.specs.Status.{counted}
 use Rattle.node.specs.State.{node, turn, counts, joining}
 use Rattle.node.specs.declared.Answer.{Answer}
+use Rattle.node.specs.declared.Events.{Events}
 use Rattle.node.specs.declared.Node.{Node}
 use Rattle.node.specs.declared.Pending.{Pending}
 use Rattle.node.specs.declared.Turn.{Turn}
@@ -143,17 +145,37 @@ abbrev pub listAfter : Relist → List ℕ → List ℕ
 listAfter Relist.Kept list = list
 listAfter (Relist.Became g words) list = words
 
--- The further runs of 02, which a request is lent: the area in which the packets of a file join (request 1), and the Q-List, seven words a
--- record (request 7).
+-- A change of what is known of events, and with it of the event area. 02, request 12.
+pub data Occur : Type 0 where
+  -- none
+  Kept : Occur
+  -- what is then known
+  Knows : Events → Occur
+  -- what is then known, and the words of the event area
+  Laid : Events → List ℕ → Occur
+
+abbrev pub knownAfter : Occur → Events → Events
+knownAfter Occur.Kept e = e
+knownAfter (Occur.Knows e) before = e
+knownAfter (Occur.Laid e words) before = e
+
+abbrev pub eventsAfter : Occur → List ℕ → List ℕ
+eventsAfter Occur.Kept events = events
+eventsAfter (Occur.Knows e) events = events
+eventsAfter (Occur.Laid e words) events = words
+
+-- The further runs of 02, which a request is lent: the area in which the packets of a file join (request 1), the Q-List, seven words a
+-- record (request 7), and the event area (request 12).
 pub record Further : Type 0 where
   pub area : List ℕ
   pub list : List ℕ
+  pub events : List ℕ
 
-abbrev pub further : List ℕ → List ℕ → Further
-further area list = record { area = area; list = list }
+abbrev pub further : List ℕ → List ℕ → List ℕ → Further
+further area list events = record { area = area; list = list; events = events }
 
-abbrev pub furtherAfter : Join → Relist → Further → Further
-furtherAfter j q x = further (areaAfter j (x .area)) (listAfter q (x .list))
+abbrev pub furtherAfter : Join → Relist → Occur → Further → Further
+furtherAfter j q o x = further (areaAfter j (x .area)) (listAfter q (x .list)) (eventsAfter o (x .events))
 
 -- What an own command does: its reply, the words that it lays at the front of the reply buffer, its changes, and whether it
 -- counts a FLASH error.
@@ -165,10 +187,11 @@ pub record Did : Type 0 where
   pub setup : Setup
   pub fault : Bool
   pub list : Relist
+  pub event : Occur
 
--- One that leaves the Q-List.
+-- One that leaves the Q-List and what is known of events.
 abbrev pub did : Reply → List ℕ → Change → Store → Setup → Bool → Did
-did r ws c s u fault = record { reply = r; words = ws; change = c; store = s; setup = u; fault = fault; list = Relist.Kept }
+did r ws c s u fault = record { reply = r; words = ws; change = c; store = s; setup = u; fault = fault; list = Relist.Kept; event = Occur.Kept }
 
 -- A 0-length reply and nothing else.
 abbrev pub says : ZeroLength → Did
@@ -198,6 +221,35 @@ relists g words =
       setup = Setup.Kept;
       fault = false;
       list = Relist.Became g words;
+      event = Occur.Kept;
+    }
+
+-- END, and other events known.
+abbrev pub knows : Events → Did
+knows e =
+    record {
+      reply = zeroReply ZeroLength.End;
+      words = [];
+      change = Change.Kept;
+      store = Store.Kept;
+      setup = Setup.Kept;
+      fault = false;
+      list = Relist.Kept;
+      event = Occur.Knows e;
+    }
+
+-- An event handed out as it stands, in one packet, and other events known.
+abbrev pub hands : Events → List ℕ → Did
+hands e ws =
+    record {
+      reply = replied 3 (length ws);
+      words = ws;
+      change = Change.Kept;
+      store = Store.Kept;
+      setup = Setup.Kept;
+      fault = false;
+      list = Relist.Kept;
+      event = Occur.Knows e;
     }
 
 -- A read reply is data, reply status, FCS, in one packet.
@@ -233,18 +285,19 @@ pub record Effect : Type 0 where
   pub setup : Setup
   pub join : Join
   pub list : Relist
+  pub event : Occur
   pub amswire : Bool
   pub fault : Bool
   pub pending : Pending
   pub reply : List ℕ
 
-abbrev pub effect : Answer → Change → Store → Setup → Join → Relist → Bool → Bool → Pending → List ℕ → Effect
-effect a c s u j q amswire fault p r =
-    record { answer = a; change = c; store = s; setup = u; join = j; list = q; amswire = amswire; fault = fault; pending = p; reply = r }
+abbrev pub effect : Answer → Change → Store → Setup → Join → Relist → Occur → Bool → Bool → Pending → List ℕ → Effect
+effect a c s u j q o amswire fault p r =
+    record { answer = a; change = c; store = s; setup = u; join = j; list = q; event = o; amswire = amswire; fault = fault; pending = p; reply = r }
 
 -- Nothing but an answer, what is then pending, and the reply buffer.
 abbrev pub only : Answer → Pending → List ℕ → Effect
-only a p r = effect a Change.Kept Store.Kept Setup.Kept Join.Kept Relist.Kept false false p r
+only a p r = effect a Change.Kept Store.Kept Setup.Kept Join.Kept Relist.Kept Occur.Kept false false p r
 
 -- One function applies it.
 abbrev pub nodeAfter : Node → List ℕ → Effect → Node
@@ -253,18 +306,18 @@ nodeAfter n flash e =
     (modeAfter (e .setup) (n .mode))
     (counts (counted (e .amswire) (n .counts .amswire)) (counted (e .fault) (n .counts .flash)))
     (erasingNext (e .change) (n .erasing) (unitOf flash)) (e .pending) (writingAfter (e .join) (n .writing))
-    (listingAfter (e .list) (n .listing))
+    (listingAfter (e .list) (n .listing)) (knownAfter (e .event) (n .events))
 
 abbrev pub applied : Node → Lent → Effect → Outcome
 applied n l e =
     outcome (turn (nodeAfter n (l .flash) e) (e .answer))
     (lent (flashAfter (e .change) (n .erasing) (l .flash)) (memoriesAfter (e .store) (l .memories))
-    (furtherAfter (e .join) (e .list) (l .further)) (e .reply))
+    (furtherAfter (e .join) (e .list) (e .event) (l .further)) (e .reply))
 
 -- An own command's outcome: its words are laid at the front of the reply buffer, and what is pending stays.
 abbrev pub owns : Node → Lent → Did → Effect
 owns n l d =
-    effect (Answer.Reply (d .reply)) (d .change) (d .store) (d .setup) Join.Kept (d .list) false (d .fault) (n .pending) (laid (l .reply) 0 (d .words))
+    effect (Answer.Reply (d .reply)) (d .change) (d .store) (d .setup) Join.Kept (d .list) (d .event) false (d .fault) (n .pending) (laid (l .reply) 0 (d .words))
 
 abbrev pub ownOutcome : Node → Lent → Did → Outcome
 ownOutcome n l d = applied n l (owns n l d)
@@ -299,8 +352,8 @@ Changes n d before r after =
 -- .. the Q-List alone ..
 abbrev pub Lists : Node → Did → List ℕ → Turn → List ℕ → Type 0
 Lists n d before r after =
-    (flash : List ℕ) (m : Memories) (area reply : List ℕ)
-    → outcome r (lent flash m (further area after) reply) ≡ ownOutcome n (lent flash m (further area before) reply) d
+    (flash : List ℕ) (m : Memories) (area events reply : List ℕ)
+    → outcome r (lent flash m (further area after events) reply) ≡ ownOutcome n (lent flash m (further area before events) reply) d
 
 -- .. the memories alone.
 abbrev pub Stores : Node → Did → Memories → Turn → Memories → Type 0

@@ -37,7 +37,7 @@ memoryWriteOf memory words packet =
 -- 0F: Perform IO takes an IO segment, and answers it with the read values filled in.
 abbrev pub withStore : Did → Store → Did
 withStore d s =
-    record { reply = d .reply; words = d .words; change = d .change; store = s; setup = d .setup; fault = d .fault; list = d .list }
+    record { reply = d .reply; words = d .words; change = d .change; store = s; setup = d .setup; fault = d .fault; list = d .list; event = d .event }
 
 unfoldable pub performIoOf : ℕ → List ℕ → List ℕ → Did
 performIoOf status io packet =

@@ -1,4 +1,4 @@
--- When a call is refused, and by what: 01 'Call refusals', and 8 and 9 of 02, requests 1 and 7. Each call has a list of causes in the table's order,
+-- When a call is refused, and by what: 01 'Call refusals', and 8, 9 and 11 of 02, requests 1, 7 and 12. Each call has a list of causes in the table's order,
 -- each where the call has that input; it is refused by the first that holds. Assumes nothing.
 use Prim.Native.Nat.{ℕ}
 use mathlib.Core.Bool.{Bool, true, false, _&&_, _||_, not}
@@ -50,6 +50,10 @@ areaCause area = cause Refusal.AreaSize (ltb area 32768)
 abbrev pub listCause : Node → ℕ → Cause
 listCause n records = cause Refusal.ListSize (ltb 910 records || ltb records (n .listing .entries))
 
+-- 11: the event area is below 12,288 words. 02, request 12, has it after 9.
+abbrev pub eventsCause : ℕ → Cause
+eventsCause events = cause Refusal.EventsSize (ltb events 12288)
+
 -- 4: the link isn't below the port count; the slave is above 23.
 abbrev pub linkCause : Node → ℕ → Cause
 linkCause n link = cause Refusal.Number (leb (n .given .ports) link)
@@ -61,20 +65,25 @@ slaveCause slave = cause Refusal.Number (ltb 23 slave)
 abbrev pub stateCause : Node → Cause
 stateCause n = cause Refusal.State (not (stateOk n))
 
--- A request is pending; a slave is now being asked.
+-- A request or a build is pending; a slave is now being asked.
 abbrev pub isPending : Pending → Bool
 isPending Pending.Nothing = false
 isPending (Pending.Slave a) = true
 isPending (Pending.Group a g) = true
+isPending (Pending.Build b) = true
 
 abbrev pub isAsked : Pending → ℕ → Bool
 isAsked Pending.Nothing slave = false
 isAsked (Pending.Slave a) slave = eqb (a .slave) slave
 isAsked (Pending.Group a g) slave = eqb (a .slave) slave
+isAsked (Pending.Build b) slave = eqb (b .slave) slave
 
--- 6: a request of one word or more while a request is pending.
+-- 6: a request of one word or more, or a build, while either is pending.
 abbrev pub busyCause : Node → ℕ → Cause
 busyCause n packet = cause Refusal.Busy (isPending (n .pending) && leb 1 packet)
+
+abbrev pub buildingCause : Node → Cause
+buildingCause n = cause Refusal.Busy (isPending (n .pending))
 
 -- 7: a poll with nothing pending; a reply from a slave not now being asked, which none is with nothing pending.
 abbrev pub pollCause : Node → Cause
@@ -85,23 +94,26 @@ unaskedCause n slave = cause Refusal.Unasked (not (isAsked (n .pending) slave))
 
 -- The calls, by the numbers they are given and the lengths of what they are lent.
 
-unfoldable pub requestVerdict : Node → ℕ → ℕ → ℕ → ℕ → ℕ → ℕ → ℕ → ℕ → ℕ → Verdict
-requestVerdict n link packet flash pm dm io area records reply =
+unfoldable pub requestVerdict : Node → ℕ → ℕ → ℕ → ℕ → ℕ → ℕ → ℕ → ℕ → ℕ → ℕ → Verdict
+requestVerdict n link packet flash pm dm io area records events reply =
     firstOf
-    (flashCause n flash ∷ replyCause reply ∷ memoryCause pm dm io ∷ areaCause area ∷ listCause n records ∷ linkCause n link ∷ stateCause n
-    ∷ busyCause n packet ∷ [])
+    (flashCause n flash ∷ replyCause reply ∷ memoryCause pm dm io ∷ areaCause area ∷ listCause n records ∷ eventsCause events ∷ linkCause n link
+    ∷ stateCause n ∷ busyCause n packet ∷ [])
 
-unfoldable pub replyVerdict : Node → ℕ → ℕ → Verdict
-replyVerdict n slave reply = firstOf (replyCause reply ∷ slaveCause slave ∷ stateCause n ∷ unaskedCause n slave ∷ [])
+unfoldable pub replyVerdict : Node → ℕ → ℕ → ℕ → Verdict
+replyVerdict n slave events reply = firstOf (replyCause reply ∷ eventsCause events ∷ slaveCause slave ∷ stateCause n ∷ unaskedCause n slave ∷ [])
 
-unfoldable pub pollVerdict : Node → ℕ → Verdict
-pollVerdict n reply = firstOf (replyCause reply ∷ stateCause n ∷ pollCause n ∷ [])
+unfoldable pub pollVerdict : Node → ℕ → ℕ → Verdict
+pollVerdict n events reply = firstOf (replyCause reply ∷ eventsCause events ∷ stateCause n ∷ pollCause n ∷ [])
 
 unfoldable pub eraseVerdict : Node → ℕ → Verdict
 eraseVerdict n flash = firstOf (flashCause n flash ∷ stateCause n ∷ [])
 
 unfoldable pub slowVerdict : Node → ℕ → Verdict
 slowVerdict n records = firstOf (listCause n records ∷ stateCause n ∷ [])
+
+unfoldable pub buildVerdict : Node → ℕ → Verdict
+buildVerdict n events = firstOf (eventsCause events ∷ stateCause n ∷ buildingCause n ∷ [])
 
 -- At start, 1: the flash has neither size; 4: ports not 1 to 4, kind unknown or sub-detector above 7.
 unfoldable pub startVerdict : ℕ → ℕ → ℕ → ℕ → Verdict

@@ -18,7 +18,7 @@ statusIn n = ownStatus (n .given .«start_tests») (n .mode)
 -- 0C: Status has the ten words of section 7.2 before status and FCS.
 unfoldable pub statusOf : Node → ℕ → ℕ → List ℕ → Did
 statusOf n clock link packet =
-    pick (eqb (length packet) 1) (answers (statusIn n) (statusWords (n .given) (n .counts) clock link)) (says ZeroLength.Abort)
+    pick (eqb (length packet) 1) (answers (statusIn n) (statusWords (n .given) (n .counts) (n .events) clock link)) (says ZeroLength.Abort)
 
 -- 0D: Ping takes 0 to 8,000 words, and answers them.
 unfoldable pub pingOf : Node → List ℕ → Did

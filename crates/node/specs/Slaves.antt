@@ -1,4 +1,4 @@
--- What comes of a slave's answer: 01 'Group assembly', 02, request 8. Assumes nothing.
+-- What comes of a slave's answer: 01 'Group assembly', 02, requests 8 and 12. Assumes nothing.
 use Prim.Native.Nat.{ℕ, _+_}
 use mathlib.Core.Bool.{Bool, true, false, _&&_, not}
 use mathlib.Core.List.{List, []}
@@ -15,12 +15,17 @@ use Rattle.group.specs.declared.Built.{Built}
 use Rattle.group.specs.declared.Heard.{Heard}
 use Rattle.group.specs.declared.Next.{Next}
 use Rattle.group.specs.declared.Received.{Received}
-use Rattle.node.specs.State.{turn, withPending}
+use Rattle.report.specs.Status.{counted}
+use Rattle.building.specs.Build.{Moved, hearsIn}
+use Rattle.building.specs.declared.Progress.{Progress}
+use Rattle.node.specs.State.{turn, withPending, known}
 use Rattle.node.specs.Route.{asking}
-use Rattle.node.specs.Effect.{Effect, effect, only}
+use Rattle.node.specs.Effect.{Effect, effect, only, Change, Store, Setup, Join, Relist, Occur}
 use Rattle.node.specs.Settings.{statusIn}
+use Rattle.node.specs.Events.{numberIn}
 use Rattle.node.specs.declared.Answer.{Answer}
 use Rattle.node.specs.declared.Ask.{Ask}
+use Rattle.node.specs.declared.Events.{Events}
 use Rattle.node.specs.declared.Gathering.{Gathering}
 use Rattle.node.specs.declared.Node.{Node}
 use Rattle.node.specs.declared.Pending.{Pending}
@@ -49,6 +54,11 @@ silent = heard true false 0 0 0
 -- A reply is sent, and nothing is pending any more.
 abbrev pub sends : Sent → Effect
 sends s = only (Answer.Reply (s .reply)) Pending.Nothing (s .buffer)
+
+-- An answer, what is then pending and what is known of events, the event area and the reply buffer.
+abbrev pub builds : Answer → Pending → Events → List ℕ → List ℕ → Effect
+builds a p e events reply =
+    effect a Change.Kept Store.Kept Setup.Kept Join.Kept Relist.Kept (Occur.Laid e events) false false p reply
 
 -- The node's turn where the next slave is asked: no lent run has a part in it.
 abbrev pub askedNext : Node → Ask → Gathering → ℕ → Built → ℕ → Turn
@@ -99,32 +109,46 @@ gathers n a g clock h words reply =
     pick (partBy h (g .received .words) (length words) (g .built .words) (yetToAsk a g)) (awaits a g clock h words reply)
     (gathersLast n a g clock h words reply)
 
--- A single slave's reply passes unchanged; a group's is assembled.
-abbrev pub hears : Pending → Node → ℕ → Heard → List ℕ → List ℕ → Effect
-hears Pending.Nothing n clock h words reply = only Answer.Waiting Pending.Nothing reply
-hears (Pending.Slave a) n clock h words reply = sends (passedOn reply (answer h words))
-hears (Pending.Group a g) n clock h words reply = gathers n a g clock h words reply
+-- What a build comes to: a slave is asked for its event, or NEXT is sent to it; or the build has ended, with no event, or with one that then is
+-- unread, whose number is the last one, and an error of which is counted. 02, request 12.
+abbrev pub comesTo : Progress → Node → List ℕ → List ℕ → Effect
+comesTo (Progress.Asks b) n events reply = builds (Answer.AskEvent (b .slave)) (Pending.Build b) (n .events) events reply
+comesTo (Progress.Awaits b) n events reply = builds (Answer.Next (b .slave)) (Pending.Build b) (n .events) events reply
+comesTo Progress.NoEvent n events reply = builds Answer.NoEvent Pending.Nothing (n .events) events reply
+comesTo (Progress.Event words error) n events reply =
+    builds (Answer.Built words) Pending.Nothing (known (numberIn n) (counted error (n .events .errors)) words) events reply
+
+abbrev pub raises : Moved → Node → List ℕ → Effect
+raises m n reply = comesTo (m .progress) n (m .events) reply
+
+-- A single slave's reply passes unchanged; a group's is assembled; a build's goes into its event.
+abbrev pub hears : Pending → Node → ℕ → Heard → List ℕ → List ℕ → List ℕ → Effect
+hears Pending.Nothing n clock h words events reply = only Answer.Waiting Pending.Nothing reply
+hears (Pending.Slave a) n clock h words events reply = sends (passedOn reply (answer h words))
+hears (Pending.Group a g) n clock h words events reply = gathers n a g clock h words reply
+hears (Pending.Build b) n clock h words events reply = raises (hearsIn (numberIn n) (statusIn n) clock b h words events) n reply
 
 -- When the slave was asked.
 abbrev pub askedAt : Pending → ℕ
 askedAt Pending.Nothing = 0
 askedAt (Pending.Slave a) = a .at
 askedAt (Pending.Group a g) = a .at
+askedAt (Pending.Build b) = b .at
 
 -- A slave reply taken, before its timeout, with receive errors counts one AMSWire error.
 abbrev pub withAmswire : Bool → Effect → Effect
-withAmswire errors e = effect (e .answer) (e .change) (e .store) (e .setup) (e .join) (e .list) errors (e .fault) (e .pending) (e .reply)
+withAmswire errors e = effect (e .answer) (e .change) (e .store) (e .setup) (e .join) (e .list) (e .event) errors (e .fault) (e .pending) (e .reply)
 
 abbrev pub errorIn : Heard → Bool
 errorIn h = not (h .late) && h .errors
 
 -- A slave's reply: 60 ticks of 10 ms or more is a timeout, also when a reply is delivered then.
-unfoldable pub replyEffect : Node → ℕ → Bool → ℕ → ℕ → ℕ → List ℕ → List ℕ → Effect
-replyEffect n clock errors status address bc words reply =
+unfoldable pub replyEffect : Node → ℕ → Bool → ℕ → ℕ → ℕ → List ℕ → List ℕ → List ℕ → Effect
+replyEffect n clock errors status address bc words events reply =
     withAmswire (errorIn (heard (isLate clock (askedAt (n .pending))) errors status address bc))
-    (hears (n .pending) n clock (heard (isLate clock (askedAt (n .pending))) errors status address bc) words reply)
+    (hears (n .pending) n clock (heard (isLate clock (askedAt (n .pending))) errors status address bc) words events reply)
 
 -- A poll: waiting, until the timeout.
-unfoldable pub pollEffect : Node → ℕ → List ℕ → Effect
-pollEffect n clock reply =
-    pick (isLate clock (askedAt (n .pending))) (hears (n .pending) n clock silent [] reply) (only Answer.Waiting (n .pending) reply)
+unfoldable pub pollEffect : Node → ℕ → List ℕ → List ℕ → Effect
+pollEffect n clock events reply =
+    pick (isLate clock (askedAt (n .pending))) (hears (n .pending) n clock silent [] events reply) (only Answer.Waiting (n .pending) reply)

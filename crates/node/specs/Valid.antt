@@ -1,4 +1,4 @@
--- Which values are states of a node: all others are refused by 5. 01 'Call refusals', row 5, and 02, requests 1, 7 and 8. Assumes nothing.
+-- Which values are states of a node: all others are refused by 5. 01 'Call refusals', row 5, and 02, requests 1, 7, 8 and 12. Assumes nothing.
 use Prim.Native.Nat.{ℕ, _+_, _*_, _/_}
 use mathlib.Core.Bool.{Bool, true, _&&_, _||_}
 use mathlib.Core.List.{List, [], _∷_}
@@ -9,7 +9,9 @@ use Rattle.flash.specs.declared.Erasing.{Erasing}
 use Rattle.base.specs.Pick.{pick}
 use Rattle.group.specs.Slaves.{hasSlave, above}
 use Rattle.qlist.specs.declared.Listing.{Listing}
+use Rattle.building.specs.Valid.{buildingOk}
 use Rattle.node.specs.declared.Ask.{Ask}
+use Rattle.node.specs.declared.Events.{Events}
 use Rattle.node.specs.declared.Gathering.{Gathering}
 use Rattle.node.specs.declared.Given.{Given}
 use Rattle.node.specs.declared.Node.{Node}
@@ -64,6 +66,7 @@ abbrev pub pendingOk : ℕ → Pending → Bool
 pendingOk ports Pending.Nothing = true
 pendingOk ports (Pending.Slave a) = askOk ports a
 pendingOk ports (Pending.Group a g) = askOk ports a && gatheringOk (a .slave) g
+pendingOk ports (Pending.Build b) = buildingOk b
 
 -- While a write stands: its link is below the ports, and its words joined are at most 32,768. 02, request 1.
 abbrev pub writingOk : ℕ → Writing → Bool
@@ -74,6 +77,10 @@ writingOk ports (Writing.File j) = ltb (j .link) ports && leb (j .words) 32768
 abbrev pub listingOk : Listing → Bool
 listingOk g = leb (g .entries) 910 && pick (eqb (g .entries) 0) (eqb (g .turn) 0) (ltb (g .turn) (g .entries))
 
+-- An unread event has at most 12,288 words. 02, request 12.
+abbrev pub eventsOk : Events → Bool
+eventsOk e = leb (e .unread) 12288
+
 unfoldable pub stateOk : Node → Bool
 stateOk n =
     givenOk (n .given)
@@ -83,3 +90,4 @@ stateOk n =
     && pendingOk (n .given .ports) (n .pending)
     && writingOk (n .given .ports) (n .writing)
     && listingOk (n .listing)
+    && eventsOk (n .events)

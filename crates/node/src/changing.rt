@@ -39,6 +39,7 @@ pub fn with_flash(node: Node, directory: [u16; 32], erasing: Erasing) -> Node
     let pending = node.pending;
     let writing = node.writing;
     let listing = node.listing;
+    let events = node.events;
     Node {
         masks,
         directory,
@@ -49,6 +50,7 @@ pub fn with_flash(node: Node, directory: [u16; 32], erasing: Erasing) -> Node
         pending,
         writing,
         listing,
+        events,
     }
 }
 

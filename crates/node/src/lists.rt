@@ -90,7 +90,7 @@ pub fn lists(
     requires { ⌜ 12288 ≤ length (now reply) ⌝ }
     requires { ⌜ node .listing .entries ≤ 910 ⌝ }
     requires { ⌜ node .listing .entries ≤ recordsIn (now list) ⌝ }
-    ensures { λ r. ⌜ ((flash : List ℕ) (m : Memories) (area : List ℕ) → outcome r (lent flash m (further area (now (list .exit))) (now (reply .exit))) ≡ ownOutcome node (lent flash m (further area (now (list .entry))) (now (reply .entry))) (listsOf id node clock (now (list .entry)) (now (packet .entry)))) ⌝ }
+    ensures { λ r. ⌜ ((flash : List ℕ) (m : Memories) (area events : List ℕ) → outcome r (lent flash m (further area (now (list .exit)) events) (now (reply .exit))) ≡ ownOutcome node (lent flash m (further area (now (list .entry)) events) (now (reply .entry))) (listsOf id node clock (now (list .entry)) (now (packet .entry)))) ⌝ }
 {
     match id {
         0x1C => list_read(node, packet, list, reply),

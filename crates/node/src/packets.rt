@@ -30,6 +30,7 @@ pub fn with_writing(node: Node, writing: Writing) -> Node
     let erasing = node.erasing;
     let pending = node.pending;
     let listing = node.listing;
+    let events = node.events;
     Node {
         masks,
         directory,
@@ -40,6 +41,7 @@ pub fn with_writing(node: Node, writing: Writing) -> Node
         pending,
         writing,
         listing,
+        events,
     }
 }
 
@@ -69,7 +71,7 @@ pub fn end_writing(done: Turn) -> Turn
 pub fn join(node: Node, link: u32, from: usize, at: usize, packet: &[u16], area: &mut [u16]) -> Turn
     requires { ⌜ from ≤ length (now packet) ⌝ }
     requires { ⌜ at + length (now packet) ≤ length (now area) ⌝ }
-    ensures { λ r. ⌜ ((clock : ℕ) (flash : List ℕ) (m : Memories) (list reply : List ℕ) → outcome r (lent flash m (further (now (area .exit)) list) reply) ≡ applied node (lent flash m (further (now (area .entry)) list) reply) (routed (Route.Join from at) node clock link (now (packet .entry)) (lent flash m (further (now (area .entry)) list) reply))) ⌝ }
+    ensures { λ r. ⌜ ((clock : ℕ) (flash : List ℕ) (m : Memories) (list events reply : List ℕ) → outcome r (lent flash m (further (now (area .exit)) list events) reply) ≡ applied node (lent flash m (further (now (area .entry)) list events) reply) (routed (Route.Join from at) node clock link (now (packet .entry)) (lent flash m (further (now (area .entry)) list events) reply))) ⌝ }
 {
     let words = &packet[from..];
     base::copy(area, at, words);
@@ -85,7 +87,7 @@ pub fn write_last(
     area: &mut [u16],
 ) -> Turn
     requires { ⌜ at + length (now packet) ≤ length (now area) ⌝ }
-    ensures { λ r. ⌜ ((clock link : ℕ) (m : Memories) (list reply : List ℕ) → outcome r (lent (now (flash .exit)) m (further (now (area .exit)) list) reply) ≡ applied node (lent (now (flash .entry)) m (further (now (area .entry)) list) reply) (routed (Route.Last at) node clock link (now (packet .entry)) (lent (now (flash .entry)) m (further (now (area .entry)) list) reply))) ⌝ }
+    ensures { λ r. ⌜ ((clock link : ℕ) (m : Memories) (list events reply : List ℕ) → outcome r (lent (now (flash .exit)) m (further (now (area .exit)) list events) reply) ≡ applied node (lent (now (flash .entry)) m (further (now (area .entry)) list events) reply) (routed (Route.Last at) node clock link (now (packet .entry)) (lent (now (flash .entry)) m (further (now (area .entry)) list events) reply))) ⌝ }
 {
     base::copy(area, at, packet);
     let end = at + packet.len();

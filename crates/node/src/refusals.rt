@@ -1,7 +1,7 @@
 // When a call is refused: by numbers alone, before any lent word is looked at.
 ghost use mathlib.Core.Path.{_≡_};
 ghost use Rattle.node.specs.State.{refusalNumber};
-ghost use Rattle.node.specs.Refusals.{isPending, isAsked, requestVerdict, replyVerdict, pollVerdict, eraseVerdict, slowVerdict, startVerdict};
+ghost use Rattle.node.specs.Refusals.{isPending, isAsked, requestVerdict, replyVerdict, pollVerdict, eraseVerdict, slowVerdict, buildVerdict, startVerdict};
 use crate::Node;
 use crate::Pending;
 use crate::Refusal;
@@ -26,10 +26,11 @@ pub fn refusal_number(refusal: Refusal) -> u32
         Refusal::AreaSize => 8,
         Refusal::ListSize => 9,
         Refusal::Overrun => 10,
+        Refusal::EventsSize => 11,
     }
 }
 
-// Whether a request is pending.
+// Whether a request or a build is pending.
 pub fn is_pending(pending: Pending) -> bool
     ensures { λ r. ⌜ r ≡ isPending pending ⌝ }
 {
@@ -37,6 +38,7 @@ pub fn is_pending(pending: Pending) -> bool
         Pending::Nothing => false,
         Pending::Slave(_) => true,
         Pending::Group(_, _) => true,
+        Pending::Build(_) => true,
     }
 }
 
@@ -48,6 +50,7 @@ pub fn is_asked(pending: Pending, slave: u32) -> bool
         Pending::Nothing => false,
         Pending::Slave(ask) => ask.slave == slave,
         Pending::Group(ask, _) => ask.slave == slave,
+        Pending::Build(building) => building.slave == slave,
     }
 }
 
@@ -61,9 +64,10 @@ pub fn request_verdict(
     io: usize,
     area: usize,
     records: usize,
+    events: usize,
     reply: usize,
 ) -> Verdict
-    ensures { λ r. ⌜ r ≡ requestVerdict node link packet flash pm dm io area records reply ⌝ }
+    ensures { λ r. ⌜ r ≡ requestVerdict node link packet flash pm dm io area records events reply ⌝ }
 {
     let given = node.given;
     let pending = node.pending;
@@ -83,6 +87,9 @@ pub fn request_verdict(
     if (910 < records) | (records < listing.entries) {
         return Verdict::No(Refusal::ListSize);
     }
+    if events < 12288 {
+        return Verdict::No(Refusal::EventsSize);
+    }
     if given.ports as u32 <= link {
         return Verdict::No(Refusal::Number);
     }
@@ -95,12 +102,15 @@ pub fn request_verdict(
     Verdict::Fine
 }
 
-pub fn reply_verdict(node: Node, slave: u32, reply: usize) -> Verdict
-    ensures { λ r. ⌜ r ≡ replyVerdict node slave reply ⌝ }
+pub fn reply_verdict(node: Node, slave: u32, events: usize, reply: usize) -> Verdict
+    ensures { λ r. ⌜ r ≡ replyVerdict node slave events reply ⌝ }
 {
     let pending = node.pending;
     if reply < 12288 {
         return Verdict::No(Refusal::ReplySize);
+    }
+    if events < 12288 {
+        return Verdict::No(Refusal::EventsSize);
     }
     if 23 < slave {
         return Verdict::No(Refusal::Number);
@@ -114,12 +124,15 @@ pub fn reply_verdict(node: Node, slave: u32, reply: usize) -> Verdict
     Verdict::Fine
 }
 
-pub fn poll_verdict(node: Node, reply: usize) -> Verdict
-    ensures { λ r. ⌜ r ≡ pollVerdict node reply ⌝ }
+pub fn poll_verdict(node: Node, events: usize, reply: usize) -> Verdict
+    ensures { λ r. ⌜ r ≡ pollVerdict node events reply ⌝ }
 {
     let pending = node.pending;
     if reply < 12288 {
         return Verdict::No(Refusal::ReplySize);
+    }
+    if events < 12288 {
+        return Verdict::No(Refusal::EventsSize);
     }
     if !state_ok(node) {
         return Verdict::No(Refusal::State);
@@ -152,6 +165,22 @@ pub fn slow_verdict(node: Node, records: usize) -> Verdict
     }
     if !state_ok(node) {
         return Verdict::No(Refusal::State);
+    }
+    Verdict::Fine
+}
+
+pub fn build_verdict(node: Node, events: usize) -> Verdict
+    ensures { λ r. ⌜ r ≡ buildVerdict node events ⌝ }
+{
+    let pending = node.pending;
+    if events < 12288 {
+        return Verdict::No(Refusal::EventsSize);
+    }
+    if !state_ok(node) {
+        return Verdict::No(Refusal::State);
+    }
+    if is_pending(pending) {
+        return Verdict::No(Refusal::Busy);
     }
     Verdict::Fine
 }

@@ -2,6 +2,7 @@
 ghost use mathlib.Core.Path.{_≡_};
 ghost use Rattle.node.specs.Calls.{given, startMasks, startedWith, started, nobody};
 use crate::Counts;
+use crate::Events;
 use crate::Given;
 use crate::Node;
 use crate::Pending;
@@ -66,6 +67,11 @@ pub fn begin_with(given: Given, directory: [u16; 32]) -> Node
             entries: 0,
             turn: 0,
         },
+        events: Events {
+            last: 0,
+            errors: 0,
+            unread: 0,
+        },
     }
 }
 
@@ -104,6 +110,11 @@ pub fn no_node() -> Node
         listing: Listing {
             entries: 0,
             turn: 0,
+        },
+        events: Events {
+            last: 0,
+            errors: 0,
+            unread: 0,
         },
     }
 }

@@ -1,13 +1,15 @@
 // Whether a value is a state of a node.
 ghost use mathlib.Core.Path.{_≡_};
 ghost use Rattle.group.specs.Slaves.{hasSlave};
-ghost use Rattle.node.specs.Valid.{sizeOk, kindOk, portsOk, givenOk, masksOk, erasingOk, askOk, receivedOk, gatheringOk, pendingOk, writingOk, listingOk, stateOk};
+ghost use Rattle.node.specs.Valid.{sizeOk, kindOk, portsOk, givenOk, masksOk, erasingOk, askOk, receivedOk, gatheringOk, pendingOk, writingOk, listingOk, eventsOk, stateOk};
 use crate::Ask;
+use crate::Events;
 use crate::Gathering;
 use crate::Given;
 use crate::Node;
 use crate::Pending;
 use crate::Writing;
+use building::valid::building_ok;
 use flash::Erasing;
 use qlist::Listing;
 
@@ -115,6 +117,7 @@ fn pending_ok(ports: u16, pending: Pending) -> bool
         Pending::Nothing => true,
         Pending::Slave(ask) => ask_ok(ports, ask),
         Pending::Group(ask, gathering) => ask_ok(ports, ask) & gathering_ok(ask.slave, gathering),
+        Pending::Build(building) => building_ok(building),
     }
 }
 
@@ -139,6 +142,12 @@ fn listing_ok(listing: Listing) -> bool
     listing.turn < listing.entries
 }
 
+fn events_ok(events: Events) -> bool
+    ensures { λ r. ⌜ r ≡ eventsOk events ⌝ }
+{
+    events.unread <= 12288
+}
+
 // Whether this is a state of a node.
 pub fn state_ok(node: Node) -> bool
     ensures { λ r. ⌜ r ≡ stateOk node ⌝ }
@@ -149,6 +158,7 @@ pub fn state_ok(node: Node) -> bool
     let pending = node.pending;
     let writing = node.writing;
     let listing = node.listing;
+    let events = node.events;
     given_ok(given)
         & (node.mode <= 3)
         & masks_ok(&masks)
@@ -156,4 +166,5 @@ pub fn state_ok(node: Node) -> bool
         & pending_ok(given.ports, pending)
         & writing_ok(given.ports, writing)
         & listing_ok(listing)
+        & events_ok(events)
 }

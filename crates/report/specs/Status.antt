@@ -19,9 +19,11 @@ counted false count = count
 unfoldable pub ownStatus : ℕ → ℕ → ℕ
 ownStatus tests mode = some (tests / 256 % 16) * 256 + mode / 2 % 2 * 128 + mode % 2 * 64 + 32
 
--- Node status word: bits 13 and 12 show nonzero AMSWire and FLASH counts, bits 11-8 the start tests, bits 1-0 the asking link.
-unfoldable pub nodeStatus : ℕ → ℕ → ℕ → ℕ → ℕ
-nodeStatus tests amswire flash link = some amswire * 8192 + some flash * 4096 + tests / 256 % 16 * 256 + link % 4
+-- Node status word: bits 14, 13 and 12 show nonzero counts of build errors (02, request 12), AMSWire and FLASH errors, bits 11-8 the start
+-- tests, bits 1-0 the asking link.
+unfoldable pub nodeStatus : ℕ → ℕ → ℕ → ℕ → ℕ → ℕ
+nodeStatus tests builds amswire flash link =
+    some builds * 16384 + some amswire * 8192 + some flash * 4096 + tests / 256 % 16 * 256 + link % 4
 
 -- Program attributes: program type 1, node type, sub-detector, ports, four bits each.
 unfoldable pub attributesOf : ℕ → ℕ → ℕ → ℕ

@@ -31,10 +31,14 @@ pub fn own_status(tests: u16, mode: u16) -> u16
 }
 
 // The node status word, for the link that asks.
-pub fn node_status(tests: u16, amswire: u16, flash: u16, link: u32) -> u16
-    ensures { λ r. ⌜ r ≡ nodeStatus tests amswire flash link ⌝ }
+pub fn node_status(tests: u16, builds: u16, amswire: u16, flash: u16, link: u32) -> u16
+    ensures { λ r. ⌜ r ≡ nodeStatus tests builds amswire flash link ⌝ }
 {
-    any(amswire) * 8192 + any(flash) * 4096 + tests / 256 % 16 * 256 + (link % 4) as u16
+    any(builds) * 16384
+        + any(amswire) * 8192
+        + any(flash) * 4096
+        + tests / 256 % 16 * 256
+        + (link % 4) as u16
 }
 
 // The program attributes.

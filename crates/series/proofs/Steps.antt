@@ -48,6 +48,9 @@ answer-case P f g (Answer.Next slave) = g (Answer.Next slave) refl
 answer-case P f g Answer.Waiting = g Answer.Waiting refl
 answer-case P f g (Answer.Erased count) = g (Answer.Erased count) refl
 answer-case P f g (Answer.Slow slow) = g (Answer.Slow slow) refl
+answer-case P f g (Answer.AskEvent slave) = g (Answer.AskEvent slave) refl
+answer-case P f g Answer.NoEvent = g Answer.NoEvent refl
+answer-case P f g (Answer.Built words) = g (Answer.Built words) refl
 
 pub if-none : (f : Reply → Step) (s : Step) (a : Answer) → isReply a ≡ false → ifReply a f s ≡ s
 if-none f s (Answer.Refused r) e = refl
@@ -58,17 +61,23 @@ if-none f s (Answer.Next slave) e = refl
 if-none f s Answer.Waiting e = refl
 if-none f s (Answer.Erased count) e = refl
 if-none f s (Answer.Slow slow) e = refl
+if-none f s (Answer.AskEvent slave) e = refl
+if-none f s Answer.NoEvent e = refl
+if-none f s (Answer.Built words) e = refl
 
 -- a `match` on an answer tells it by its number: a reply's is 2
-pub not-reply : (a : Answer) → OneOf (0 ∷ 1 ∷ 3 ∷ 4 ∷ 5 ∷ 6 ∷ 7 ∷ []) (tagOf the-type a) → isReply a ≡ false
+pub not-reply : (a : Answer) → OneOf (0 ∷ 1 ∷ 3 ∷ 4 ∷ 5 ∷ 6 ∷ 7 ∷ 8 ∷ 9 ∷ 10 ∷ []) (tagOf the-type a) → isReply a ≡ false
 not-reply (Answer.Refused r) k = refl
 not-reply Answer.Started k = refl
-not-reply (Answer.Reply r) k = absurd (miss (0 ∷ 1 ∷ 3 ∷ 4 ∷ 5 ∷ 6 ∷ 7 ∷ []) 2 tt k)
+not-reply (Answer.Reply r) k = absurd (miss (0 ∷ 1 ∷ 3 ∷ 4 ∷ 5 ∷ 6 ∷ 7 ∷ 8 ∷ 9 ∷ 10 ∷ []) 2 tt k)
 not-reply (Answer.Ask a) k = refl
 not-reply (Answer.Next slave) k = refl
 not-reply Answer.Waiting k = refl
 not-reply (Answer.Erased count) k = refl
 not-reply (Answer.Slow slow) k = refl
+not-reply (Answer.AskEvent slave) k = refl
+not-reply Answer.NoEvent k = refl
+not-reply (Answer.Built words) k = refl
 
 -- one that is not done leaves what is kept
 pub reply-stops : (k : Kept) (f : Reply → Kept) (a : Answer) → ifReply a (λ r. goOn (f r)) (stop k) .on ≡ false → ifReply a (λ r. goOn (f r)) (stop k) ≡ stop k

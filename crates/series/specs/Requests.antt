@@ -89,6 +89,9 @@ ifReply (Answer.Next slave) f s = s
 ifReply Answer.Waiting f s = s
 ifReply (Answer.Erased count) f s = s
 ifReply (Answer.Slow slow) f s = s
+ifReply (Answer.AskEvent slave) f s = s
+ifReply Answer.NoEvent f s = s
+ifReply (Answer.Built words) f s = s
 
 -- What comes of its call: BC and length, and behind them what the call left of its reply buffer.
 abbrev pub onward : Kept → Outcome → Step

@@ -27,14 +27,14 @@ use Rattle.listed.proofs.step.Tie as tie
 abbrev before : tie.Start → Kept
 before s =
     let a = s .args in
-    kept (a .node) (lent (a .flash .now) (memories (a .pm .now) (a .dm .now) (a .io .now)) (further (a .area .now) (a .list .now)) (a .replies .now)) (a .filled)
+    kept (a .node) (lent (a .flash .now) (memories (a .pm .now) (a .dm .now) (a .io .now)) (further (a .area .now) (a .list .now) (a .events .now)) (a .replies .now)) (a .filled)
 
 abbrev packet : tie.Start → Packet
 packet s = packetAt (s .args .packets .now) (s .args .at)
 
 -- the test is that of the definition
 abbrev begun : tie.After-is-left → tie.Start
-begun c = c .before .before .before .before .before .before .before .before .before .before .before
+begun c = c .before .before .before .before .before .before .before .before .before .before .before .before
 
 tested : (c : tie.After-is-left) → c .is-left .result ≡ isLeft (packet (begun c)) (length (begun c .args .replies .now)) (begun c .args .filled)
 tested c =
@@ -52,15 +52,15 @@ room c =
 directory-long : (s : tie.Start) → length (s .args .node .directory) ≡ 32
 directory-long s = search needs
 
+abbrev start : tie.After-request → tie.Start
+start c = c .before .before .before .before .before .before .before .before .before .before .before .before .before .before .before .before .before .before .before .before .before .before .before .before .before .before
+
 -- what the call came to, which is the packet's call as the definition has it
 abbrev called : tie.After-request → Outcome
 called c =
     outcome (c .request .result)
     (lent (c .request .last .1 .1 .1 .1 .1 .1 .0) (memories (c .request .last .1 .1 .1 .1 .1 .1 .1 .0) (c .request .last .1 .1 .1 .1 .1 .1 .1 .1 .0) (c .request .last .1 .1 .1 .1 .1 .1 .1 .1 .1 .0))
-    (further (c .request .last .1 .1 .1 .1 .1 .1 .1 .1 .1 .1 .0) (c .request .last .1 .1 .1 .1 .1 .1 .1 .1 .1 .1 .1 .0)) (c .request .last .1 .1 .1 .1 .1 .1 .1 .1 .1 .1 .1 .1 .0))
-
-abbrev start : tie.After-request → tie.Start
-start c = c .before .before .before .before .before .before .before .before .before .before .before .before .before .before .before .before .before .before .before .before .before .before .before .before .before
+    (further (c .request .last .1 .1 .1 .1 .1 .1 .1 .1 .1 .1 .0) (c .request .last .1 .1 .1 .1 .1 .1 .1 .1 .1 .1 .1 .0) (start c .args .events .now)) (c .request .last .1 .1 .1 .1 .1 .1 .1 .1 .1 .1 .1 .1 .1 .0))
 
 rest : (c : tie.After-request) → midOf (start c .args .filled + 2) (length (start c .args .replies .now) - (start c .args .filled + 2)) (start c .args .replies .now) ≡ drop (start c .args .filled + 2) (start c .args .replies .now)
 rest c = rest-is (start c .args .replies .now) (start c .args .filled + 2) (omega (arith, room (c .before .before .before .before .before .before .before .before .before .before .before .before .before)))
@@ -71,7 +71,7 @@ is-call c =
     let words : a .at + 3 + c .before .before .before .before .before .before .before .before .before .wide .result - (a .at + 3) ≡ getD (a .packets .now) (a .at + 2) 0 = omega (arith, c .before .before .before .before .before .before .before .before .before .wide .ensures) in
     c .request .ensures
     ∙ (λ i. requestOf (a .node) (a .clock) (c .before .before .before .before .before .before .before .before .before .before .before .number2 .ensures i) (c .before .before .before .before .before .before .before .before .before .before .before .before .before .before .before .number .ensures i) false (take (words i) (drop (a .at + 3) (a .packets .now)))
-    (lent (a .flash .now) (memories (a .pm .now) (a .dm .now) (a .io .now)) (further (a .area .now) (a .list .now)) (rest c i)))
+    (lent (a .flash .now) (memories (a .pm .now) (a .dm .now) (a .io .now)) (further (a .area .now) (a .list .now) (a .events .now)) (rest c i)))
 
 -- so its reply is short, and without one nothing is changed
 short : (c : tie.After-request) (r : Reply) → c .request .result .answer ≡ Answer.Reply r → Short r
@@ -94,10 +94,10 @@ leaves c e =
 -- the replies' run is as long as it was
 long : (c : tie.After-request) → start c .args .filled + 2 + length (called c .after .reply) ≡ length (start c .args .replies .now)
 long c =
-    omega (arith, c .request .kept .1 .1 .1 .1 .1 .1 .1 .1 .1 .1 .1 .1 .0, ap length (rest c), length-drop (start c .args .filled + 2) (start c .args .replies .now), room (c .before .before .before .before .before .before .before .before .before .before .before .before .before))
+    omega (arith, c .request .kept .1 .1 .1 .1 .1 .1 .1 .1 .1 .1 .1 .1 .1 .0, ap length (rest c), length-drop (start c .args .filled + 2) (start c .args .replies .now), room (c .before .before .before .before .before .before .before .before .before .before .before .before .before))
 
 whole : (c : tie.After-request) → length (putMid (start c .args .filled + 2) (length (start c .args .replies .now) - (start c .args .filled + 2)) (start c .args .replies .now) (called c .after .reply)) ≡ length (start c .args .replies .now)
-whole c = same-len-mid (start c .args .filled + 2) (length (start c .args .replies .now) - (start c .args .filled + 2)) (start c .args .replies .now) (called c .after .reply) (c .request .kept .1 .1 .1 .1 .1 .1 .1 .1 .1 .1 .1 .1 .0)
+whole c = same-len-mid (start c .args .filled + 2) (length (start c .args .replies .now) - (start c .args .filled + 2)) (start c .args .replies .now) (called c .after .reply) (c .request .kept .1 .1 .1 .1 .1 .1 .1 .1 .1 .1 .1 .1 .1 .0)
 
 add-number : tie.Need-add-number
 add-number c = search needs
@@ -115,7 +115,7 @@ is-left-requires : tie.Need-is-left-requires
 is-left-requires c κs = search needs
 
 returns : tie.Need-returns
-returns c = sym (step-left requestOf (c .before .before .before .before .before .before .before .before .before .before .before .before .args .clock) (c .before .before .before .before .before .before .before .before .before .before .before .before .args .packets .now) (before (c .before .before .before .before .before .before .before .before .before .before .before .before)) (packet (c .before .before .before .before .before .before .before .before .before .before .before .before)) (sym (tested (c .before)) ∙ c .if1 .taken))
+returns c = sym (step-left requestOf (c .before .before .before .before .before .before .before .before .before .before .before .before .before .args .clock) (c .before .before .before .before .before .before .before .before .before .before .before .before .before .args .packets .now) (before (c .before .before .before .before .before .before .before .before .before .before .before .before .before)) (packet (c .before .before .before .before .before .before .before .before .before .before .before .before .before)) (sym (tested (c .before)) ∙ c .if1 .taken))
 
 mul-number-2 : tie.Need-mul-number-2
 mul-number-2 c = search needs
@@ -145,7 +145,7 @@ add-to : tie.Need-add-to
 add-to c = search needs
 
 add-behind : tie.Need-add-behind
-add-behind c = omega (arith, room (c .before .before .before .before), c .before .before .before .before .before .before .before .before .before .before .before .before .before .before .before .before .good .1 .1 .1 .1 .1 .1 .1 .1 .1 .1 .1 .0)
+add-behind c = omega (arith, room (c .before .before .before .before), c .before .before .before .before .before .before .before .before .before .before .before .before .before .before .before .before .before .good .1 .1 .1 .1 .1 .1 .1 .1 .1 .1 .1 .1 .0)
 
 mul-request : tie.Need-mul-request
 mul-request c = search needs
@@ -160,7 +160,7 @@ part-request-end : tie.Need-part-request-end
 part-request-end c = search needs
 
 mul-request-2 : tie.Need-mul-request-2
-mul-request-2 c = omega (arith, room (c .before .before .before .before .before .before .before .before .before .before .before), c .before .before .before .before .before .before .before .before .before .before .before .before .before .before .before .before .before .before .before .before .before .before .before .good .1 .1 .1 .1 .1 .1 .1 .1 .1 .1 .1 .0)
+mul-request-2 c = omega (arith, room (c .before .before .before .before .before .before .before .before .before .before .before), c .before .before .before .before .before .before .before .before .before .before .before .before .before .before .before .before .before .before .before .before .before .before .before .before .good .1 .1 .1 .1 .1 .1 .1 .1 .1 .1 .1 .1 .0)
 
 sub-request-2 : tie.Need-sub-request-2
 sub-request-2 c = omega (arith, room (c .before .before .before .before .before .before .before .before .before .before .before))

@@ -20,9 +20,9 @@ enum-told : tie.Need-enum-told
 enum-told c = search needs
 
 take-poll-requires : tie.Need-take-poll-requires
-take-poll-requires c κs = let a = (c .before .before .before .before .before) .args in
-    let fine = poll-fine (a .self) (length (a .reply .now)) (sym (c .before .before .before .poll-verdict .ensures) ∙ c .before .enum-told .given .1) in
-    (fine .buffer, ranges-tell (a .self) (fine .state) .pending)
+take-poll-requires c κs = let a = (c .before .before .before .before .before .before .before) .args in
+    let fine = poll-fine (a .self) (length (a .events .now)) (length (a .reply .now)) (sym (c .before .before .before .before .poll-verdict .ensures) ∙ c .before .before .enum-told .given .1) in
+    (fine .holds, fine .buffer, ranges-tell (a .self) (fine .state) .pending)
 
 enum-known-verdict : tie.Need-enum-known-verdict
 enum-known-verdict c = search needs
@@ -33,13 +33,16 @@ refuse-requires c κs = search needs
 same-length : tie.Need-same-length
 same-length c = search needs
 
+same-length-2 : tie.Need-same-length-2
+same-length-2 c = search needs
+
 returns : tie.Need-returns
 unfolding pollOf
-returns c = let s = c .before .before .before .before .before .before .before .before .args in let l : Lent = lentReply (s .reply .now) in via (λ (v : Verdict). judged v (s .self) l (pollEffect (s .self) (s .clock) (s .reply .now))) (sym (c .before .before .before .before .before .before .poll-verdict .ensures) ∙ c .before .before .before .before .enum-told .given .1) (c .before .before .take-poll .ensures)
+returns c = let s = c .before .before .before .before .before .before .before .before .before .before .before .before .args in let l : Lent = lentReply (s .events .now) (s .reply .now) in via (λ (v : Verdict). judged v (s .self) l (pollEffect (s .self) (s .clock) (s .events .now) (s .reply .now))) (sym (c .before .before .before .before .before .before .before .before .before .poll-verdict .ensures) ∙ c .before .before .before .before .before .before .before .enum-told .given .1) (c .before .before .before .before .take-poll .ensures)
 
 returns-2 : tie.Need-returns-2
 unfolding pollOf
-returns-2 c = let s = c .before .before .before .before .before .before .args in let l : Lent = lentReply (s .reply .now) in via (λ (v : Verdict). judged v (s .self) l (pollEffect (s .self) (s .clock) (s .reply .now))) (sym (c .before .before .before .before .poll-verdict .ensures) ∙ c .before .before .verdict .given .1) (ap (λ (t : Turn). outcome t l) (c .refuse .ensures))
+returns-2 c = let s = c .before .before .before .before .before .before .before .args in let l : Lent = lentReply (s .events .now) (s .reply .now) in via (λ (v : Verdict). judged v (s .self) l (pollEffect (s .self) (s .clock) (s .events .now) (s .reply .now))) (sym (c .before .before .before .before .poll-verdict .ensures) ∙ c .before .before .verdict .given .1) (ap (λ (t : Turn). outcome t l) (c .refuse .ensures))
 
 pub poll-spec : {M : Type 1} → statement M
 poll-spec =
@@ -51,5 +54,6 @@ poll-spec =
     enum-known-verdict
     refuse-requires
     same-length
+    same-length-2
     returns
     returns-2)

@@ -20,9 +20,9 @@ enum-told : tie.Need-enum-told
 enum-told c = search needs
 
 take-reply-requires : tie.Need-take-reply-requires
-take-reply-requires c κs = let a = (c .before .before .before .before .before .before) .args in
-    let fine = reply-fine (a .self) (a .slave) (length (a .reply .now)) (sym (c .before .before .before .reply-verdict .ensures) ∙ c .before .enum-told .given .1) in
-    (fine .buffer, ranges-tell (a .self) (fine .state) .pending)
+take-reply-requires c κs = let a = (c .before .before .before .before .before .before .before .before) .args in
+    let fine = reply-fine (a .self) (a .slave) (length (a .events .now)) (length (a .reply .now)) (sym (c .before .before .before .before .reply-verdict .ensures) ∙ c .before .before .enum-told .given .1) in
+    (fine .holds, fine .buffer, ranges-tell (a .self) (fine .state) .pending)
 
 enum-known-verdict : tie.Need-enum-known-verdict
 enum-known-verdict c = search needs
@@ -33,13 +33,16 @@ refuse-requires c κs = search needs
 same-length : tie.Need-same-length
 same-length c = search needs
 
+same-length-2 : tie.Need-same-length-2
+same-length-2 c = search needs
+
 returns : tie.Need-returns
 unfolding replyOf
-returns c = let s = c .before .before .before .before .before .before .before .before .before .args in let l : Lent = lentReply (s .reply .now) in via (λ (v : Verdict). judged v (s .self) l (replyEffect (s .self) (s .clock) (s .errors) (s .status) (s .address) (s .bc) (s .words .now) (s .reply .now))) (sym (c .before .before .before .before .before .before .reply-verdict .ensures) ∙ c .before .before .before .before .enum-told .given .1) (c .before .before .take-reply .ensures)
+returns c = let s = c .before .before .before .before .before .before .before .before .before .before .before .before .before .args in let l : Lent = lentReply (s .events .now) (s .reply .now) in via (λ (v : Verdict). judged v (s .self) l (replyEffect (s .self) (s .clock) (s .errors) (s .status) (s .address) (s .bc) (s .words .now) (s .events .now) (s .reply .now))) (sym (c .before .before .before .before .before .before .before .before .before .reply-verdict .ensures) ∙ c .before .before .before .before .before .before .before .enum-told .given .1) (c .before .before .before .before .take-reply .ensures)
 
 returns-2 : tie.Need-returns-2
 unfolding replyOf
-returns-2 c = let s = c .before .before .before .before .before .before .before .args in let l : Lent = lentReply (s .reply .now) in via (λ (v : Verdict). judged v (s .self) l (replyEffect (s .self) (s .clock) (s .errors) (s .status) (s .address) (s .bc) (s .words .now) (s .reply .now))) (sym (c .before .before .before .before .reply-verdict .ensures) ∙ c .before .before .verdict .given .1) (ap (λ (t : Turn). outcome t l) (c .refuse .ensures))
+returns-2 c = let s = c .before .before .before .before .before .before .before .before .args in let l : Lent = lentReply (s .events .now) (s .reply .now) in via (λ (v : Verdict). judged v (s .self) l (replyEffect (s .self) (s .clock) (s .errors) (s .status) (s .address) (s .bc) (s .words .now) (s .events .now) (s .reply .now))) (sym (c .before .before .before .before .reply-verdict .ensures) ∙ c .before .before .verdict .given .1) (ap (λ (t : Turn). outcome t l) (c .refuse .ensures))
 
 pub reply-spec : {M : Type 1} → statement M
 reply-spec =
@@ -51,5 +54,6 @@ reply-spec =
     enum-known-verdict
     refuse-requires
     same-length
+    same-length-2
     returns
     returns-2)

@@ -12,14 +12,14 @@ use Rattle.node.specs.declared.Route.{Route}
 use Rattle.node.specs.declared.Turn.{Turn}
 use Rattle.node.specs.declared.Verdict.{Verdict}
 use Rattle.node.proofs.Routes.{Fits, route-fits}
-use Rattle.node.proofs.Verdicts.{request-fine}
+use Rattle.node.proofs.Verdicts.{request-fine, unread-most}
 use borrow.Author.Needs.{needs}
 use Rattle.node.proofs.Node.request.Statement.{statement}
 use Rattle.node.proofs.Node.request.Tie as tie
 
 -- what is lent, and what is owed by the verdict and the route
 abbrev given : tie.Start → Lent
-given s = lent (s .args .flash .now) (memories (s .args .pm .now) (s .args .dm .now) (s .args .io .now)) (further (s .args .area .now) (s .args .list .now)) (s .args .reply .now)
+given s = lent (s .args .flash .now) (memories (s .args .pm .now) (s .args .dm .now) (s .args .io .now)) (further (s .args .area .now) (s .args .list .now) (s .args .events .now)) (s .args .reply .now)
 
 abbrev route : tie.Start → Route
 route s = routeOf (s .args .self) (s .args .link) (s .args .bc) (s .args .errors) (s .args .packet .now)
@@ -44,12 +44,12 @@ route-of-requires c κs = search needs
 
 take-request-requires : tie.Need-take-request-requires
 take-request-requires c κs =
-    let s = c .before .before .before .before .before .before .before .before .before .before .before .before .before .before .before .before .before .before .before in
+    let s = c .before .before .before .before .before .before .before .before .before .before .before .before .before .before .before .before .before .before .before .before in
     let a = s .args in
-    let fine = request-fine (a .self) (a .link) (length (a .packet .now)) (length (a .flash .now)) (length (a .pm .now)) (length (a .dm .now)) (length (a .io .now)) (length (a .area .now)) (recordsIn (a .list .now)) (length (a .reply .now)) (sym (c .before .before .before .before .before .before .before .before .before .before .request-verdict .ensures) ∙ c .before .before .before .before .before .before .before .before .enum-told .given .1) in
+    let fine = request-fine (a .self) (a .link) (length (a .packet .now)) (length (a .flash .now)) (length (a .pm .now)) (length (a .dm .now)) (length (a .io .now)) (length (a .area .now)) (recordsIn (a .list .now)) (length (a .events .now)) (length (a .reply .now)) (sym (c .before .before .before .before .before .before .before .before .before .before .request-verdict .ensures) ∙ c .before .before .before .before .before .before .before .before .enum-told .given .1) in
     let room = fine .room in
     let told = c .before .before .before .before .before .before .before .route-of .ensures in
-    ((λ id e. fits s told e), ((λ from at e. let f = fits s told e in (f .0, omega (arith, f .1, room))), ((λ at e. omega (arith, fits s told e, room)), (fine .buffer, (omega (arith, fine .most, fine .listed), fine .listed)))))
+    ((λ id e. fits s told e), ((λ from at e. let f = fits s told e in (f .0, omega (arith, f .1, room))), ((λ at e. omega (arith, fits s told e, room)), (fine .buffer, (omega (arith, fine .most, fine .listed), (fine .listed, (unread-most (a .self) (fine .fits .state), fine .holds)))))))
 
 enum-known-verdict : tie.Need-enum-known-verdict
 enum-known-verdict c = search needs
@@ -81,14 +81,14 @@ same-length-7 c = search needs
 returns : tie.Need-returns
 unfolding requestOf
 returns c =
-    let s = c .before .before .before .before .before .before .before .before .before .before .before .before .before .before .before .before .before .before .before .before .before .before .before .before .before .before .before .before .before .before .before .before .before .before in
+    let s = c .before .before .before .before .before .before .before .before .before .before .before .before .before .before .before .before .before .before .before .before .before .before .before .before .before .before .before .before .before .before .before .before .before .before .before in
     via (λ (v : Verdict). owed s v (route s)) (sym (c .before .before .before .before .before .before .before .before .before .before .before .before .before .before .before .before .before .before .before .before .before .before .before .before .before .request-verdict .ensures) ∙ c .before .before .before .before .before .before .before .before .before .before .before .before .before .before .before .before .before .before .before .before .before .before .before .enum-told .given .1)
     (c .before .before .before .before .before .before .before .before .before .before .before .before .before .before .take-request .ensures ∙ ap (owed s Verdict.Fine) (c .before .before .before .before .before .before .before .before .before .before .before .before .before .before .before .before .before .before .before .before .before .before .route-of .ensures))
 
 returns-2 : tie.Need-returns-2
 unfolding requestOf
 returns-2 c =
-    let s = c .before .before .before .before .before .before .before .before .before .before .before .before .before in
+    let s = c .before .before .before .before .before .before .before .before .before .before .before .before .before .before in
     via (λ (v : Verdict). owed s v (route s)) (sym (c .before .before .before .before .request-verdict .ensures) ∙ c .before .before .verdict .given .1)
     (ap (λ (t : Turn). outcome t (given s)) (c .refuse .ensures))
 

@@ -16,6 +16,9 @@ enum-known-pending c = search needs
 enum-known-pending-2 : tie.Need-enum-known-pending-2
 enum-known-pending-2 c = search needs
 
+enum-known-pending-3 : tie.Need-enum-known-pending-3
+enum-known-pending-3 c = search needs
+
 returns : tie.Need-returns
 returns c = search needs
 
@@ -25,7 +28,18 @@ returns-2 c = via (λ (p : Pending). isAsked p (c .before .before .before .befor
 returns-3 : tie.Need-returns-3
 returns-3 c = via (λ (p : Pending). isAsked p (c .before .before .before .before .args .slave)) (c .before .before .pending2 .given .1) refl
 
+returns-4 : tie.Need-returns-4
+returns-4 c = via (λ (p : Pending). isAsked p (c .before .before .before .before .args .slave)) (c .before .before .pending3 .given .1) refl
+
 pub is-asked-spec : {M : Type 1} → statement M
 is-asked-spec =
     tie.close
-    (tie.spec enum-told enum-known-pending enum-known-pending-2 returns returns-2 returns-3)
+    (tie.spec
+    enum-told
+    enum-known-pending
+    enum-known-pending-2
+    enum-known-pending-3
+    returns
+    returns-2
+    returns-3
+    returns-4)

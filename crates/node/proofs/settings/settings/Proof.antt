@@ -30,6 +30,12 @@ mask-read-requires c κs = search needs
 mask-write-requires : tie.Need-mask-write-requires
 mask-write-requires c κs = search needs
 
+event-number-requires : tie.Need-event-number-requires
+event-number-requires c κs = search needs
+
+event-reset-requires : tie.Need-event-reset-requires
+event-reset-requires c κs = search needs
+
 says-requires : tie.Need-says-requires
 says-requires c κs = search needs
 
@@ -69,9 +75,20 @@ returns-6 : tie.Need-returns-6
 unfolding settingsOf
 returns-6 c = sets-as (c .before .before .before .before .args .node) (c .before .before .before .before .args .reply .now) (c .mask-write .ensures) (ap (λ (id : ℕ). settingsOf id (c .before .before .before .before .args .node) (c .before .before .before .before .args .clock) (c .before .before .before .before .args .link) (c .before .before .before .before .args .packet .now)) (sym (c .before .match .keys6)))
 
+same-length-5 : tie.Need-same-length-5
+same-length-5 c = search needs
+
 returns-7 : tie.Need-returns-7
 unfolding settingsOf
-returns-7 c = let other = c .before .match .rest in sets-as (c .before .before .before .before .args .node) (c .before .before .before .before .args .reply .now) (ends (c .before .before .before .before .args .node) ZeroLength.Abort (c .says .ensures) refl) (no _ (ne-eqb _ _ (other .0 .0 .0 .0 .0 .1)) (no _ (ne-eqb _ _ (other .0 .0 .0 .0 .1)) (no _ (ne-eqb _ _ (other .0 .0 .0 .1)) (no _ (ne-eqb _ _ (other .0 .0 .1)) (no _ (ne-eqb _ _ (other .0 .1)) (no _ (ne-eqb _ _ (other .1)) refl))))))
+returns-7 c = replies-as (c .before .before .before .before .before .before .before .args .node) (c .before .before .before .before .before .before .before .args .reply .now) (c .before .before .event-number .ensures) (ap (λ (id : ℕ). settingsOf id (c .before .before .before .before .before .before .before .args .node) (c .before .before .before .before .before .before .before .args .clock) (c .before .before .before .before .before .before .before .args .link) (c .before .before .before .before .before .before .before .args .packet .now)) (sym (c .before .before .before .before .match .keys7)))
+
+returns-8 : tie.Need-returns-8
+unfolding settingsOf
+returns-8 c = sets-as (c .before .before .before .before .args .node) (c .before .before .before .before .args .reply .now) (c .event-reset .ensures) (ap (λ (id : ℕ). settingsOf id (c .before .before .before .before .args .node) (c .before .before .before .before .args .clock) (c .before .before .before .before .args .link) (c .before .before .before .before .args .packet .now)) (sym (c .before .match .keys8)))
+
+returns-9 : tie.Need-returns-9
+unfolding settingsOf
+returns-9 c = let other = c .before .match .rest in sets-as (c .before .before .before .before .args .node) (c .before .before .before .before .args .reply .now) (ends (c .before .before .before .before .args .node) ZeroLength.Abort (c .says .ensures) refl) (no _ (ne-eqb _ _ (other .0 .0 .0 .0 .0 .0 .0 .1)) (no _ (ne-eqb _ _ (other .0 .0 .0 .0 .0 .0 .1)) (no _ (ne-eqb _ _ (other .0 .0 .0 .0 .0 .1)) (no _ (ne-eqb _ _ (other .0 .0 .0 .0 .1)) (no _ (ne-eqb _ _ (other .0 .0 .0 .1)) (no _ (ne-eqb _ _ (other .0 .0 .1)) (no _ (ne-eqb _ _ (other .0 .1)) (no _ (ne-eqb _ _ (other .1)) refl))))))))
 
 pub settings-spec : {M : Type 1} → statement M
 settings-spec =
@@ -83,6 +100,8 @@ settings-spec =
     mode-write-requires
     mask-read-requires
     mask-write-requires
+    event-number-requires
+    event-reset-requires
     says-requires
     same-length
     returns
@@ -94,4 +113,7 @@ settings-spec =
     same-length-4
     returns-5
     returns-6
-    returns-7)
+    same-length-5
+    returns-7
+    returns-8
+    returns-9)

@@ -31,11 +31,11 @@ ticks-since-requires c κs = search needs
 attributes-requires : tie.Need-attributes-requires
 attributes-requires c κs = search needs
 
-cast-t15 : tie.Need-cast-t15
-cast-t15 c = search needs
+cast-t16 : tie.Need-cast-t16
+cast-t16 c = search needs
 
-cast-t17 : tie.Need-cast-t17
-cast-t17 c = search needs
+cast-t18 : tie.Need-cast-t18
+cast-t18 c = search needs
 
 node-status-requires : tie.Need-node-status-requires
 node-status-requires c κs = search needs
@@ -54,11 +54,11 @@ same-length c = search needs
 
 returns-2 : tie.Need-returns-2
 unfolding statusOf statusWords
-returns-2 c = let n = c .before .before .before .before .before .before .before .before .before .before .before .before .before .before .before .before .before .args .node in let w = c .before .before .before .before .before .before .before .before .before .before .before .before .before .before .before .before .before .args .reply .now in
-    let status-is : ℕ → ℕ → ℕ → List ℕ = λ (a t s : ℕ). n .given .«program_version» ∷ a ∷ n .given .«subdetector_version» ∷ t % 65536 ∷ t / 65536 ∷ s ∷ 0 ∷ 0 ∷ n .counts .amswire ∷ n .counts .flash ∷ [] in
-    closes n false (statusWords (n .given) (n .counts) (c .before .before .before .before .before .before .before .before .before .before .before .before .before .before .before .before .before .args .clock) (c .before .before .before .before .before .before .before .before .before .before .before .before .before .before .before .before .before .args .link)) w (c .before .before .close .ensures)
+returns-2 c = let n = c .before .before .before .before .before .before .before .before .before .before .before .before .before .before .before .before .before .before .args .node in let w = c .before .before .before .before .before .before .before .before .before .before .before .before .before .before .before .before .before .before .args .reply .now in
+    let status-is : ℕ → ℕ → ℕ → List ℕ = λ (a t s : ℕ). n .given .«program_version» ∷ a ∷ n .given .«subdetector_version» ∷ t % 65536 ∷ t / 65536 ∷ s ∷ n .events .last ∷ n .events .errors ∷ n .counts .amswire ∷ n .counts .flash ∷ [] in
+    closes n false (statusWords (n .given) (n .counts) (n .events) (c .before .before .before .before .before .before .before .before .before .before .before .before .before .before .before .before .before .before .args .clock) (c .before .before .before .before .before .before .before .before .before .before .before .before .before .before .before .before .before .before .args .link)) w (c .before .before .close .ensures)
     (c .before .before .before .before .before .before .copy .ensures ∙ ap (λ (x : ℕ). laid w 0 (status-is x (c .before .before .before .before .before .before .before .before .before .before .before .ticks-since .result) (c .before .before .before .before .before .before .before .before .before .node-status .result))) (c .before .before .before .before .before .before .before .before .before .before .attributes .ensures) ∙ ap₂ (λ (t s : ℕ). laid w 0 (status-is (attributesOf (n .given .kind) (n .given .subdetector) (n .given .ports)) t s)) (c .before .before .before .before .before .before .before .before .before .before .before .ticks-since .ensures) (c .before .before .before .before .before .before .before .before .before .node-status .ensures))
-    refl (omega (arith, c .before .before .before .before .before .before .before .before .before .before .before .before .before .before .before .before .before .pre)) (yes _ (eq-eqb _ _ (c .before .before .before .before .before .before .before .before .before .before .before .before .before .before .if1 .left)) refl)
+    refl (omega (arith, c .before .before .before .before .before .before .before .before .before .before .before .before .before .before .before .before .before .before .pre)) (yes _ (eq-eqb _ _ (c .before .before .before .before .before .before .before .before .before .before .before .before .before .before .before .if1 .left)) refl)
 
 pub status-spec : {M : Type 1} → statement M
 status-spec =
@@ -68,8 +68,8 @@ status-spec =
     returns
     ticks-since-requires
     attributes-requires
-    cast-t15
-    cast-t17
+    cast-t16
+    cast-t18
     node-status-requires
     slice-aggregate-copy
     copy-requires

@@ -49,7 +49,7 @@ same-length c = search needs
 returns : tie.Need-returns
 returns c = let s = (c .before .before .before .before .before .before .before .before .before .before .before .before) in
     let a = s .args in
-    awaits-told (a .node) (a .ask) (a .gathering) (a .clock) (a .heard) (a .words .now) (a .reply .now) (c .send-next .ensures) (c .before .before .before .copy .ensures) (c .before .before .before .before .before .before .before .before .before .slaves-above .ensures) (sym (c .before .before .before .before .before .before .is-part .ensures) ∙ c .before .before .before .before .before .if1 .taken)
+    λ events. awaits-told (a .node) (a .ask) (a .gathering) (a .clock) (a .heard) (a .words .now) events (a .reply .now) (c .send-next .ensures) (c .before .before .before .copy .ensures) (c .before .before .before .before .before .before .before .before .before .slaves-above .ensures) (sym (c .before .before .before .before .before .before .is-part .ensures) ∙ c .before .before .before .before .before .if1 .taken)
 
 next-slave-requires : tie.Need-next-slave-requires
 next-slave-requires c κs = search needs
@@ -67,7 +67,7 @@ same-length-2 c = search needs
 returns-2 : tie.Need-returns-2
 returns-2 c = let s = (c .before .before .before .before .before .before .before .before .before .before .before .before .before .before .before .before) in
     let a = s .args in
-    gathers-told (a .node) (a .ask) (a .gathering) (a .clock) (a .heard) (a .words .now) (a .reply .now) (c .before .before .go-on .ensures) (c .before .before .before .before .before .before .take-answer .ensures) (c .before .before .before .before .before .before .before .before .before .before .before .before .before .slaves-above .ensures) (c .before .before .before .before .before .before .before .before .next-slave .ensures) (sym (c .before .before .before .before .before .before .before .before .before .before .is-part .ensures) ∙ c .before .before .before .before .before .before .before .before .before .if1 .left)
+    λ events. gathers-told (a .node) (a .ask) (a .gathering) (a .clock) (a .heard) (a .words .now) events (a .reply .now) (c .before .before .go-on .ensures events) (c .before .before .before .before .before .before .take-answer .ensures) (c .before .before .before .before .before .before .before .before .before .before .before .before .before .slaves-above .ensures) (c .before .before .before .before .before .before .before .before .next-slave .ensures) (sym (c .before .before .before .before .before .before .before .before .before .before .is-part .ensures) ∙ c .before .before .before .before .before .before .before .before .before .if1 .left)
 
 pub gather-spec : {M : Type 1} → statement M
 gather-spec =

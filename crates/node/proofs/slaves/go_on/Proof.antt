@@ -1,4 +1,6 @@
 -- `node::slaves::go_on` meets its contract, by whether a slave is left. Assumes nothing.
+use mathlib.Core.List.{List}
+use Prim.Native.Nat.{ℕ}
 use mathlib.Core.Path.{ap, _∙_}
 use Rattle.base.proofs.Pick.{via}
 use Rattle.group.specs.Fragment.{assembly}
@@ -13,10 +15,10 @@ use borrow.Author.Needs.{needs}
 use Rattle.node.proofs.slaves.go_on.Statement.{statement}
 use Rattle.node.proofs.slaves.go_on.Tie as tie
 
--- what is owed, by the slave that is next
-abbrev owed : tie.Start → Next → Outcome
-owed s next =
-    applied (s .args .node) (lentReply (s .args .reply .now))
+-- what is owed, by the slave that is next, whatever the event area is
+abbrev owed : tie.Start → List ℕ → Next → Outcome
+owed s events next =
+    applied (s .args .node) (lentReply events (s .args .reply .now))
     (goesOn (s .args .node) (s .args .ask) (s .args .gathering) (s .args .clock) (assembly (s .args .reply .now) (s .args .built)) next)
 
 own-status-requires : tie.Need-own-status-requires
@@ -38,7 +40,7 @@ send-requires : tie.Need-send-requires
 send-requires c κs = search needs
 
 returns : tie.Need-returns
-returns c = let s = c .before .before .before .before .before .before .before in via (owed s) (c .before .before .next .given .1) (ap (λ (t : Turn). outcome t (lentReply (s .args .reply .now))) (c .ask-next .ensures))
+returns c = let s = c .before .before .before .before .before .before .before in λ events. via (owed s events) (c .before .before .next .given .1) (ap (λ (t : Turn). outcome t (lentReply events (s .args .reply .now))) (c .ask-next .ensures))
 
 same-length : tie.Need-same-length
 same-length c = search needs
@@ -46,8 +48,8 @@ same-length c = search needs
 returns-2 : tie.Need-returns-2
 returns-2 c =
     let s = c .before .before .before .before .before .before .before .before .before .before in
-    via (owed s) (c .before .before .before .before .before .enum-told .given .1)
-    (sends-told (s .args .node) (s .args .reply .now) _ (c .send .ensures)
+    λ events. via (owed s events) (c .before .before .before .before .before .enum-told .given .1)
+    (sends-told (s .args .node) events (s .args .reply .now) _ (c .send .ensures)
     (c .before .before .before .finish .ensures ∙ ap (endOf (assembly (s .args .reply .now) (s .args .built))) (c .before .before .before .before .before .before .before .own-status .ensures)))
 
 pub go-on-spec : {M : Type 1} → statement M

@@ -16,8 +16,8 @@ use Rattle.node.proofs.slaves.take_poll.Tie as tie
 -- what is owed, by whether the slave is late
 abbrev owed : tie.Start → Bool → Outcome
 owed s late =
-    applied (s .args .node) (lentReply (s .args .reply .now))
-    (pick late (hears (s .args .node .pending) (s .args .node) (s .args .clock) silent [] (s .args .reply .now)) (only Answer.Waiting (s .args .node .pending) (s .args .reply .now)))
+    applied (s .args .node) (lentReply (s .args .events .now) (s .args .reply .now))
+    (pick late (hears (s .args .node .pending) (s .args .node) (s .args .clock) silent [] (s .args .events .now) (s .args .reply .now)) (only Answer.Waiting (s .args .node .pending) (s .args .reply .now)))
 
 asked-at-requires : tie.Need-asked-at-requires
 asked-at-requires c κs = search needs
@@ -29,24 +29,27 @@ slice-aggregate-hear : tie.Need-slice-aggregate-hear
 slice-aggregate-hear c = search needs
 
 hear-requires : tie.Need-hear-requires
-hear-requires c κs = (c .before .before .before .before .before .before) .pre
+hear-requires c κs = (c .before .before .before .before .before .before .before .before) .pre
 
 same-length : tie.Need-same-length
 same-length c = search needs
 
+same-length-2 : tie.Need-same-length-2
+same-length-2 c = search needs
+
 returns : tie.Need-returns
 unfolding pollEffect
 returns c =
-    let a = c .before .before .before .before .before .before .before .before .before .args in
-    let late : isLate (a .clock) (askedAt (a .node .pending)) ≡ true = ap (isLate (a .clock)) (sym (c .before .before .before .before .before .before .before .asked-at .ensures)) ∙ sym (c .before .before .before .before .before .before .is-late .ensures) ∙ c .before .before .before .before .before .if1 .taken in
-    via (owed (c .before .before .before .before .before .before .before .before .before)) late (c .before .before .hear .ensures)
+    let a = c .before .before .before .before .before .before .before .before .before .before .before .before .before .args in
+    let late : isLate (a .clock) (askedAt (a .node .pending)) ≡ true = ap (isLate (a .clock)) (sym (c .before .before .before .before .before .before .before .before .before .before .asked-at .ensures)) ∙ sym (c .before .before .before .before .before .before .before .before .before .is-late .ensures) ∙ c .before .before .before .before .before .before .before .before .if1 .taken in
+    via (owed (c .before .before .before .before .before .before .before .before .before .before .before .before .before)) late (c .before .before .before .before .hear .ensures)
 
 returns-2 : tie.Need-returns-2
 unfolding pollEffect
 returns-2 c =
-    let a = c .before .before .before .before .args in
+    let a = c .before .before .before .before .before .args in
     let late : isLate (a .clock) (askedAt (a .node .pending)) ≡ false = ap (isLate (a .clock)) (sym (c .before .before .asked-at .ensures)) ∙ sym (c .before .is-late .ensures) ∙ c .if1 .left in
-    via (owed (c .before .before .before .before)) late refl
+    via (owed (c .before .before .before .before .before)) late refl
 
 pub take-poll-spec : {M : Type 1} → statement M
 take-poll-spec =
@@ -57,5 +60,6 @@ take-poll-spec =
     slice-aggregate-hear
     hear-requires
     same-length
+    same-length-2
     returns
     returns-2)

@@ -20,9 +20,9 @@ told s late = heard late (s .args .errors) (s .args .status) (s .args .address) 
 
 abbrev owed : tie.Start → Bool → Outcome
 owed s late =
-    applied (s .args .node) (lentReply (s .args .reply .now))
+    applied (s .args .node) (lentReply (s .args .events .now) (s .args .reply .now))
     (withAmswire (errorIn (told s late))
-    (hears (s .args .node .pending) (s .args .node) (s .args .clock) (told s late) (s .args .words .now) (s .args .reply .now)))
+    (hears (s .args .node .pending) (s .args .node) (s .args .clock) (told s late) (s .args .words .now) (s .args .events .now) (s .args .reply .now)))
 
 asked-at-requires : tie.Need-asked-at-requires
 asked-at-requires c κs = search needs
@@ -34,19 +34,22 @@ count-error-requires : tie.Need-count-error-requires
 count-error-requires c κs = search needs
 
 hear-requires : tie.Need-hear-requires
-hear-requires c κs = let s = (c .before .before .before .before .before .before) in
-    (s .pre .0, ap (λ (n : Node). pendingOk (n .given .ports) (n .pending)) (c .before .count-error .ensures) ∙ s .pre .1)
+hear-requires c κs = let s = (c .before .before .before .before .before .before .before .before) in
+    (s .pre .0, s .pre .1, ap (λ (n : Node). pendingOk (n .given .ports) (n .pending)) (c .before .before .count-error .ensures) ∙ s .pre .2)
 
 same-length : tie.Need-same-length
 same-length c = search needs
 
+same-length-2 : tie.Need-same-length-2
+same-length-2 c = search needs
+
 returns : tie.Need-returns
 unfolding replyEffect
 returns c =
-    let s = c .before .before .before .before .before .before .before .before .before in
-    let late = c .before .before .before .before .before .is-late .result in
-    via (owed s) (sym (c .before .before .before .before .before .is-late .ensures ∙ ap (isLate (s .args .clock)) (c .before .before .before .before .before .before .asked-at .ensures)))
-    (hears-told (s .args .node) (errorIn (told s late)) (s .args .clock) (told s late) (s .args .words .now) (s .args .reply .now) (c .before .before .before .before .count-error .ensures) (c .before .before .hear .ensures))
+    let s = c .before .before .before .before .before .before .before .before .before .before .before .before .before in
+    let late = c .before .before .before .before .before .before .before .before .is-late .result in
+    via (owed s) (sym (c .before .before .before .before .before .before .before .before .is-late .ensures ∙ ap (isLate (s .args .clock)) (c .before .before .before .before .before .before .before .before .before .asked-at .ensures)))
+    (hears-told (s .args .node) (errorIn (told s late)) (s .args .clock) (told s late) (s .args .words .now) (s .args .events .now) (s .args .reply .now) (c .before .before .before .before .before .before .before .count-error .ensures) (c .before .before .before .before .hear .ensures))
 
 pub take-reply-spec : {M : Type 1} → statement M
 take-reply-spec =
@@ -57,4 +60,5 @@ take-reply-spec =
     count-error-requires
     hear-requires
     same-length
+    same-length-2
     returns)

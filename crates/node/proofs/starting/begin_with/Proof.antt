@@ -2,7 +2,7 @@
 use mathlib.Core.Path.{refl}
 use borrow.Author.Tests.{eq-eqb, ne-eqb}
 use Rattle.base.proofs.Pick.{yes, no}
-use Rattle.node.specs.State.{node, counts}
+use Rattle.node.specs.State.{node, counts, known}
 use Rattle.flash.specs.declared.Erasing.{Erasing}
 use Rattle.node.specs.declared.Pending.{Pending}
 use Rattle.node.specs.declared.Writing.{Writing}
@@ -16,10 +16,10 @@ start-masks-requires : tie.Need-start-masks-requires
 start-masks-requires c κs = search needs
 
 returns : tie.Need-returns
-returns c i = node (c .before .before .start-masks .ensures i) (c .before .before .before .args .directory) (c .before .before .before .args .given) (yes {r = 2} 0 (eq-eqb _ _ (c .if1 .taken)) refl i) (counts 0 0) Erasing.Nothing Pending.Nothing Writing.Nothing (listing 0 0)
+returns c i = node (c .before .before .start-masks .ensures i) (c .before .before .before .args .directory) (c .before .before .before .args .given) (yes {r = 2} 0 (eq-eqb _ _ (c .if1 .taken)) refl i) (counts 0 0) Erasing.Nothing Pending.Nothing Writing.Nothing (listing 0 0) (known 0 0 0)
 
 returns-2 : tie.Need-returns-2
-returns-2 c i = node (c .before .before .start-masks .ensures i) (c .before .before .before .args .directory) (c .before .before .before .args .given) (no {r = 0} 2 (ne-eqb _ _ (c .if1 .left)) refl i) (counts 0 0) Erasing.Nothing Pending.Nothing Writing.Nothing (listing 0 0)
+returns-2 c i = node (c .before .before .start-masks .ensures i) (c .before .before .before .args .directory) (c .before .before .before .args .given) (no {r = 0} 2 (ne-eqb _ _ (c .if1 .left)) refl i) (counts 0 0) Erasing.Nothing Pending.Nothing Writing.Nothing (listing 0 0) (known 0 0 0)
 
 pub begin-with-spec : {M : Type 1} → statement M
 begin-with-spec = tie.close (tie.spec start-masks-requires returns returns-2)

@@ -25,6 +25,12 @@ ask-ok-requires-2 c κs = search needs
 gathering-ok-requires : tie.Need-gathering-ok-requires
 gathering-ok-requires c κs = search needs
 
+enum-known-pending-3 : tie.Need-enum-known-pending-3
+enum-known-pending-3 c = search needs
+
+building-ok-requires : tie.Need-building-ok-requires
+building-ok-requires c κs = search needs
+
 returns : tie.Need-returns
 returns c = search needs
 
@@ -33,6 +39,9 @@ returns-2 c = via (pendingOk (c .before .before .before .before .args .ports)) (
 
 returns-3 : tie.Need-returns-3
 returns-3 c = via (pendingOk (c .before .before .before .before .before .args .ports)) (c .before .before .before .pending2 .given .1) (ap₂ _&&_ (c .before .ask-ok2 .ensures) (c .gathering-ok .ensures))
+
+returns-4 : tie.Need-returns-4
+returns-4 c = via (pendingOk (c .before .before .before .before .args .ports)) (c .before .before .pending3 .given .1) (c .building-ok .ensures)
 
 pub pending-ok-spec : {M : Type 1} → statement M
 pending-ok-spec =
@@ -44,6 +53,9 @@ pending-ok-spec =
     enum-known-pending-2
     ask-ok-requires-2
     gathering-ok-requires
+    enum-known-pending-3
+    building-ok-requires
     returns
     returns-2
-    returns-3)
+    returns-3
+    returns-4)

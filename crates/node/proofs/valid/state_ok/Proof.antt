@@ -28,16 +28,21 @@ writing-ok-requires c κs = search needs
 listing-ok-requires : tie.Need-listing-ok-requires
 listing-ok-requires c κs = search needs
 
+events-ok-requires : tie.Need-events-ok-requires
+events-ok-requires c κs = search needs
+
 returns : tie.Need-returns
 unfolding stateOk
 returns c =
     ap₂ _&&_
     (ap₂ _&&_
     (ap₂ _&&_
-    (ap₂ _&&_ (ap₂ (λ (x y : Bool). x && leb (c .before .before .before .before .before .before .before .before .before .before .before .args .node .mode) 3 && y) (c .before .before .before .before .before .before .before .given-ok .ensures) (c .before .before .before .before .masks-ok .ensures)) (c .before .before .before .erasing-ok .ensures))
-    (c .before .before .pending-ok .ensures))
-    (c .before .writing-ok .ensures))
-    (c .listing-ok .ensures)
+    (ap₂ _&&_
+    (ap₂ _&&_ (ap₂ (λ (x y : Bool). x && leb (c .before .before .before .before .before .before .before .before .before .before .before .before .before .args .node .mode) 3 && y) (c .before .before .before .before .before .before .before .before .given-ok .ensures) (c .before .before .before .before .before .masks-ok .ensures)) (c .before .before .before .before .erasing-ok .ensures))
+    (c .before .before .before .pending-ok .ensures))
+    (c .before .before .writing-ok .ensures))
+    (c .before .listing-ok .ensures))
+    (c .events-ok .ensures)
 
 pub state-ok-spec : {M : Type 1} → statement M
 state-ok-spec =
@@ -50,4 +55,5 @@ state-ok-spec =
     pending-ok-requires
     writing-ok-requires
     listing-ok-requires
+    events-ok-requires
     returns)
