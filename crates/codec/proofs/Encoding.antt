@@ -13,6 +13,7 @@ use borrow.Rule.Slice.PartMut.{putMid}
 use Rattle.base.specs.Words.{part, laid, Below}
 use Rattle.base.proofs.Part.{below-drop, length-part, part-split}
 use Rattle.base.proofs.Laid.{length-laid, take-laid, part-laid, part-laid-before, laid-laid, laid-part, laid-whole}
+use Rattle.node.specs.declared.Events.{Events}
 use Rattle.node.specs.declared.Node.{Node}
 use Rattle.node.specs.declared.Pending.{Pending}
 use Rattle.node.specs.declared.Writing.{Writing}
@@ -33,34 +34,34 @@ pub length-numbers : (n : Node) → length (packed sizes (numbersOf n)) ≡ 44
 unfolding total
 length-numbers n = length-packed sizes (numbersOf n) refl
 
-pub length-tail : (w : Writing) (p : Pending) (g : Listing) → length (tailBytes w p g) ≡ 20
+pub length-tail : (w : Writing) (p : Pending) (g : Listing) (e : Events) → length (tailBytes w p g e) ≡ 36
 unfolding total
-length-tail w p g = length-packed tailSizes (tailNumbers (standingOf w) (waitOf p) g) refl
+length-tail w p g e = length-packed tailSizes (tailNumbers (standingOf w) (waitOf p) g e) refl
 
-pub encoded : (n : Node) (bs : List ℕ) {b s t end : List ℕ} → length bs ≡ 192 → length (n .masks) ≡ 16 → length (n .directory) ≡ 32
+pub encoded : (n : Node) (bs : List ℕ) {b s t end : List ℕ} → length bs ≡ 208 → length (n .masks) ≡ 16 → length (n .directory) ≡ 32
     → b ≡ laid bs 0 (packed sizes (numbersOf n))
     → s ≡ storeWords 4 (n .masks) (part b 44 64)
     → t ≡ storeWords 2 (n .directory) (part (putMid 44 64 b s) 108 64)
-    → end ≡ laid (putMid 108 64 (putMid 44 64 b s) t) 172 (tailBytes (n .writing) (n .pending) (n .listing))
+    → end ≡ laid (putMid 108 64 (putMid 44 64 b s) t) 172 (tailBytes (n .writing) (n .pending) (n .listing) (n .events))
     → end ≡ encodeOf n
 unfolding encodeOf
 encoded n bs {b} {s} {t} long ms ds eb es et ew =
     let p = packed sizes (numbersOf n) in
     let m = bytesOf 4 (n .masks) in
     let d = bytesOf 2 (n .directory) in
-    let w = tailBytes (n .writing) (n .pending) (n .listing) in
+    let w = tailBytes (n .writing) (n .pending) (n .listing) (n .events) in
     let lp : length p ≡ 44 = length-numbers n in
     let lm : length m ≡ 64 = length-bytes 4 (n .masks) ∙ ap (_* 4) ms in
     let ld : length d ≡ 64 = length-bytes 2 (n .directory) ∙ ap (_* 2) ds in
-    let lw : length w ≡ 20 = length-tail (n .writing) (n .pending) (n .listing) in
+    let lw : length w ≡ 36 = length-tail (n .writing) (n .pending) (n .listing) (n .events) in
     let lpm : length (p ++ m) ≡ 108 = length-append p m ∙ omega arith in
     let lpmd : length (p ++ m ++ d) ≡ 172 = length-append (p ++ m) d ∙ omega arith in
-    let all : length (p ++ m ++ d ++ w) ≡ 192 = length-append (p ++ m ++ d) w ∙ omega arith in
-    let lb : length b ≡ 192 = ap length eb ∙ length-laid bs 0 p (omega arith) ∙ long in
+    let all : length (p ++ m ++ d ++ w) ≡ 208 = length-append (p ++ m ++ d) w ∙ omega arith in
+    let lb : length b ≡ 208 = ap length eb ∙ length-laid bs 0 p (omega arith) ∙ long in
     let first : putMid 44 64 b s ≡ laid b 44 m = put-part b 44 64 m s (omega arith) lm es in
     let both : putMid 44 64 b s ≡ laid bs 0 (p ++ m) =
     first ∙ ap (λ (l : List ℕ). laid l 44 m) eb ∙ ap (λ (i : ℕ). laid (laid bs 0 p) i m) (omega arith) ∙ laid-laid bs 0 p m (omega arith) in
-    let lc : length (putMid 44 64 b s) ≡ 192 = ap length both ∙ length-laid bs 0 (p ++ m) (omega arith) ∙ long in
+    let lc : length (putMid 44 64 b s) ≡ 208 = ap length both ∙ length-laid bs 0 (p ++ m) (omega arith) ∙ long in
     let second : putMid 108 64 (putMid 44 64 b s) t ≡ laid (putMid 44 64 b s) 108 d = put-part (putMid 44 64 b s) 108 64 d t (omega arith) ld et in
     let three : putMid 108 64 (putMid 44 64 b s) t ≡ laid bs 0 (p ++ m ++ d) =
     second ∙ ap (λ (l : List ℕ). laid l 108 d) both ∙ ap (λ (i : ℕ). laid (laid bs 0 (p ++ m)) i d) (omega arith) ∙ laid-laid bs 0 (p ++ m) d (omega arith) in
@@ -83,47 +84,47 @@ alike-both (x ∷ a) (y ∷ b) c d h = ap (λ (t : Bool). eqb x y && t) (alike-b
 alike-behind : (a c d : List ℕ) → alike (a ++ c) (a ++ d) ≡ alike c d
 alike-behind a c d = alike-both a a c d refl ∙ ap (λ (t : Bool). t && alike c d) (alike-same a)
 
-between : (bytes : List ℕ) → length bytes ≡ 192 → Below 256 bytes
+between : (bytes : List ℕ) → length bytes ≡ 208 → Below 256 bytes
     → bytesOf 4 (wordsIn 4 16 (drop 44 bytes)) ++ bytesOf 2 (wordsIn 2 32 (drop 108 bytes)) ≡ part bytes 44 128
 between bytes long b =
-    let l44 : length (drop 44 bytes) ≡ 148 = length-drop 44 bytes ∙ omega arith in
-    let l108 : length (drop 108 bytes) ≡ 84 = length-drop 108 bytes ∙ omega arith in
+    let l44 : length (drop 44 bytes) ≡ 164 = length-drop 44 bytes ∙ omega arith in
+    let l108 : length (drop 108 bytes) ≡ 100 = length-drop 108 bytes ∙ omega arith in
     let m : bytesOf 4 (wordsIn 4 16 (drop 44 bytes)) ≡ take 64 (drop 44 bytes) = bytes-words 4 16 (drop 44 bytes) (omega arith) (below-drop 44 bytes b) in
     let d : bytesOf 2 (wordsIn 2 32 (drop 108 bytes)) ≡ take 64 (drop 64 (drop 44 bytes)) =
     bytes-words 2 32 (drop 108 bytes) (omega arith) (below-drop 108 bytes b) ∙ ap (take 64) (sym (drop-drop 64 44 bytes)) in
     (λ i. m i ++ d i) ∙ sym (take-add 64 64 (drop 44 bytes))
 
 -- the numbers of a state stored at the front of some bytes, and what 02 adds at their end
-module _ (n : Node) (bs : List ℕ) {b after : List ℕ} (long : length bs ≡ 192) (eb : b ≡ laid bs 0 (packed sizes (numbersOf n))) (ew : after ≡ laid b 172 (tailBytes (n .writing) (n .pending) (n .listing))) where
-  middle-long : length b ≡ 192
+module _ (n : Node) (bs : List ℕ) {b after : List ℕ} (long : length bs ≡ 208) (eb : b ≡ laid bs 0 (packed sizes (numbersOf n))) (ew : after ≡ laid b 172 (tailBytes (n .writing) (n .pending) (n .listing) (n .events))) where
+  middle-long : length b ≡ 208
   middle-long = ap length eb ∙ length-laid bs 0 (packed sizes (numbersOf n)) (omega (arith, length-numbers n)) ∙ long
 
-  pub after-long : length after ≡ 192
-  after-long = ap length ew ∙ length-laid b 172 (tailBytes (n .writing) (n .pending) (n .listing)) (omega (arith, length-tail (n .writing) (n .pending) (n .listing), middle-long)) ∙ middle-long
+  pub after-long : length after ≡ 208
+  after-long = ap length ew ∙ length-laid b 172 (tailBytes (n .writing) (n .pending) (n .listing) (n .events)) (omega (arith, length-tail (n .writing) (n .pending) (n .listing) (n .events), middle-long)) ∙ middle-long
 
   pub numbers-front : take 44 after ≡ packed sizes (numbersOf n)
   numbers-front =
-      ap (take 44) ew ∙ part-laid-before b 0 44 172 (tailBytes (n .writing) (n .pending) (n .listing)) (omega (arith, length-tail (n .writing) (n .pending) (n .listing), middle-long)) (omega arith)
+      ap (take 44) ew ∙ part-laid-before b 0 44 172 (tailBytes (n .writing) (n .pending) (n .listing) (n .events)) (omega (arith, length-tail (n .writing) (n .pending) (n .listing) (n .events), middle-long)) (omega arith)
       ∙ ap (take 44) eb ∙ take-laid bs 0 (packed sizes (numbersOf n)) 44 (omega (arith, length-numbers n)) (omega arith)
 
-  pub tail-back : part after 172 20 ≡ tailBytes (n .writing) (n .pending) (n .listing)
+  pub tail-back : part after 172 36 ≡ tailBytes (n .writing) (n .pending) (n .listing) (n .events)
   tail-back =
-      ap (λ (l : List ℕ). part l 172 20) ew ∙ part-laid b 172 (tailBytes (n .writing) (n .pending) (n .listing)) 20 (length-tail (n .writing) (n .pending) (n .listing)) (omega (arith, middle-long))
+      ap (λ (l : List ℕ). part l 172 36) ew ∙ part-laid b 172 (tailBytes (n .writing) (n .pending) (n .listing) (n .events)) 36 (length-tail (n .writing) (n .pending) (n .listing) (n .events)) (omega (arith, middle-long))
 
-pub ends-alike : (bytes front back : List ℕ) → length bytes ≡ 192 → Below 256 bytes → front ≡ packed sizes (numbersOf (nodeIn bytes))
-    → back ≡ tailBytes (nodeIn bytes .writing) (nodeIn bytes .pending) (nodeIn bytes .listing)
-    → (alike front (take 44 bytes) && alike back (part bytes 172 20)) ≡ alike (encodeOf (nodeIn bytes)) bytes
+pub ends-alike : (bytes front back : List ℕ) → length bytes ≡ 208 → Below 256 bytes → front ≡ packed sizes (numbersOf (nodeIn bytes))
+    → back ≡ tailBytes (nodeIn bytes .writing) (nodeIn bytes .pending) (nodeIn bytes .listing) (nodeIn bytes .events)
+    → (alike front (take 44 bytes) && alike back (part bytes 172 36)) ≡ alike (encodeOf (nodeIn bytes)) bytes
 unfolding encodeOf nodeIn
 ends-alike bytes front back long b ef eb =
     let n = nodeIn bytes in
     let p : List ℕ = packed sizes (numbersOf n) in
-    let w : List ℕ = tailBytes (n .writing) (n .pending) (n .listing) in
+    let w : List ℕ = tailBytes (n .writing) (n .pending) (n .listing) (n .events) in
     let mid : List ℕ = part bytes 44 128 in
-    let last : List ℕ = part bytes 172 20 in
+    let last : List ℕ = part bytes 172 36 in
     let lt : length (take 44 bytes) ≡ 44 = length-take-le 44 bytes (omega arith) in
-    let l172 : length (drop 172 bytes) ≡ 20 = length-drop 172 bytes ∙ omega arith in
+    let l172 : length (drop 172 bytes) ≡ 36 = length-drop 172 bytes ∙ omega arith in
     let whole : take 44 bytes ++ (mid ++ last) ≡ bytes =
-    ap (λ (l : List ℕ). take 44 bytes ++ (mid ++ l)) (take-all 20 (drop 172 bytes) (omega arith)) ∙ sym (part-split bytes 44 128) in
+    ap (λ (l : List ℕ). take 44 bytes ++ (mid ++ l)) (take-all 36 (drop 172 bytes) (omega arith)) ∙ sym (part-split bytes 44 128) in
     let inner : mid ++ w ≡ bytesOf 4 (n .masks) ++ (bytesOf 2 (n .directory) ++ w) =
     ap (λ (l : List ℕ). l ++ w) (sym (between bytes long b)) ∙ append-assoc (bytesOf 4 (n .masks)) (bytesOf 2 (n .directory)) w in
     (λ i. alike (ef i) (take 44 bytes) && alike (eb i) last)

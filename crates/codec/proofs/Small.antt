@@ -18,6 +18,7 @@ use Rattle.node.specs.declared.Given.{Given}
 use Rattle.node.specs.declared.Pending.{Pending}
 use Rattle.node.specs.declared.Writing.{Writing}
 use Rattle.qlist.specs.declared.Listing.{Listing}
+use Rattle.building.proofs.Ok.{ok-tells}
 use Rattle.node.proofs.Ranges.{gathered-tells}
 use Rattle.codec.specs.StateBytes.{progressOf, waitOf, standingOf}
 
@@ -78,7 +79,7 @@ tally-small Tally.Whole = omega arith
 tally-small Tally.Mixed = omega arith
 
 pub record WaitSmall (p : Pending) : Type 0 where
-  pub pending : waitOf p .pending ≤ 2
+  pub pending : waitOf p .pending ≤ 3
   pub link : waitOf p .link ≤ 4
   pub slave : waitOf p .slave ≤ 23
   pub from : waitOf p .from ≤ 2
@@ -86,6 +87,8 @@ pub record WaitSmall (p : Pending) : Type 0 where
   pub set : waitOf p .set < 16777216
   pub words : waitOf p .words ≤ 12288
   pub received : waitOf p .received ≤ 12288
+  pub asks : waitOf p .asks ≤ 3
+  pub out : waitOf p .«left_out» < 16777216
 
 ask-small : (ports : ℕ) (a : Ask) → ports ≤ 4 → askOk ports a ≡ true → (a .link ≤ 4) × (a .slave ≤ 23)
 ask-small ports a b h =
@@ -94,10 +97,10 @@ ask-small ports a b h =
 
 pub wait-small : (ports : ℕ) (p : Pending) → ports ≤ 4 → pendingOk ports p ≡ true → WaitSmall p
 wait-small ports Pending.Nothing b h =
-    record { pending = omega arith; link = omega arith; slave = omega arith; from = omega arith; tally = omega arith; set = omega arith; words = omega arith; received = omega arith }
+    record { pending = omega arith; link = omega arith; slave = omega arith; from = omega arith; tally = omega arith; set = omega arith; words = omega arith; received = omega arith; asks = omega arith; out = omega arith }
 wait-small ports (Pending.Slave a) b h =
     let s = ask-small ports a b h in
-    record { pending = omega arith; link = s .0; slave = s .1; from = omega arith; tally = omega arith; set = omega arith; words = omega arith; received = omega arith }
+    record { pending = omega arith; link = s .0; slave = s .1; from = omega arith; tally = omega arith; set = omega arith; words = omega arith; received = omega arith; asks = omega arith; out = omega arith }
 wait-small ports (Pending.Group a g) b h =
     let s = ask-small ports a b (and-left (askOk ports a) (gatheringOk (a .slave) g) h) in
     let r = gathered-tells (a .slave) g (and-right (askOk ports a) (gatheringOk (a .slave) g) h) in
@@ -110,6 +113,22 @@ wait-small ports (Pending.Group a g) b h =
       set = ltb-true (g .set) 16777216 (r .short);
       words = omega (arith, r .room);
       received = omega (arith, r .stored);
+      asks = omega arith;
+      out = omega arith;
+    }
+wait-small ports (Pending.Build b) k h =
+    let o = ok-tells b h in
+    record {
+      pending = omega arith;
+      link = omega arith;
+      slave = o .slave;
+      from = omega arith;
+      tally = tally-small (b .gathered .built .tally);
+      set = o .set;
+      words = omega (arith, o .room);
+      received = omega (arith, o .received);
+      asks = o .thrice;
+      out = o .out;
     }
 
 pub record WriteSmall (w : Writing) : Type 0 where

@@ -17,7 +17,9 @@ use Rattle.flash.specs.declared.Erasing.{Erasing}
 use Rattle.group.specs.Tally.{tallyNumber}
 use Rattle.group.specs.declared.Tally.{Tally}
 use Rattle.group.specs.declared.ZeroLength.{ZeroLength}
-use Rattle.node.specs.State.{node, counts}
+use Rattle.event.specs.Taken.{gathered}
+use Rattle.building.specs.Build.{building}
+use Rattle.node.specs.State.{node, counts, known}
 use Rattle.node.specs.Valid.{stateOk, erasingOk}
 use Rattle.node.specs.declared.Node.{Node}
 use Rattle.node.specs.declared.Pending.{Pending}
@@ -50,6 +52,9 @@ pending-back Pending.Nothing = refl
 pending-back (Pending.Slave a) = refl
 pending-back (Pending.Group a g) =
     ap (λ (t : Tally). Pending.Group a (record { set = g .set; from = g .from; built = record { words = g .built .words; tally = t }; received = g .received })) (tally-back (g .built .tally))
+pending-back (Pending.Build b) =
+    ap (λ (t : Tally). Pending.Build (building (b .set) (b .slave) (b .asks) (b .at) (gathered (b .gathered .built .words) t (b .gathered .«left_out»)) (b .received)))
+    (tally-back (b .gathered .built .tally))
 
 writing-back : (w : Writing) → writingOf (standingOf w) ≡ w
 writing-back Writing.Nothing = refl
@@ -77,8 +82,9 @@ nodeFrom xs masks directory ys =
       «flash_words» = getD xs 12 0;
     })
     (getD xs 3 0) (counts (getD xs 7 0) (getD xs 8 0)) (erasingOf (progress (getD xs 9 0) (getD xs 13 0)))
-    (pendingOf (wait (getD xs 10 0) (getD xs 14 0) (getD xs 15 0) (getD xs 16 0) (getD xs 17 0) (getD xs 18 0) (getD xs 19 0) (getD xs 20 0) (getD ys 4 0) (getD ys 5 0)))
+    (pendingOf (wait (getD xs 10 0) (getD xs 14 0) (getD xs 15 0) (getD xs 16 0) (getD xs 17 0) (getD xs 18 0) (getD xs 19 0) (getD xs 20 0) (getD ys 4 0) (getD ys 5 0) (getD ys 12 0) (getD ys 15 0)))
     (writingOf (standing (getD ys 0 0) (getD ys 1 0) (getD ys 3 0))) (listing (getD ys 7 0) (getD ys 8 0))
+    (known (getD ys 9 0) (getD ys 10 0) (getD ys 11 0))
 
 node-from : (bytes : List ℕ) → nodeIn bytes ≡ nodeFrom (numbersIn 0 sizes bytes) (wordsIn 4 16 (drop 44 bytes)) (wordsIn 2 32 (drop 108 bytes)) (numbersIn 172 tailSizes bytes)
 unfolding nodeIn numbersIn
@@ -98,16 +104,17 @@ fits n ok t =
     let m = leb-true (n .mode) 3 (r .mode) in
     (omega (arith, g .kind), (omega (arith, g .ports), (omega (arith, g .subdetector), (omega (arith, m), (omega (arith, t .program), (omega (arith, t .version), (omega (arith, t .tests), (omega (arith, t .amswire), (omega (arith, t .flash), (omega (arith, p .0), (omega (arith, w .pending), (omega (arith, t .clock), (omega (arith, g .size), (omega (arith, p .1), (omega (arith, w .link), (omega (arith, w .slave), (omega (arith, w .from), (omega (arith, w .tally), (omega (arith, w .set), (omega (arith, t .asked), (omega (arith, w .words), tt)))))))))))))))))))))
 
-tail-fits : (n : Node) → stateOk n ≡ true → Typed n → Fit tailSizes (tailNumbers (standingOf (n .writing)) (waitOf (n .pending)) (n .listing))
+tail-fits : (n : Node) → stateOk n ≡ true → Typed n → Fit tailSizes (tailNumbers (standingOf (n .writing)) (waitOf (n .pending)) (n .listing) (n .events))
 unfolding Fit
 tail-fits n ok t =
     let r = ranges-tell n ok in
     let g = given-small (n .given) (r .given) in
     let w = write-small (n .given .ports) (n .writing) (g .ports) (r .writing) in
     let p = wait-small (n .given .ports) (n .pending) (g .ports) (r .pending) in
-    let l = list-small (n .listing) (r .listing) in (
+    let l = list-small (n .listing) (r .listing) in
+    let unread = leb-true (n .events .unread) 12288 (r .events) in (
       omega (arith, w .write),
-      (omega (arith, w .link), (omega arith, (omega (arith, w .words), (omega (arith, p .received), (omega (arith, t .received), (omega arith, (omega (arith, l .entries), (omega (arith, l .turn), tt)))))))),
+      (omega (arith, w .link), (omega arith, (omega (arith, w .words), (omega (arith, p .received), (omega (arith, t .received), (omega arith, (omega (arith, l .entries), (omega (arith, l .turn), (omega (arith, t .number), (omega (arith, t .errors), (omega (arith, unread), (omega (arith, p .asks), (omega arith, (omega arith, (omega (arith, p .out), tt))))))))))))))),
     )
 
 node-back : (n : Node) → stateOk n ≡ true → Typed n → nodeIn (encodeOf n) ≡ n
@@ -117,7 +124,7 @@ node-back n ok t =
     let p = packed sizes (numbersOf n) in
     let ms = bytesOf 4 (n .masks) in
     let ds = bytesOf 2 (n .directory) in
-    let w = tailBytes (n .writing) (n .pending) (n .listing) in
+    let w = tailBytes (n .writing) (n .pending) (n .listing) (n .events) in
     let lp : length p ≡ 44 = length-numbers n in
     let lm : length ms ≡ 64 = length-bytes 4 (n .masks) ∙ ap (_* 4) (t .masks) in
     let ld : length ds ≡ 64 = length-bytes 2 (n .directory) ∙ ap (_* 2) (t .directory) in
@@ -133,23 +140,23 @@ node-back n ok t =
     let directory : wordsIn 2 32 (drop 108 (p ++ (ms ++ (ds ++ w)))) ≡ n .directory =
     ap (λ (l : List ℕ). wordsIn 2 32 (drop 108 l)) two ∙ ap (wordsIn 2 32) (drop-at (p ++ ms) (ds ++ w) 108 lpm)
     ∙ words-back 2 32 (n .directory) w (t .directory) (t .entries) in
-    let tail : numbersIn 172 tailSizes (p ++ (ms ++ (ds ++ w))) ≡ tailNumbers (standingOf (n .writing)) (waitOf (n .pending)) (n .listing) =
+    let tail : numbersIn 172 tailSizes (p ++ (ms ++ (ds ++ w))) ≡ tailNumbers (standingOf (n .writing)) (waitOf (n .pending)) (n .listing) (n .events) =
     ap (numbersIn 172 tailSizes) three
-    ∙ numbers-packed tailSizes (tailNumbers (standingOf (n .writing)) (waitOf (n .pending)) (n .listing)) (p ++ ms ++ ds) [] 172 lpmd (tail-fits n ok t) in
+    ∙ numbers-packed tailSizes (tailNumbers (standingOf (n .writing)) (waitOf (n .pending)) (n .listing) (n .events)) (p ++ ms ++ ds) [] 172 lpmd (tail-fits n ok t) in
     node-from (p ++ (ms ++ (ds ++ w)))
     ∙ (λ i. nodeFrom (numbers i) (masks i) (directory i) (tail i))
-    ∙ (λ i. node (n .masks) (n .directory) (n .given) (n .mode) (n .counts) (erasing-back (n .given .«flash_words») (n .erasing) (r .erasing) i) (pending-back (n .pending) i) (writing-back (n .writing) i) (n .listing))
+    ∙ (λ i. node (n .masks) (n .directory) (n .given) (n .mode) (n .counts) (erasing-back (n .given .«flash_words») (n .erasing) (r .erasing) i) (pending-back (n .pending) i) (writing-back (n .writing) i) (n .listing) (n .events))
 
-length-encoded : (n : Node) → Typed n → length (encodeOf n) ≡ 192
+length-encoded : (n : Node) → Typed n → length (encodeOf n) ≡ 208
 unfolding encodeOf
 length-encoded n t =
     let ms = bytesOf 4 (n .masks) in
     let ds = bytesOf 2 (n .directory) in
-    let w = tailBytes (n .writing) (n .pending) (n .listing) in
+    let w = tailBytes (n .writing) (n .pending) (n .listing) (n .events) in
     let lm : length ms ≡ 64 = length-bytes 4 (n .masks) ∙ ap (_* 4) (t .masks) in
     let ld : length ds ≡ 64 = length-bytes 2 (n .directory) ∙ ap (_* 2) (t .directory) in
-    let a : length (ds ++ w) ≡ 84 = length-append ds w ∙ omega (arith, length-tail (n .writing) (n .pending) (n .listing)) in
-    let b : length (ms ++ (ds ++ w)) ≡ 148 = length-append ms (ds ++ w) ∙ omega arith in
+    let a : length (ds ++ w) ≡ 100 = length-append ds w ∙ omega (arith, length-tail (n .writing) (n .pending) (n .listing) (n .events)) in
+    let b : length (ms ++ (ds ++ w)) ≡ 164 = length-append ms (ds ++ w) ∙ omega arith in
     length-append (packed sizes (numbersOf n)) (ms ++ (ds ++ w)) ∙ omega (arith, length-numbers n)
 
 pub decoded-encoded : DecodedEncoded
@@ -157,12 +164,12 @@ unfolding areState
 decoded-encoded n ok t =
     let back : nodeIn (encodeOf n) ≡ n = node-back n ok t in
     let same : alike (encodeOf (nodeIn (encodeOf n))) (encodeOf n) ≡ true = ap (λ (m : Node). alike (encodeOf m) (encodeOf n)) back ∙ alike-same (encodeOf n) in
-    (and-both (eq-eqb (length (encodeOf n)) 192 (length-encoded n t)) (and-both same (ap stateOk back ∙ ok)), back)
+    (and-both (eq-eqb (length (encodeOf n)) 208 (length-encoded n t)) (and-both same (ap stateOk back ∙ ok)), back)
 
 pub encoded-decoded : EncodedDecoded
 unfolding areState
 encoded-decoded bytes h =
-    let rest = and-right (eqb (length bytes) 192) (alike (encodeOf (nodeIn bytes)) bytes && stateOk (nodeIn bytes)) h in
+    let rest = and-right (eqb (length bytes) 208) (alike (encodeOf (nodeIn bytes)) bytes && stateOk (nodeIn bytes)) h in
     alike-tells (encodeOf (nodeIn bytes)) bytes (and-left (alike (encodeOf (nodeIn bytes)) bytes) (stateOk (nodeIn bytes)) rest)
 
 pub words-read : (k : ℕ) → 0 < k → WordsBack k

@@ -25,6 +25,8 @@ pub record Typed (n : Node) : Type 0 where
   pub flash : n .counts .flash < 65536
   pub asked : waitOf (n .pending) .at < 4294967296
   pub received : waitOf (n .pending) .«rx_status» < 65536
+  pub number : n .events .last < 65536
+  pub errors : n .events .errors < 65536
 
 -- The bytes of a state pass refusal 5 and stand for it.
 abbrev pub DecodedEncoded : Type 0

@@ -3,7 +3,7 @@
 pub mod state;
 pub mod words;
 
-// What is pending, as the numbers in the state bytes: 0 nothing, 1 one slave, 2 a group; what the case does not use is 0.
+// What is pending, as the numbers in the state bytes: 0 nothing, 1 one slave, 2 a group, 3 a build; what the case does not use is 0.
 pub struct Wait {
     pub pending: u16,
     pub link: u32,
@@ -15,6 +15,8 @@ pub struct Wait {
     pub words: usize,
     pub received: usize,
     pub rx_status: u16,
+    pub asks: u32,
+    pub left_out: u32,
 }
 
 // The write that stands, as the numbers in the state bytes: 0 none, 1 one; what the case does not use is 0.

@@ -1,10 +1,13 @@
-// The state bytes: a node's state to its 192 bytes and back.
+// The state bytes: a node's state to its 208 bytes and back.
 ghost use mathlib.Core.Path.{_≡_};
 ghost use lib.ListN.{length, drop};
 ghost use Rattle.codec.specs.Bytes.{wordsIn};
 ghost use Rattle.codec.specs.Places.{putAll, packed};
 ghost use Rattle.base.specs.Words.{laid};
-ghost use Rattle.codec.specs.StateBytes.{tallyOf, progressOf, erasingOf, waitOf, pendingOf, standingOf, writingOf, firstSizes, firstNumbers, middleSizes, middleNumbers, lastSizes, lastNumbers, sizes, numbersOf, tailBytes, encodeOf, givenIn, progressIn, waitIn, standingIn, listingIn, nodeIn, alike, areState};
+ghost use Rattle.event.specs.Taken.{gathered};
+ghost use Rattle.building.specs.Build.{building};
+ghost use Rattle.node.specs.Slaves.{received};
+ghost use Rattle.codec.specs.StateBytes.{tallyOf, progressOf, erasingOf, waitOf, pendingOf, standingOf, writingOf, firstSizes, firstNumbers, middleSizes, middleNumbers, lastSizes, lastNumbers, sizes, numbersOf, keptSizes, keptNumbers, eventSizes, eventNumbers, tailBytes, encodeOf, givenIn, progressIn, waitIn, standingIn, listingIn, eventsIn, nodeIn, alike, areState};
 use crate::Standing;
 use crate::Wait;
 use crate::words::byte;
@@ -17,6 +20,8 @@ use crate::words::store16;
 use crate::words::store32;
 use crate::words::word16;
 use crate::words::word32;
+use building::Building;
+use event::Gathered;
 use flash::Erasing;
 use flash::Progress;
 use group::Built;
@@ -26,6 +31,7 @@ use group::ZeroLength;
 use group::judge::tally_number;
 use node::Ask;
 use node::Counts;
+use node::Events;
 use node::Gathering;
 use node::Given;
 use node::Joining;
@@ -81,6 +87,8 @@ fn wait_of(pending: Pending) -> Wait
             words: 0,
             received: 0,
             rx_status: 0,
+            asks: 0,
+            left_out: 0,
         },
         Pending::Slave(ask) => Wait {
             pending: 1,
@@ -93,6 +101,8 @@ fn wait_of(pending: Pending) -> Wait
             words: 0,
             received: 0,
             rx_status: 0,
+            asks: 0,
+            left_out: 0,
         },
         Pending::Group(ask, gathering) => {
             let built = gathering.built;
@@ -110,8 +120,54 @@ fn wait_of(pending: Pending) -> Wait
                 words: built.words,
                 received: received.words,
                 rx_status: received.rx_status,
+                asks: 0,
+                left_out: 0,
             }
         }
+        Pending::Build(building) => {
+            let gathered = building.gathered;
+            let built = gathered.built;
+            let received = building.received;
+            let built_tally = built.tally;
+            let tally = tally_number(built_tally);
+            Wait {
+                pending: 3,
+                link: 0,
+                slave: building.slave,
+                from: 0,
+                tally,
+                set: building.set,
+                at: building.at,
+                words: built.words,
+                received: received.words,
+                rx_status: received.rx_status,
+                asks: building.asks,
+                left_out: gathered.left_out,
+            }
+        }
+    }
+}
+
+fn building_of(wait: Wait) -> Building
+    ensures { λ r. ⌜ r ≡ building (wait .set) (wait .slave) (wait .asks) (wait .at) (gathered (wait .words) (tallyOf (wait .tally)) (wait .«left_out»)) (received (wait .received) (wait .«rx_status»)) ⌝ }
+{
+    let built = Built {
+        words: wait.words,
+        tally: tally_of(wait.tally),
+    };
+    Building {
+        set: wait.set,
+        slave: wait.slave,
+        asks: wait.asks,
+        at: wait.at,
+        gathered: Gathered {
+            built,
+            left_out: wait.left_out,
+        },
+        received: Received {
+            words: wait.received,
+            rx_status: wait.rx_status,
+        },
     }
 }
 
@@ -141,6 +197,9 @@ fn pending_of(wait: Wait) -> Pending
             },
         };
         return Pending::Group(ask, gathering);
+    }
+    if wait.pending == 3 {
+        return Pending::Build(building_of(wait));
     }
     Pending::Nothing
 }
@@ -175,7 +234,7 @@ fn writing_of(standing: Standing) -> Writing
 }
 
 fn put_first(given: Given, mode: u16, counts: Counts, bytes: &mut [u8])
-    requires { ⌜ length (now bytes) ≡ 192 ⌝ }
+    requires { ⌜ length (now bytes) ≡ 208 ⌝ }
     ensures { λ _. ⌜ now (bytes .exit) ≡ putAll 0 firstSizes (firstNumbers given mode counts) (now (bytes .entry)) ⌝ }
 {
     put8(bytes, 0, given.kind as u64);
@@ -190,7 +249,7 @@ fn put_first(given: Given, mode: u16, counts: Counts, bytes: &mut [u8])
 }
 
 fn put_middle(given: Given, progress: Progress, wait: Wait, bytes: &mut [u8])
-    requires { ⌜ length (now bytes) ≡ 192 ⌝ }
+    requires { ⌜ length (now bytes) ≡ 208 ⌝ }
     ensures { λ _. ⌜ now (bytes .exit) ≡ putAll 14 middleSizes (middleNumbers given progress wait) (now (bytes .entry)) ⌝ }
 {
     put8(bytes, 14, progress.sector as u64);
@@ -205,7 +264,7 @@ fn put_middle(given: Given, progress: Progress, wait: Wait, bytes: &mut [u8])
 }
 
 fn put_last(wait: Wait, bytes: &mut [u8])
-    requires { ⌜ length (now bytes) ≡ 192 ⌝ }
+    requires { ⌜ length (now bytes) ≡ 208 ⌝ }
     ensures { λ _. ⌜ now (bytes .exit) ≡ putAll 32 lastSizes (lastNumbers wait) (now (bytes .entry)) ⌝ }
 {
     put32(bytes, 32, wait.set as u64);
@@ -215,7 +274,7 @@ fn put_last(wait: Wait, bytes: &mut [u8])
 
 // Stores a state's numbers.
 fn put_numbers(node: Node, bytes: &mut [u8])
-    requires { ⌜ length (now bytes) ≡ 192 ⌝ }
+    requires { ⌜ length (now bytes) ≡ 208 ⌝ }
     ensures { λ _. ⌜ now (bytes .exit) ≡ laid (now (bytes .entry)) 0 (packed sizes (numbersOf node)) ⌝ }
 {
     let given = node.given;
@@ -229,13 +288,10 @@ fn put_numbers(node: Node, bytes: &mut [u8])
     put_last(wait, bytes);
 }
 
-// Stores what 02 adds: the write that stands, what is received of a reply in packets, and what is listed.
-fn put_tail(writing: Writing, pending: Pending, listing: Listing, bytes: &mut [u8])
-    requires { ⌜ length (now bytes) ≡ 192 ⌝ }
-    ensures { λ _. ⌜ now (bytes .exit) ≡ laid (now (bytes .entry)) 172 (tailBytes writing pending listing) ⌝ }
+fn put_kept(standing: Standing, wait: Wait, listing: Listing, bytes: &mut [u8])
+    requires { ⌜ length (now bytes) ≡ 208 ⌝ }
+    ensures { λ _. ⌜ now (bytes .exit) ≡ putAll 172 keptSizes (keptNumbers standing wait listing) (now (bytes .entry)) ⌝ }
 {
-    let standing = standing_of(writing);
-    let wait = wait_of(pending);
     put8(bytes, 172, standing.write as u64);
     put8(bytes, 173, standing.link as u64);
     put16(bytes, 174, 0);
@@ -247,9 +303,33 @@ fn put_tail(writing: Writing, pending: Pending, listing: Listing, bytes: &mut [u
     put16(bytes, 190, listing.turn as u64);
 }
 
+fn put_events(wait: Wait, events: Events, bytes: &mut [u8])
+    requires { ⌜ length (now bytes) ≡ 208 ⌝ }
+    ensures { λ _. ⌜ now (bytes .exit) ≡ putAll 192 eventSizes (eventNumbers wait events) (now (bytes .entry)) ⌝ }
+{
+    put16(bytes, 192, events.last as u64);
+    put16(bytes, 194, events.errors as u64);
+    put32(bytes, 196, events.unread as u64);
+    put8(bytes, 200, wait.asks as u64);
+    put8(bytes, 201, 0);
+    put16(bytes, 202, 0);
+    put32(bytes, 204, wait.left_out as u64);
+}
+
+// Stores what 02 adds: the write that stands, what is received of a reply in packets, what is listed, and what is known of events.
+fn put_tail(writing: Writing, pending: Pending, listing: Listing, events: Events, bytes: &mut [u8])
+    requires { ⌜ length (now bytes) ≡ 208 ⌝ }
+    ensures { λ _. ⌜ now (bytes .exit) ≡ laid (now (bytes .entry)) 172 (tailBytes writing pending listing events) ⌝ }
+{
+    let standing = standing_of(writing);
+    let wait = wait_of(pending);
+    put_kept(standing, wait, listing, bytes);
+    put_events(wait, events, bytes);
+}
+
 // Stores a state's bytes.
 pub fn encode(node: Node, bytes: &mut [u8])
-    requires { ⌜ length (now bytes) ≡ 192 ⌝ }
+    requires { ⌜ length (now bytes) ≡ 208 ⌝ }
     ensures { λ _. ⌜ now (bytes .exit) ≡ encodeOf node ⌝ }
 {
     put_numbers(node, bytes);
@@ -260,11 +340,12 @@ pub fn encode(node: Node, bytes: &mut [u8])
     let writing = node.writing;
     let pending = node.pending;
     let listing = node.listing;
-    put_tail(writing, pending, listing, bytes);
+    let events = node.events;
+    put_tail(writing, pending, listing, events, bytes);
 }
 
 fn masks_in(bytes: &[u8]) -> [u32; 16]
-    requires { ⌜ length (now bytes) ≡ 192 ⌝ }
+    requires { ⌜ length (now bytes) ≡ 208 ⌝ }
     ensures { λ r. ⌜ r ≡ wordsIn 4 16 (drop 44 (now (bytes .entry))) ⌝ }
 {
     let mut words = [0u32; 16];
@@ -273,7 +354,7 @@ fn masks_in(bytes: &[u8]) -> [u32; 16]
 }
 
 fn directory_in(bytes: &[u8]) -> [u16; 32]
-    requires { ⌜ length (now bytes) ≡ 192 ⌝ }
+    requires { ⌜ length (now bytes) ≡ 208 ⌝ }
     ensures { λ r. ⌜ r ≡ wordsIn 2 32 (drop 108 (now (bytes .entry))) ⌝ }
 {
     let mut words = [0u16; 32];
@@ -282,7 +363,7 @@ fn directory_in(bytes: &[u8]) -> [u16; 32]
 }
 
 fn given_in(bytes: &[u8]) -> Given
-    requires { ⌜ length (now bytes) ≡ 192 ⌝ }
+    requires { ⌜ length (now bytes) ≡ 208 ⌝ }
     ensures { λ r. ⌜ r ≡ givenIn (now (bytes .entry)) ⌝ }
 {
     Given {
@@ -298,7 +379,7 @@ fn given_in(bytes: &[u8]) -> Given
 }
 
 fn progress_in(bytes: &[u8]) -> Progress
-    requires { ⌜ length (now bytes) ≡ 192 ⌝ }
+    requires { ⌜ length (now bytes) ≡ 208 ⌝ }
     ensures { λ r. ⌜ r ≡ progressIn (now (bytes .entry)) ⌝ }
 {
     Progress {
@@ -308,7 +389,7 @@ fn progress_in(bytes: &[u8]) -> Progress
 }
 
 fn wait_in(bytes: &[u8]) -> Wait
-    requires { ⌜ length (now bytes) ≡ 192 ⌝ }
+    requires { ⌜ length (now bytes) ≡ 208 ⌝ }
     ensures { λ r. ⌜ r ≡ waitIn (now (bytes .entry)) ⌝ }
 {
     Wait {
@@ -322,11 +403,13 @@ fn wait_in(bytes: &[u8]) -> Wait
         words: word32(bytes, 40) as usize,
         received: word32(bytes, 180) as usize,
         rx_status: word16(bytes, 184),
+        asks: byte(bytes, 200) as u32,
+        left_out: word32(bytes, 204),
     }
 }
 
 fn standing_in(bytes: &[u8]) -> Standing
-    requires { ⌜ length (now bytes) ≡ 192 ⌝ }
+    requires { ⌜ length (now bytes) ≡ 208 ⌝ }
     ensures { λ r. ⌜ r ≡ standingIn (now (bytes .entry)) ⌝ }
 {
     Standing {
@@ -337,7 +420,7 @@ fn standing_in(bytes: &[u8]) -> Standing
 }
 
 fn listing_in(bytes: &[u8]) -> Listing
-    requires { ⌜ length (now bytes) ≡ 192 ⌝ }
+    requires { ⌜ length (now bytes) ≡ 208 ⌝ }
     ensures { λ r. ⌜ r ≡ listingIn (now (bytes .entry)) ⌝ }
 {
     Listing {
@@ -346,9 +429,20 @@ fn listing_in(bytes: &[u8]) -> Listing
     }
 }
 
+fn events_in(bytes: &[u8]) -> Events
+    requires { ⌜ length (now bytes) ≡ 208 ⌝ }
+    ensures { λ r. ⌜ r ≡ eventsIn (now (bytes .entry)) ⌝ }
+{
+    Events {
+        last: word16(bytes, 192),
+        errors: word16(bytes, 194),
+        unread: word32(bytes, 196) as usize,
+    }
+}
+
 // The node that bytes stand for.
 pub fn node_in(bytes: &[u8]) -> Node
-    requires { ⌜ length (now bytes) ≡ 192 ⌝ }
+    requires { ⌜ length (now bytes) ≡ 208 ⌝ }
     ensures { λ r. ⌜ r ≡ nodeIn (now (bytes .entry)) ⌝ }
 {
     let masks = masks_in(bytes);
@@ -358,6 +452,7 @@ pub fn node_in(bytes: &[u8]) -> Node
     let pending = pending_of(wait_in(bytes));
     let writing = writing_of(standing_in(bytes));
     let listing = listing_in(bytes);
+    let events = events_in(bytes);
     let counts = Counts {
         amswire: word16(bytes, 10),
         flash: word16(bytes, 12),
@@ -372,21 +467,22 @@ pub fn node_in(bytes: &[u8]) -> Node
         pending,
         writing,
         listing,
+        events,
     }
 }
 
+// Whether two runs are the same. Every byte is looked at: a loop without a way out takes many bytes at a time.
 fn same(a: &[u8], b: &[u8]) -> bool
     requires { ⌜ length (now a) ≡ length (now b) ⌝ }
     ensures { λ r. ⌜ r ≡ alike (now (a .entry)) (now (b .entry)) ⌝ }
 {
+    let mut all = true;
     let mut i = 0;
     while i < a.len() {
-        if a[i] != b[i] {
-            return false;
-        }
+        all = all & (a[i] == b[i]);
         i += 1;
     }
-    true
+    all
 }
 
 // Whether bytes are those of a state. Their masks and directory are, whatever they are: only the numbers before and behind them are held
@@ -394,17 +490,18 @@ fn same(a: &[u8], b: &[u8]) -> bool
 pub fn is_state(bytes: &[u8]) -> bool
     ensures { λ r. ⌜ r ≡ areState (now (bytes .entry)) ⌝ }
 {
-    if bytes.len() != 192 {
+    if bytes.len() != 208 {
         return false;
     }
     let node = node_in(bytes);
-    let mut again = [0u8; 192];
+    let mut again = [0u8; 208];
     let writing = node.writing;
     let pending = node.pending;
     let listing = node.listing;
+    let events = node.events;
     put_numbers(node, &mut again);
-    put_tail(writing, pending, listing, &mut again);
+    put_tail(writing, pending, listing, events, &mut again);
     same(&again[..44], &bytes[..44])
-        & same(&again[172..192], &bytes[172..192])
+        & same(&again[172..208], &bytes[172..208])
         & node::valid::state_ok(node)
 }

@@ -24,7 +24,7 @@ use Rattle.codec.specs.StateBytes.{encodeOf, nodeIn, alike, areState}
 use Rattle.series.specs.Requests.{Row, rowed}
 use Rattle.series.specs.declared.Rowed.{Rowed}
 use Rattle.logodwen.specs.Number.{fields, answerNumber}
-use Rattle.logodwen.specs.Causes.{bytesOk, lentOk, keptOk, recordsOk, linkOk, requestCheck, replyCheck, pollCheck, eraseCheck, slowCheck}
+use Rattle.logodwen.specs.Causes.{bytesOk, lentOk, keptOk, recordsOk, linkOk, requestCheck, replyCheck, pollCheck, buildCheck, eraseCheck, slowCheck}
 use Rattle.codec.proofs.Small.{one-of}
 use Rattle.touch.specs.InBytes.{inBytes}
 use Rattle.logodwen.specs.Entry.{answered, told, entered, listed}
@@ -39,11 +39,11 @@ pub entered-refused : (v : Verdict) (state : List ℕ) (runs : Lent) (o : Outcom
 entered-refused v state runs o r e numbered =
     ap (λ (n : ℕ). answered n state runs) numbered ∙ sym (ap (λ (w : Verdict). entered w state runs o) e)
 
--- bytes of a state are 192
-pub state-long : (bytes : List ℕ) → areState bytes ≡ true → length bytes ≡ 192
+-- bytes of a state are 208
+pub state-long : (bytes : List ℕ) → areState bytes ≡ true → length bytes ≡ 208
 unfolding areState
 state-long bytes h =
-    eqb-true (length bytes) 192 (and-left (eqb (length bytes) 192) (alike (encodeOf (nodeIn bytes)) bytes && stateOk (nodeIn bytes)) h)
+    eqb-true (length bytes) 208 (and-left (eqb (length bytes) 208) (alike (encodeOf (nodeIn bytes)) bytes && stateOk (nodeIn bytes)) h)
 
 -- where the verdict is fine no cause holds
 
@@ -71,7 +71,7 @@ bytes-size bytes h = ⊎-elim (λ e. ap (λ (n : ℕ). sizeOk (n / 2)) e) (λ e.
 size-ok : (state : List ℕ) (bytes : ℕ) → (not (bytesOk bytes) || not (keptOk state (bytes / 2))) ≡ false → bytesOk bytes ≡ true
 size-ok state bytes h = not-false (bytesOk bytes) (or-neither (not (bytesOk bytes)) (not (keptOk state (bytes / 2))) h .0)
 
-pub record RequestFine (state : List ℕ) (flash pm dm io area records reply : ℕ) : Type 0 where
+pub record RequestFine (state : List ℕ) (flash pm dm io area records events reply : ℕ) : Type 0 where
   pub sized : bytesOk flash ≡ true
   pub buffer : 12288 ≤ reply
   pub pm-short : pm ≤ 8192
@@ -80,18 +80,20 @@ pub record RequestFine (state : List ℕ) (flash pm dm io area records reply : �
   pub room : 32768 ≤ area
   pub most : records ≤ 910
   pub listed : recordsOk state records ≡ true
+  pub holds : 12288 ≤ events
   pub bytes : areState state ≡ true
 
-pub request-fine : (link packet : ℕ) (state : List ℕ) (flash pm dm io area records reply : ℕ) → requestCheck link packet state flash pm dm io area records reply ≡ Verdict.Fine
-    → RequestFine state flash pm dm io area records reply
+pub request-fine : (link packet : ℕ) (state : List ℕ) (flash pm dm io area records events reply : ℕ) → requestCheck link packet state flash pm dm io area records events reply ≡ Verdict.Fine
+    → RequestFine state flash pm dm io area records events reply
 unfolding requestCheck
-request-fine link packet state flash pm dm io area records reply h =
+request-fine link packet state flash pm dm io area records events reply h =
     let a = fine-then (not (bytesOk flash) || not (keptOk state (flash / 2))) _ _ h in
     let b = fine-then (ltb reply 12288) _ _ (a .1) in
     let c = fine-then (ltb 8192 pm || ltb 8192 dm || ltb 4096 io) _ _ (b .1) in
     let d = fine-then (ltb area 32768) _ _ (c .1) in
     let g = fine-then (ltb 910 records || not (recordsOk state records)) _ _ (d .1) in
-    let e = fine-then (not (linkOk state link)) _ _ (g .1) in
+    let w = fine-then (ltb events 12288) _ _ (g .1) in
+    let e = fine-then (not (linkOk state link)) _ _ (w .1) in
     let q = or-neither (ltb 910 records) (not (recordsOk state records)) (g .0) in
     let f = fine-then (not (areState state)) _ _ (e .1) in
     let m = or-neither (ltb 8192 pm || ltb 8192 dm) (ltb 4096 io) (c .0) in
@@ -105,33 +107,45 @@ request-fine link packet state flash pm dm io area records reply h =
       room = ltb-false area 32768 (d .0);
       most = ltb-false 910 records (q .0);
       listed = not-false (recordsOk state records) (q .1);
+      holds = ltb-false events 12288 (w .0);
       bytes = not-false (areState state) (f .0);
     }
 
-pub record ReplyFine (packet : ℕ) (state : List ℕ) (reply : ℕ) : Type 0 where
+pub record ReplyFine (packet : ℕ) (state : List ℕ) (events reply : ℕ) : Type 0 where
   pub buffer : 12288 ≤ reply
+  pub holds : 12288 ≤ events
   pub short : packet ≤ 32768
   pub bytes : areState state ≡ true
 
-pub reply-fine : (slave packet : ℕ) (state : List ℕ) (reply : ℕ) → replyCheck slave packet state reply ≡ Verdict.Fine → ReplyFine packet state reply
+pub reply-fine : (slave packet : ℕ) (state : List ℕ) (events reply : ℕ) → replyCheck slave packet state events reply ≡ Verdict.Fine → ReplyFine packet state events reply
 unfolding replyCheck
-reply-fine slave packet state reply h =
+reply-fine slave packet state events reply h =
     let a = fine-then (ltb reply 12288) _ _ h in
     let b = fine-then (ltb 32768 packet) _ _ (a .1) in
-    let c = fine-then (ltb 23 slave) _ _ (b .1) in
+    let e = fine-then (ltb events 12288) _ _ (b .1) in
+    let c = fine-then (ltb 23 slave) _ _ (e .1) in
     let d = fine-then (not (areState state)) _ _ (c .1) in
     record {
       buffer = ltb-false reply 12288 (a .0);
+      holds = ltb-false events 12288 (e .0);
       short = ltb-false 32768 packet (b .0);
       bytes = not-false (areState state) (d .0);
     }
 
-pub poll-fine : (state : List ℕ) (reply : ℕ) → pollCheck state reply ≡ Verdict.Fine → (12288 ≤ reply) × (areState state ≡ true)
+pub poll-fine : (state : List ℕ) (events reply : ℕ) → pollCheck state events reply ≡ Verdict.Fine → (12288 ≤ events) × (12288 ≤ reply) × (areState state ≡ true)
 unfolding pollCheck
-poll-fine state reply h =
+poll-fine state events reply h =
     let a = fine-then (ltb reply 12288) _ _ h in
-    let b = fine-then (not (areState state)) _ _ (a .1) in
-    (ltb-false reply 12288 (a .0), not-false (areState state) (b .0))
+    let e = fine-then (ltb events 12288) _ _ (a .1) in
+    let b = fine-then (not (areState state)) _ _ (e .1) in
+    (ltb-false events 12288 (e .0), ltb-false reply 12288 (a .0), not-false (areState state) (b .0))
+
+pub build-fine : (state : List ℕ) (events : ℕ) → buildCheck state events ≡ Verdict.Fine → (12288 ≤ events) × (areState state ≡ true)
+unfolding buildCheck
+build-fine state events h =
+    let e = fine-then (ltb events 12288) _ _ h in
+    let b = fine-then (not (areState state)) _ _ (e .1) in
+    (ltb-false events 12288 (e .0), not-false (areState state) (b .0))
 
 pub erase-fine : (state : List ℕ) (flash : ℕ) → eraseCheck state flash ≡ Verdict.Fine → (bytesOk flash ≡ true) × (areState state ≡ true)
 unfolding eraseCheck

@@ -11,12 +11,12 @@ use borrow.Author.Tests.{ltb-true, ltb-false, leb-true, le-ltb, lt-leb, eq-eqb, 
 use Rattle.base.specs.Pick.{pick}
 use Rattle.base.proofs.Pick.{and-right}
 use Rattle.node.specs.Valid.{sizeOk, stateOk}
-use Rattle.node.specs.Refusals.{flashCause, replyCause, memoryCause, areaCause, listCause, linkCause, slaveCause, stateCause, busyCause, pollCause, unaskedCause, requestVerdict, replyVerdict, pollVerdict, eraseVerdict, slowVerdict}
+use Rattle.node.specs.Refusals.{flashCause, replyCause, memoryCause, areaCause, listCause, eventsCause, linkCause, slaveCause, stateCause, busyCause, buildingCause, pollCause, unaskedCause, requestVerdict, replyVerdict, pollVerdict, buildVerdict, eraseVerdict, slowVerdict}
 use Rattle.node.specs.declared.Verdict.{Verdict}
 use Rattle.node.proofs.Verdicts.{fine-tells, or-neither}
 use Rattle.touch.proofs.Beside.{none-refuses, list-no}
 use Rattle.codec.specs.StateBytes.{sizeIn, portsIn, listedIn, encodeOf, nodeIn, alike, areState}
-use Rattle.logodwen.specs.Causes.{bytesOk, keptOk, recordsOk, linkOk, flashCause as sizeCause, memoriesCause, lengthCause, recordsCause, portCause, bytesCause, requestCheck, replyCheck, pollCheck, eraseCheck, slowCheck}
+use Rattle.logodwen.specs.Causes.{bytesOk, keptOk, recordsOk, linkOk, flashCause as sizeCause, memoriesCause, lengthCause, recordsCause, portCause, bytesCause, requestCheck, replyCheck, pollCheck, buildCheck, eraseCheck, slowCheck}
 use Rattle.logodwen.proofs.Entering.{bytes-size, state-long}
 
 -- bytes that pass refusal 5 stand for a state
@@ -24,11 +24,11 @@ pub state-sound : (state : List ℕ) → areState state ≡ true → stateOk (no
 unfolding areState
 state-sound state h =
     let same = alike (encodeOf (nodeIn state)) state in
-    and-right same (stateOk (nodeIn state)) (and-right (eqb (length state) 192) (same && stateOk (nodeIn state)) h)
+    and-right same (stateOk (nodeIn state)) (and-right (eqb (length state) 208) (same && stateOk (nodeIn state)) h)
 
 -- what is read off the state bytes as they are is what their node keeps
-where-long : (state : List ℕ) (t : Bool) → areState state ≡ true → pick (eqb (length state) 192) t true ≡ true → t ≡ true
-where-long state t h e = sym (ap (λ (b : Bool). pick b t true) (eq-eqb (length state) 192 (state-long state h))) ∙ e
+where-long : (state : List ℕ) (t : Bool) → areState state ≡ true → pick (eqb (length state) 208) t true ≡ true → t ≡ true
+where-long state t h e = sym (ap (λ (b : Bool). pick b t true) (eq-eqb (length state) 208 (state-long state h))) ∙ e
 
 -- cause by cause
 
@@ -73,40 +73,47 @@ records-no state records s h =
     list-no (nodeIn state) records (ltb-false 910 records (both .0))
     (records-listed state records (not-false (areState state) s) (not-false (recordsOk state records) (both .1)))
 
--- each call; a request, whatever further runs are lent that pass 8 and 9
+-- each call; a request, whatever further runs are lent that pass 8, 9 and 11
 
-pub request-verdict : (link packet : ℕ) (state : List ℕ) (flash pm dm io area records reply : ℕ)
-    → requestCheck link packet state flash pm dm io area records reply ≡ Verdict.Fine
+pub request-verdict : (link packet : ℕ) (state : List ℕ) (flash pm dm io area records events reply : ℕ)
+    → requestCheck link packet state flash pm dm io area records events reply ≡ Verdict.Fine
     → (room list : ℕ) → 32768 ≤ room → list ≤ 910 → nodeIn state .listing .entries ≤ list
-    → requestVerdict (nodeIn state) link packet (flash / 2) pm dm io room list 12288 ≡ Verdict.Fine
+    → requestVerdict (nodeIn state) link packet (flash / 2) pm dm io room list 12288 12288 ≡ Verdict.Fine
 unfolding requestCheck requestVerdict
-request-verdict link packet state flash pm dm io area records reply h room list long most few =
+request-verdict link packet state flash pm dm io area records events reply h room list long most few =
     let n = nodeIn state in
     let none =
     fine-tells
-    (sizeCause state flash ∷ replyCause reply ∷ memoriesCause pm dm io ∷ areaCause area ∷ recordsCause state records ∷ portCause state link
+    (sizeCause state flash ∷ replyCause reply ∷ memoriesCause pm dm io ∷ areaCause area ∷ recordsCause state records ∷ eventsCause events ∷ portCause state link
     ∷ bytesCause state ∷ busyCause n packet ∷ [])
     h in
-    let s = none .1 .1 .1 .1 .1 .1 .0 in
+    let s = none .1 .1 .1 .1 .1 .1 .1 .0 in
     none-refuses
-    (flashCause n (flash / 2) ∷ replyCause 12288 ∷ memoryCause pm dm io ∷ areaCause room ∷ listCause n list ∷ linkCause n link ∷ stateCause n
-    ∷ busyCause n packet ∷ [])
-    (flash-no state flash s (none .0), (refl, (memory-no pm dm io (none .1 .1 .0), (le-ltb room 32768 long, (list-no n list most few, (link-no state link s (none .1 .1 .1 .1 .1 .0), (state-no state s, (none .1 .1 .1 .1 .1 .1 .1 .0, tt))))))))
+    (flashCause n (flash / 2) ∷ replyCause 12288 ∷ memoryCause pm dm io ∷ areaCause room ∷ listCause n list ∷ eventsCause 12288 ∷ linkCause n link
+    ∷ stateCause n ∷ busyCause n packet ∷ [])
+    (flash-no state flash s (none .0), (refl, (memory-no pm dm io (none .1 .1 .0), (le-ltb room 32768 long, (list-no n list most few, (refl, (link-no state link s (none .1 .1 .1 .1 .1 .1 .0), (state-no state s, (none .1 .1 .1 .1 .1 .1 .1 .1 .0, tt)))))))))
 
-pub reply-verdict : (slave packet : ℕ) (state : List ℕ) (reply : ℕ) → replyCheck slave packet state reply ≡ Verdict.Fine → replyVerdict (nodeIn state) slave 12288 ≡ Verdict.Fine
+pub reply-verdict : (slave packet : ℕ) (state : List ℕ) (events reply : ℕ) → replyCheck slave packet state events reply ≡ Verdict.Fine → replyVerdict (nodeIn state) slave 12288 12288 ≡ Verdict.Fine
 unfolding replyCheck replyVerdict
-reply-verdict slave packet state reply h =
+reply-verdict slave packet state events reply h =
     let n = nodeIn state in
-    let none = fine-tells (replyCause reply ∷ lengthCause packet ∷ slaveCause slave ∷ bytesCause state ∷ unaskedCause n slave ∷ []) h in
-    none-refuses (replyCause 12288 ∷ slaveCause slave ∷ stateCause n ∷ unaskedCause n slave ∷ [])
-    (refl, (none .1 .1 .0, (state-no state (none .1 .1 .1 .0), (none .1 .1 .1 .1 .0, tt))))
+    let none = fine-tells (replyCause reply ∷ lengthCause packet ∷ eventsCause events ∷ slaveCause slave ∷ bytesCause state ∷ unaskedCause n slave ∷ []) h in
+    none-refuses (replyCause 12288 ∷ eventsCause 12288 ∷ slaveCause slave ∷ stateCause n ∷ unaskedCause n slave ∷ [])
+    (refl, (refl, (none .1 .1 .1 .0, (state-no state (none .1 .1 .1 .1 .0), (none .1 .1 .1 .1 .1 .0, tt)))))
 
-pub poll-verdict : (state : List ℕ) (reply : ℕ) → pollCheck state reply ≡ Verdict.Fine → pollVerdict (nodeIn state) 12288 ≡ Verdict.Fine
+pub poll-verdict : (state : List ℕ) (events reply : ℕ) → pollCheck state events reply ≡ Verdict.Fine → pollVerdict (nodeIn state) 12288 12288 ≡ Verdict.Fine
 unfolding pollCheck pollVerdict
-poll-verdict state reply h =
+poll-verdict state events reply h =
     let n = nodeIn state in
-    let none = fine-tells (replyCause reply ∷ bytesCause state ∷ pollCause n ∷ []) h in
-    none-refuses (replyCause 12288 ∷ stateCause n ∷ pollCause n ∷ []) (refl, (state-no state (none .1 .0), (none .1 .1 .0, tt)))
+    let none = fine-tells (replyCause reply ∷ eventsCause events ∷ bytesCause state ∷ pollCause n ∷ []) h in
+    none-refuses (replyCause 12288 ∷ eventsCause 12288 ∷ stateCause n ∷ pollCause n ∷ []) (refl, (refl, (state-no state (none .1 .1 .0), (none .1 .1 .1 .0, tt))))
+
+pub build-verdict : (state : List ℕ) (events : ℕ) → buildCheck state events ≡ Verdict.Fine → buildVerdict (nodeIn state) 12288 ≡ Verdict.Fine
+unfolding buildCheck buildVerdict
+build-verdict state events h =
+    let n = nodeIn state in
+    let none = fine-tells (eventsCause events ∷ bytesCause state ∷ buildingCause n ∷ []) h in
+    none-refuses (eventsCause 12288 ∷ stateCause n ∷ buildingCause n ∷ []) (refl, (state-no state (none .1 .0), (none .1 .1 .0, tt)))
 
 pub erase-verdict : (state : List ℕ) (flash : ℕ) → eraseCheck state flash ≡ Verdict.Fine → eraseVerdict (nodeIn state) (flash / 2) ≡ Verdict.Fine
 unfolding eraseCheck eraseVerdict

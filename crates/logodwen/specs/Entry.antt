@@ -1,7 +1,7 @@
--- The seven entries of the C border: what each answers, and the bytes that it leaves in every run that it is lent. An entry is refused
+-- The eight entries of the C border: what each answers, and the bytes that it leaves in every run that it is lent. An entry is refused
 -- by the first cause that holds, and then every byte stays; or it is the node's call on the words of the lent bytes. 01 'Covered',
--- and 02, requests 1 and 7, which lend a request the area and the Q-List, 9, and 11: the flash's bytes are the words of the word form, low
--- byte first, in both sizes. Assumes nothing.
+-- and 02, requests 1, 7 and 12, which lend a request the area, the Q-List and the event area, 9, and 11: the flash's bytes are the words of
+-- the word form, low byte first, in both sizes. Assumes nothing.
 use Prim.Native.Nat.{ℕ, _/_}
 use mathlib.Core.Bool.{Bool, _&&_, not}
 use mathlib.Core.List.{List, []}
@@ -10,7 +10,7 @@ use lib.Dec.{eqb}
 use Rattle.base.specs.Pick.{pick}
 use Rattle.node.specs.State.{refusalNumber}
 use Rattle.node.specs.Effect.{Lent, Outcome, outcome}
-use Rattle.node.specs.Calls.{startOf, requestOf, replyOf, pollOf, eraseOf, slowOf, lentReply, lentFlash, lentList}
+use Rattle.node.specs.Calls.{startOf, requestOf, replyOf, pollOf, buildOf, eraseOf, slowOf, lentReply, lentEvents, lentFlash, lentList}
 use Rattle.node.specs.declared.Refusal.{Refusal}
 use Rattle.node.specs.declared.Verdict.{Verdict}
 use Rattle.codec.specs.Bytes.{wordsOf}
@@ -20,7 +20,7 @@ use Rattle.series.specs.Requests.{Row}
 use Rattle.touch.specs.InBytes.{replyWords, runWords, inBytes}
 use Rattle.rows.specs.Rows.{requestsIn}
 use Rattle.logodwen.specs.Number.{fields, answerNumber}
-use Rattle.logodwen.specs.Causes.{lentOk, requestCheck, replyCheck, pollCheck, eraseCheck, slowCheck, startCheck}
+use Rattle.logodwen.specs.Causes.{lentOk, requestCheck, replyCheck, pollCheck, buildCheck, eraseCheck, slowCheck, startCheck}
 
 -- The number answered, the state bytes, and the bytes of the other runs.
 pub record Answered : Type 0 where
@@ -47,8 +47,8 @@ isSet x = not (eqb x 0)
 -- Start. A refused start leaves the state bytes.
 unfoldable pub startEntry : ℕ → ℕ → ℕ → ℕ → ℕ → ℕ → ℕ → List ℕ → List ℕ → Answered
 startEntry kind ports subdetector program version tests clock flash state =
-    entered (startCheck kind ports subdetector state (length flash)) state (lentReply [])
-    (outcome (startOf kind ports subdetector program version tests clock (wordsOf 2 flash)) (lentReply []))
+    entered (startCheck kind ports subdetector state (length flash)) state (lentReply [] [])
+    (outcome (startOf kind ports subdetector program version tests clock (wordsOf 2 flash)) (lentReply [] []))
 
 -- A request.
 unfoldable pub requestEntry : ℕ → ℕ → ℕ → ℕ → List ℕ → List ℕ → Lent → Answered
@@ -56,19 +56,25 @@ requestEntry clock link bc errors packet state runs =
     entered
     (requestCheck link (length packet / 2) state (length (runs .flash)) (length (runs .memories .pm) / 4)
     (length (runs .memories .dm) / 2) (length (runs .memories .io) / 2) (length (runs .further .area) / 2)
-    (length (runs .further .list) / 14) (length (runs .reply) / 2))
+    (length (runs .further .list) / 14) (length (runs .further .events) / 2) (length (runs .reply) / 2))
     state runs (requestOf (nodeIn state) clock link bc (isSet errors) (wordsOf 2 packet) (runWords runs))
 
 -- A slave's reply.
-unfoldable pub replyEntry : ℕ → ℕ → ℕ → ℕ → ℕ → ℕ → List ℕ → List ℕ → List ℕ → Answered
-replyEntry clock slave bc errors status address packet state reply =
-    entered (replyCheck slave (length packet / 2) state (length reply / 2)) state (lentReply reply)
-    (replyOf (nodeIn state) clock slave bc (isSet errors) status address (wordsOf 2 packet) (replyWords reply))
+unfoldable pub replyEntry : ℕ → ℕ → ℕ → ℕ → ℕ → ℕ → List ℕ → List ℕ → List ℕ → List ℕ → Answered
+replyEntry clock slave bc errors status address packet state events reply =
+    entered (replyCheck slave (length packet / 2) state (length events / 2) (length reply / 2)) state (lentReply events reply)
+    (replyOf (nodeIn state) clock slave bc (isSet errors) status address (wordsOf 2 packet) (replyWords events) (replyWords reply))
 
 -- A poll.
-unfoldable pub pollEntry : ℕ → List ℕ → List ℕ → Answered
-pollEntry clock state reply =
-    entered (pollCheck state (length reply / 2)) state (lentReply reply) (pollOf (nodeIn state) clock (replyWords reply))
+unfoldable pub pollEntry : ℕ → List ℕ → List ℕ → List ℕ → Answered
+pollEntry clock state events reply =
+    entered (pollCheck state (length events / 2) (length reply / 2)) state (lentReply events reply)
+    (pollOf (nodeIn state) clock (replyWords events) (replyWords reply))
+
+-- A build begins. 02, request 12.
+unfoldable pub buildEntry : ℕ → List ℕ → List ℕ → Answered
+buildEntry clock state events =
+    entered (buildCheck state (length events / 2)) state (lentEvents events) (buildOf (nodeIn state) clock (replyWords events))
 
 -- Erase progress.
 unfoldable pub eraseEntry : ℕ → List ℕ → List ℕ → Answered

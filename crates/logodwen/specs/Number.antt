@@ -1,6 +1,7 @@
 -- What an entry answers, as one number: bits 7-0 the refusal, 0 for done; 15-8 1 reply, 2 ask a slave, 3 waiting, 6 an entry of the
--- Q-List handed out, 7 none (02, request 7), 8 send NEXT to a slave (02, request 8); 23-16 a reply's BC, or the slave; 31-24 the word from
--- which the request is sent on; 63-32 a reply's length in words, the words that an erase step set, or the place of the entry handed out. 01
+-- Q-List handed out, 7 none (02, request 7), 8 send NEXT to a slave (02, request 8), 9 ask a slave for its event, 10 no event, 11 an event built
+-- (02, request 12); 23-16 a reply's BC, or the slave; 31-24 the word from
+-- which the request is sent on; 63-32 the length in words of a reply or an event, the words that an erase step set, or the place of the entry handed out. 01
 -- 'Call refusals'. Assumes nothing.
 use Prim.Native.Nat.{ℕ, _+_, _*_, _%_}
 use Rattle.node.specs.State.{refusalNumber}
@@ -27,6 +28,9 @@ answerNumber (Answer.Next s) = fields 8 s 0 0
 answerNumber Answer.Waiting = fields 3 0 0 0
 answerNumber (Answer.Erased count) = fields 0 0 0 count
 answerNumber (Answer.Slow s) = slowNumber s
+answerNumber (Answer.AskEvent s) = fields 9 s 0 0
+answerNumber Answer.NoEvent = fields 10 0 0 0
+answerNumber (Answer.Built words) = fields 11 0 0 words
 
 -- What the reader of captured replies says, as one number: bits 15-8 are 4 where the reply is accepted, and 5 where it is broken, with the
 -- place of the word that breaks it in bits 63-32; all others are 0. 02, request 3.

@@ -38,6 +38,9 @@ pub fn answer_number(answer: Answer) -> u64
         Answer::Waiting => done(3, 0, 0, 0),
         Answer::Erased(count) => done(0, 0, 0, count as u64),
         Answer::Slow(slow) => slow_number(slow),
+        Answer::AskEvent(slave) => done(9, slave as u64, 0, 0),
+        Answer::NoEvent => done(10, 0, 0, 0),
+        Answer::Built(words) => done(11, 0, 0, words as u64),
     }
 }
 

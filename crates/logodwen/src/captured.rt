@@ -78,7 +78,7 @@ fn read_bytes(mask: u32, bytes: &[u8]) -> Capture
 
 // A captured group reply, with the mask of the slaves that were asked.
 #[no_mangle]
-pub extern "C" fn logodwen5_capture(mask: u32, words: &[u8]) -> u64
+pub extern "C" fn logodwen6_capture(mask: u32, words: &[u8]) -> u64
     ensures { λ r. ⌜ r ≡ captureNumber (readOf mask (wordsOf 2 (now (words .entry)))) ⌝ }
 {
     capture_number(read_bytes(mask, words))

@@ -1,6 +1,6 @@
 // When an entry is refused: by numbers, lengths and the state bytes alone.
 ghost use mathlib.Core.Path.{_≡_};
-ghost use Rattle.logodwen.specs.Causes.{bytesOk, lentOk, keptOk, recordsOk, linkOk, requestCheck, replyCheck, pollCheck, eraseCheck, slowCheck};
+ghost use Rattle.logodwen.specs.Causes.{bytesOk, lentOk, keptOk, recordsOk, linkOk, requestCheck, replyCheck, pollCheck, buildCheck, eraseCheck, slowCheck};
 use codec::state::is_state;
 use codec::state::node_in;
 use codec::words::byte;
@@ -12,7 +12,7 @@ use node::Verdict;
 fn kept_ok(state: &[u8], flash: usize) -> bool
     ensures { λ r. ⌜ r ≡ keptOk (now (state .entry)) flash ⌝ }
 {
-    if state.len() != 192 {
+    if state.len() != 208 {
         return true;
     }
     flash == word32(state, 20) as usize
@@ -21,7 +21,7 @@ fn kept_ok(state: &[u8], flash: usize) -> bool
 fn records_ok(state: &[u8], records: usize) -> bool
     ensures { λ r. ⌜ r ≡ recordsOk (now (state .entry)) records ⌝ }
 {
-    if state.len() != 192 {
+    if state.len() != 208 {
         return true;
     }
     word16(state, 188) as usize <= records
@@ -30,7 +30,7 @@ fn records_ok(state: &[u8], records: usize) -> bool
 fn link_ok(state: &[u8], link: u32) -> bool
     ensures { λ r. ⌜ r ≡ linkOk (now (state .entry)) link ⌝ }
 {
-    if state.len() != 192 {
+    if state.len() != 208 {
         return true;
     }
     link < byte(state, 1) as u32
@@ -60,9 +60,10 @@ pub fn request_check(
     io: usize,
     area: usize,
     records: usize,
+    events: usize,
     reply: usize,
 ) -> Verdict
-    ensures { λ r. ⌜ r ≡ requestCheck link packet (now (state .entry)) flash pm dm io area records reply ⌝ }
+    ensures { λ r. ⌜ r ≡ requestCheck link packet (now (state .entry)) flash pm dm io area records events reply ⌝ }
 {
     if !bytes_ok(flash) | !kept_ok(state, flash / 2) {
         return Verdict::No(Refusal::FlashSize);
@@ -79,6 +80,9 @@ pub fn request_check(
     if (910 < records) | !records_ok(state, records) {
         return Verdict::No(Refusal::ListSize);
     }
+    if events < 12288 {
+        return Verdict::No(Refusal::EventsSize);
+    }
     if !link_ok(state, link) {
         return Verdict::No(Refusal::Number);
     }
@@ -93,14 +97,17 @@ pub fn request_check(
     Verdict::Fine
 }
 
-pub fn reply_check(slave: u32, packet: usize, state: &[u8], reply: usize) -> Verdict
-    ensures { λ r. ⌜ r ≡ replyCheck slave packet (now (state .entry)) reply ⌝ }
+pub fn reply_check(slave: u32, packet: usize, state: &[u8], events: usize, reply: usize) -> Verdict
+    ensures { λ r. ⌜ r ≡ replyCheck slave packet (now (state .entry)) events reply ⌝ }
 {
     if reply < 12288 {
         return Verdict::No(Refusal::ReplySize);
     }
     if 32768 < packet {
         return Verdict::No(Refusal::MemorySize);
+    }
+    if events < 12288 {
+        return Verdict::No(Refusal::EventsSize);
     }
     if 23 < slave {
         return Verdict::No(Refusal::Number);
@@ -116,11 +123,14 @@ pub fn reply_check(slave: u32, packet: usize, state: &[u8], reply: usize) -> Ver
     Verdict::Fine
 }
 
-pub fn poll_check(state: &[u8], reply: usize) -> Verdict
-    ensures { λ r. ⌜ r ≡ pollCheck (now (state .entry)) reply ⌝ }
+pub fn poll_check(state: &[u8], events: usize, reply: usize) -> Verdict
+    ensures { λ r. ⌜ r ≡ pollCheck (now (state .entry)) events reply ⌝ }
 {
     if reply < 12288 {
         return Verdict::No(Refusal::ReplySize);
+    }
+    if events < 12288 {
+        return Verdict::No(Refusal::EventsSize);
     }
     if !is_state(state) {
         return Verdict::No(Refusal::State);
@@ -129,6 +139,23 @@ pub fn poll_check(state: &[u8], reply: usize) -> Verdict
     let pending = node.pending;
     if !node::refusals::is_pending(pending) {
         return Verdict::No(Refusal::Unasked);
+    }
+    Verdict::Fine
+}
+
+pub fn build_check(state: &[u8], events: usize) -> Verdict
+    ensures { λ r. ⌜ r ≡ buildCheck (now (state .entry)) events ⌝ }
+{
+    if events < 12288 {
+        return Verdict::No(Refusal::EventsSize);
+    }
+    if !is_state(state) {
+        return Verdict::No(Refusal::State);
+    }
+    let node = node_in(state);
+    let pending = node.pending;
+    if node::refusals::is_pending(pending) {
+        return Verdict::No(Refusal::Busy);
     }
     Verdict::Fine
 }

@@ -1,14 +1,15 @@
-// The C border: seven entries on numbers and runs of bytes, which a bench host in C links. An entry checks what it is given, takes the
+// The C border: eight entries on numbers and runs of bytes, which a bench host in C links. An entry checks what it is given, takes the
 // node out of the state bytes, makes the node's call on the words of the lent bytes, and puts state and words back. What each answers
 // and leaves in every run is one definition of specs/Entry, refused entries included. The symbols carry the border's version.
 ghost use mathlib.Core.Path.{_≡_};
 ghost use mathlib.Core.List.{[]};
 ghost use Rattle.memory.specs.Segment.{memories};
 ghost use Rattle.node.specs.Effect.{further, lent};
-ghost use Rattle.node.specs.Calls.{lentReply, lentFlash, lentList};
-ghost use Rattle.logodwen.specs.Entry.{answered, startEntry, requestEntry, replyEntry, pollEntry, eraseEntry, slowEntry, requestsEntry};
+ghost use Rattle.node.specs.Calls.{lentReply, lentEvents, lentFlash, lentList};
+ghost use Rattle.logodwen.specs.Entry.{answered, startEntry, requestEntry, replyEntry, pollEntry, buildEntry, eraseEntry, slowEntry, requestsEntry};
 use crate::answers::answer_number;
 use crate::answers::done_number;
+use crate::checks::build_check;
 use crate::checks::bytes_ok;
 use crate::checks::erase_check;
 use crate::checks::lent_ok;
@@ -21,6 +22,7 @@ use codec::state::encode;
 use codec::state::is_state;
 use codec::state::node_in;
 use node::Verdict;
+use node::eventing::take_build;
 use node::refusals::refusal_number;
 use rows::fits;
 use rows::on_requests;
@@ -38,7 +40,7 @@ mod taking;
 
 // Start on a flash: the refusal's number, 0 for done.
 #[no_mangle]
-pub extern "C" fn logodwen5_start(
+pub extern "C" fn logodwen6_start(
     kind: u32,
     ports: u32,
     subdetector: u32,
@@ -49,7 +51,7 @@ pub extern "C" fn logodwen5_start(
     flash: &[u8],
     state: &mut [u8],
 ) -> u32
-    ensures { λ r. ⌜ answered r (now (state .exit)) (lentReply []) ≡ startEntry kind ports subdetector «program_version» «subdetector_version» «start_tests» clock (now (flash .entry)) (now (state .entry)) ⌝ }
+    ensures { λ r. ⌜ answered r (now (state .exit)) (lentReply [] []) ≡ startEntry kind ports subdetector «program_version» «subdetector_version» «start_tests» clock (now (flash .entry)) (now (state .entry)) ⌝ }
 {
     if !bytes_ok(flash.len()) {
         return 1;
@@ -57,7 +59,7 @@ pub extern "C" fn logodwen5_start(
     if !((1 <= ports) & (ports <= 4)) | !((kind == 1) | (kind == 2)) | (7 < subdetector) {
         return 4;
     }
-    if state.len() != 192 {
+    if state.len() != 208 {
         return 5;
     }
     let turn = on_start(
@@ -77,7 +79,7 @@ pub extern "C" fn logodwen5_start(
 
 // A request from a link.
 #[no_mangle]
-pub extern "C" fn logodwen5_request(
+pub extern "C" fn logodwen6_request(
     clock: u32,
     link: u32,
     bc: u32,
@@ -90,9 +92,10 @@ pub extern "C" fn logodwen5_request(
     io: &mut [u8],
     area: &mut [u8],
     list: &mut [u8],
+    events: &[u8],
     reply: &mut [u8],
 ) -> u64
-    ensures { λ r. ⌜ answered r (now (state .exit)) (lent (now (flash .exit)) (memories (now (pm .exit)) (now (dm .exit)) (now (io .exit))) (further (now (area .exit)) (now (list .exit))) (now (reply .exit))) ≡ requestEntry clock link bc «receive_error» (now (packet .entry)) (now (state .entry)) (lent (now (flash .entry)) (memories (now (pm .entry)) (now (dm .entry)) (now (io .entry))) (further (now (area .entry)) (now (list .entry))) (now (reply .entry))) ⌝ }
+    ensures { λ r. ⌜ answered r (now (state .exit)) (lent (now (flash .exit)) (memories (now (pm .exit)) (now (dm .exit)) (now (io .exit))) (further (now (area .exit)) (now (list .exit)) (now (events .entry))) (now (reply .exit))) ≡ requestEntry clock link bc «receive_error» (now (packet .entry)) (now (state .entry)) (lent (now (flash .entry)) (memories (now (pm .entry)) (now (dm .entry)) (now (io .entry))) (further (now (area .entry)) (now (list .entry)) (now (events .entry))) (now (reply .entry))) ⌝ }
 {
     let verdict = request_check(
         link,
@@ -104,6 +107,7 @@ pub extern "C" fn logodwen5_request(
         io.len() / 2,
         area.len() / 2,
         list.len() / 14,
+        events.len() / 2,
         reply.len() / 2,
     );
     match verdict {
@@ -123,6 +127,7 @@ pub extern "C" fn logodwen5_request(
                 io,
                 area,
                 list,
+                events,
                 reply,
             );
             let next = turn.node;
@@ -136,7 +141,7 @@ pub extern "C" fn logodwen5_request(
 
 // A list of requests.
 #[no_mangle]
-pub extern "C" fn logodwen5_requests(
+pub extern "C" fn logodwen6_requests(
     clock: u32,
     packets: &[u8],
     state: &mut [u8],
@@ -146,9 +151,10 @@ pub extern "C" fn logodwen5_requests(
     io: &mut [u8],
     area: &mut [u8],
     list: &mut [u8],
+    events: &[u8],
     replies: &mut [u8],
 ) -> u64
-    ensures { λ r. ⌜ answered r (now (state .exit)) (lent (now (flash .exit)) (memories (now (pm .exit)) (now (dm .exit)) (now (io .exit))) (further (now (area .exit)) (now (list .exit))) (now (replies .exit))) ≡ requestsEntry clock (now (packets .entry)) (now (state .entry)) (lent (now (flash .entry)) (memories (now (pm .entry)) (now (dm .entry)) (now (io .entry))) (further (now (area .entry)) (now (list .entry))) (now (replies .entry))) ⌝ }
+    ensures { λ r. ⌜ answered r (now (state .exit)) (lent (now (flash .exit)) (memories (now (pm .exit)) (now (dm .exit)) (now (io .exit))) (further (now (area .exit)) (now (list .exit)) (now (events .entry))) (now (replies .exit))) ≡ requestsEntry clock (now (packets .entry)) (now (state .entry)) (lent (now (flash .entry)) (memories (now (pm .entry)) (now (dm .entry)) (now (io .entry))) (further (now (area .entry)) (now (list .entry)) (now (events .entry))) (now (replies .entry))) ⌝ }
 {
     if !fits(packets) {
         return 10;
@@ -157,7 +163,19 @@ pub extern "C" fn logodwen5_requests(
         return 0;
     }
     let node = node_in(state);
-    let all = on_requests(node, clock, packets, flash, pm, dm, io, area, list, replies);
+    let all = on_requests(
+        node,
+        clock,
+        packets,
+        flash,
+        pm,
+        dm,
+        io,
+        area,
+        list,
+        events,
+        replies,
+    );
     let next = all.node;
     encode(next, state);
     done_number(all.done)
@@ -165,7 +183,7 @@ pub extern "C" fn logodwen5_requests(
 
 // A slave's reply.
 #[no_mangle]
-pub extern "C" fn logodwen5_reply(
+pub extern "C" fn logodwen6_reply(
     clock: u32,
     slave: u32,
     bc: u32,
@@ -174,11 +192,18 @@ pub extern "C" fn logodwen5_reply(
     rx_address: u16,
     packet: &[u8],
     state: &mut [u8],
+    events: &mut [u8],
     reply: &mut [u8],
 ) -> u64
-    ensures { λ r. ⌜ answered r (now (state .exit)) (lentReply (now (reply .exit))) ≡ replyEntry clock slave bc «receive_error» «rx_status» «rx_address» (now (packet .entry)) (now (state .entry)) (now (reply .entry)) ⌝ }
+    ensures { λ r. ⌜ answered r (now (state .exit)) (lentReply (now (events .exit)) (now (reply .exit))) ≡ replyEntry clock slave bc «receive_error» «rx_status» «rx_address» (now (packet .entry)) (now (state .entry)) (now (events .entry)) (now (reply .entry)) ⌝ }
 {
-    let verdict = reply_check(slave, packet.len() / 2, state, reply.len() / 2);
+    let verdict = reply_check(
+        slave,
+        packet.len() / 2,
+        state,
+        events.len() / 2,
+        reply.len() / 2,
+    );
     match verdict {
         Verdict::Fine => {
             let node = node_in(state);
@@ -192,6 +217,7 @@ pub extern "C" fn logodwen5_reply(
                 rx_status,
                 rx_address,
                 packet,
+                events,
                 reply,
             );
             let next = turn.node;
@@ -203,16 +229,40 @@ pub extern "C" fn logodwen5_reply(
     }
 }
 
-// A poll, while a request waits for a slave.
+// A poll, while a request or a build waits for a slave.
 #[no_mangle]
-pub extern "C" fn logodwen5_poll(clock: u32, state: &mut [u8], reply: &mut [u8]) -> u64
-    ensures { λ r. ⌜ answered r (now (state .exit)) (lentReply (now (reply .exit))) ≡ pollEntry clock (now (state .entry)) (now (reply .entry)) ⌝ }
+pub extern "C" fn logodwen6_poll(
+    clock: u32,
+    state: &mut [u8],
+    events: &mut [u8],
+    reply: &mut [u8],
+) -> u64
+    ensures { λ r. ⌜ answered r (now (state .exit)) (lentReply (now (events .exit)) (now (reply .exit))) ≡ pollEntry clock (now (state .entry)) (now (events .entry)) (now (reply .entry)) ⌝ }
 {
-    let verdict = poll_check(state, reply.len() / 2);
+    let verdict = poll_check(state, events.len() / 2, reply.len() / 2);
     match verdict {
         Verdict::Fine => {
             let node = node_in(state);
-            let turn = on_poll(node, clock, reply);
+            let turn = on_poll(node, clock, events, reply);
+            let next = turn.node;
+            let answer = turn.answer;
+            encode(next, state);
+            answer_number(answer)
+        }
+        Verdict::No(refusal) => refusal_number(refusal) as u64,
+    }
+}
+
+// A build begins: of the event area no byte is written yet.
+#[no_mangle]
+pub extern "C" fn logodwen6_build(clock: u32, state: &mut [u8], events: &[u8]) -> u64
+    ensures { λ r. ⌜ answered r (now (state .exit)) (lentEvents (now (events .entry))) ≡ buildEntry clock (now (state .entry)) (now (events .entry)) ⌝ }
+{
+    let verdict = build_check(state, events.len() / 2);
+    match verdict {
+        Verdict::Fine => {
+            let node = node_in(state);
+            let turn = take_build(node, clock);
             let next = turn.node;
             let answer = turn.answer;
             encode(next, state);
@@ -224,7 +274,7 @@ pub extern "C" fn logodwen5_poll(clock: u32, state: &mut [u8], reply: &mut [u8])
 
 // Erase progress.
 #[no_mangle]
-pub extern "C" fn logodwen5_erase(budget: u64, state: &mut [u8], flash: &mut [u8]) -> u64
+pub extern "C" fn logodwen6_erase(budget: u64, state: &mut [u8], flash: &mut [u8]) -> u64
     ensures { λ r. ⌜ answered r (now (state .exit)) (lentFlash (now (flash .exit))) ≡ eraseEntry budget (now (state .entry)) (now (flash .entry)) ⌝ }
 {
     let verdict = erase_check(state, flash.len());
@@ -243,7 +293,7 @@ pub extern "C" fn logodwen5_erase(budget: u64, state: &mut [u8], flash: &mut [u8
 
 // A slow-control step, on the Q-List.
 #[no_mangle]
-pub extern "C" fn logodwen5_slow(clock: u32, state: &mut [u8], list: &mut [u8]) -> u64
+pub extern "C" fn logodwen6_slow(clock: u32, state: &mut [u8], list: &mut [u8]) -> u64
     ensures { λ r. ⌜ answered r (now (state .exit)) (lentList (now (list .exit))) ≡ slowEntry clock (now (state .entry)) (now (list .entry)) ⌝ }
 {
     let verdict = slow_check(state, list.len() / 14);

@@ -5,7 +5,7 @@ ghost use Rattle.codec.specs.Bytes.{wordsOf};
 
 // The check sequence of the words of bytes.
 #[no_mangle]
-pub extern "C" fn logodwen5_fcs(bytes: &[u8]) -> u16
+pub extern "C" fn logodwen6_fcs(bytes: &[u8]) -> u16
     ensures { λ r. ⌜ r ≡ fcsOf (wordsOf 2 (now (bytes .entry))) ⌝ }
 {
     fcs::fcs_bytes(bytes)

@@ -31,11 +31,12 @@ pub fn take(
     io: &mut [u8],
     area: &mut [u8],
     list: &mut [u8],
+    events: &[u8],
     reply: &mut [u8],
 ) -> Turn
-    requires { ⌜ (length (now flash) / 2 ≤ 262144) × (12288 ≤ length (now reply) / 2) × (length (now pm) / 4 ≤ 8192) × (length (now dm) / 2 ≤ 8192) × (length (now io) / 2 ≤ 4096) × (32768 ≤ length (now area) / 2) × (length (now list) / 14 ≤ 910) × (node .listing .entries ≤ length (now list) / 14) ⌝ }
-    requires { ⌜ ((x : Further) → Beside node x → requestVerdict node link (length (now packet) / 2) (length (now flash) / 2) (length (now pm) / 4) (length (now dm) / 2) (length (now io) / 2) (length (x .area) / 2) (length (x .list) / 14) 12288 ≡ Verdict.Fine) ⌝ }
-    ensures { λ r. ⌜ outcome r (lent (now (flash .exit)) (memories (now (pm .exit)) (now (dm .exit)) (now (io .exit))) (further (now (area .exit)) (now (list .exit))) (now (reply .exit))) ≡ inBytes (requestOf node clock link bc errors (wordsOf 2 (now (packet .entry))) (runWords (lent (now (flash .entry)) (memories (now (pm .entry)) (now (dm .entry)) (now (io .entry))) (further (now (area .entry)) (now (list .entry))) (now (reply .entry))))) (lent (now (flash .entry)) (memories (now (pm .entry)) (now (dm .entry)) (now (io .entry))) (further (now (area .entry)) (now (list .entry))) (now (reply .entry))) ⌝ }
+    requires { ⌜ (length (now flash) / 2 ≤ 262144) × (12288 ≤ length (now reply) / 2) × (length (now pm) / 4 ≤ 8192) × (length (now dm) / 2 ≤ 8192) × (length (now io) / 2 ≤ 4096) × (32768 ≤ length (now area) / 2) × (length (now list) / 14 ≤ 910) × (node .listing .entries ≤ length (now list) / 14) × (12288 ≤ length (now events) / 2) × (node .events .unread ≤ 12288) ⌝ }
+    requires { ⌜ ((x : Further) → Beside node x → requestVerdict node link (length (now packet) / 2) (length (now flash) / 2) (length (now pm) / 4) (length (now dm) / 2) (length (now io) / 2) (length (x .area) / 2) (length (x .list) / 14) 12288 12288 ≡ Verdict.Fine) ⌝ }
+    ensures { λ r. ⌜ outcome r (lent (now (flash .exit)) (memories (now (pm .exit)) (now (dm .exit)) (now (io .exit))) (further (now (area .exit)) (now (list .exit)) (now (events .entry))) (now (reply .exit))) ≡ inBytes (requestOf node clock link bc errors (wordsOf 2 (now (packet .entry))) (runWords (lent (now (flash .entry)) (memories (now (pm .entry)) (now (dm .entry)) (now (io .entry))) (further (now (area .entry)) (now (list .entry)) (now (events .entry))) (now (reply .entry))))) (lent (now (flash .entry)) (memories (now (pm .entry)) (now (dm .entry)) (now (io .entry))) (further (now (area .entry)) (now (list .entry)) (now (events .entry))) (now (reply .entry))) ⌝ }
 {
     let route = route_in(node, link, bc, errors, packet);
     if is_short(route, packet.len() / 2) {
@@ -54,6 +55,7 @@ pub fn take(
         io,
         area,
         list,
+        events,
         reply,
     )
 }

@@ -23,8 +23,8 @@ use Rattle.series.specs.declared.Stepped.{Stepped}
 use Rattle.series.proofs.Behind.{put-same}
 use Rattle.series.proofs.Steps.{if-none, reply-stops, same-ends}
 use Rattle.touch.specs.InBytes.{runWords, inBytes}
-use Rattle.touch.proofs.Touch.{Lends, runs-kept}
 use Rattle.rows.specs.Rows.{onwardIn, EndsIn, calledIn, stepIn}
+use Rattle.rows.proofs.Held.{Held, held-kept}
 use Rattle.rows.proofs.Heads.{head-long, laid-behind}
 
 -- where the reply buffer of the next call begins in the replies' run, what its call is lent, and the call
@@ -105,13 +105,13 @@ module _ (clock : ℕ) (packets : List ℕ) (k : Kept) (p : Packet) (o : Outcome
   abbrev asked : Outcome
   asked = requestOf (k .node) clock (p .link) (p .bc) false (part (wordsOf 2 packets) (p .from) (p .words)) (runWords (lentTo k))
 
-  pub call-leaves : Lends (lentTo k) → isReply (o .turn .answer) ≡ false → o .after ≡ lentTo k
+  pub call-leaves : Held (lentTo k) → isReply (o .turn .answer) ≡ false → o .after ≡ lentTo k
   call-leaves b e =
       let q =
       request-leaves (k .node) clock (p .link) (p .bc) false (part (wordsOf 2 packets) (p .from) (p .words)) (runWords (lentTo k))
       (sym (ap (λ (x : Outcome). isReply (x .turn .answer)) made) ∙ e) in
       ap (λ (x : Outcome). x .after)
-      (made ∙ ap (λ (l : Lent). inBytes (outcome (asked .turn) l) (lentTo k)) q ∙ sym (runs-kept (asked .turn) (lentTo k) b))
+      (made ∙ ap (λ (l : Lent). inBytes (outcome (asked .turn) l) (lentTo k)) q ∙ sym (held-kept (asked .turn) (lentTo k) b))
 
   pub call-short : length (k .node .directory) ≡ 32 → (r : Reply) → o .turn .answer ≡ Answer.Reply r → r .words ≤ 12288
   call-short d r e =
@@ -130,7 +130,7 @@ packet-is packets at n {from} {to} h f t =
 
 module _ (clock : ℕ) (packets : List ℕ) (k : Kept) (p : Packet) where
   pub called-step : {t : Turn} {l : Lent} {s : Stepped} {end : List ℕ} → isLeft p (length (k .runs .reply) / 2) (k .filled) ≡ false
-      → outcome t l ≡ callIn clock packets k p → Lends (lentTo k) → place k + length (l .reply) ≡ length (k .runs .reply)
+      → outcome t l ≡ callIn clock packets k p → Held (lentTo k) → place k + length (l .reply) ≡ length (k .runs .reply)
       → EndsIn (k .node) (t .node) (t .answer) (k .filled) (backIn k (outcome t l)) s end → stepped s (with l end) ≡ stepIn clock packets k p
   called-step {t} {l} e made b long ends =
       ends l ∙ ends-onward k (outcome t l) long (call-leaves clock packets k p (outcome t l) made b) ∙ ap (onwardIn k) made ∙ step-called clock packets k p e

@@ -66,11 +66,12 @@ fn take(
     io: &mut [u8],
     area: &mut [u8],
     list: &mut [u8],
+    events: &[u8],
     reply: &mut [u8],
 ) -> Turn
-    requires { ⌜ (length (now flash) / 2 ≤ 262144) × (12288 ≤ length (now reply) / 2) × (length (now pm) / 4 ≤ 8192) × (length (now dm) / 2 ≤ 8192) × (length (now io) / 2 ≤ 4096) × (32768 ≤ length (now area) / 2) × (length (now list) / 14 ≤ 910) × (node .listing .entries ≤ length (now list) / 14) ⌝ }
-    requires { ⌜ ((x : Further) → Beside node x → requestVerdict node link (length (now packet) / 2) (length (now flash) / 2) (length (now pm) / 4) (length (now dm) / 2) (length (now io) / 2) (length (x .area) / 2) (length (x .list) / 14) 12288 ≡ Verdict.Fine) ⌝ }
-    ensures { λ r. ⌜ outcome r (lent (now (flash .exit)) (memories (now (pm .exit)) (now (dm .exit)) (now (io .exit))) (further (now (area .exit)) (now (list .exit))) (now (reply .exit))) ≡ inBytes (requestOf node clock link bc false (wordsOf 2 (now (packet .entry))) (runWords (lent (now (flash .entry)) (memories (now (pm .entry)) (now (dm .entry)) (now (io .entry))) (further (now (area .entry)) (now (list .entry))) (now (reply .entry))))) (lent (now (flash .entry)) (memories (now (pm .entry)) (now (dm .entry)) (now (io .entry))) (further (now (area .entry)) (now (list .entry))) (now (reply .entry))) ⌝ }
+    requires { ⌜ (length (now flash) / 2 ≤ 262144) × (12288 ≤ length (now reply) / 2) × (length (now pm) / 4 ≤ 8192) × (length (now dm) / 2 ≤ 8192) × (length (now io) / 2 ≤ 4096) × (32768 ≤ length (now area) / 2) × (length (now list) / 14 ≤ 910) × (node .listing .entries ≤ length (now list) / 14) × (12288 ≤ length (now events) / 2) × (node .events .unread ≤ 12288) ⌝ }
+    requires { ⌜ ((x : Further) → Beside node x → requestVerdict node link (length (now packet) / 2) (length (now flash) / 2) (length (now pm) / 4) (length (now dm) / 2) (length (now io) / 2) (length (x .area) / 2) (length (x .list) / 14) 12288 12288 ≡ Verdict.Fine) ⌝ }
+    ensures { λ r. ⌜ outcome r (lent (now (flash .exit)) (memories (now (pm .exit)) (now (dm .exit)) (now (io .exit))) (further (now (area .exit)) (now (list .exit)) (now (events .entry))) (now (reply .exit))) ≡ inBytes (requestOf node clock link bc false (wordsOf 2 (now (packet .entry))) (runWords (lent (now (flash .entry)) (memories (now (pm .entry)) (now (dm .entry)) (now (io .entry))) (further (now (area .entry)) (now (list .entry)) (now (events .entry))) (now (reply .entry))))) (lent (now (flash .entry)) (memories (now (pm .entry)) (now (dm .entry)) (now (io .entry))) (further (now (area .entry)) (now (list .entry)) (now (events .entry))) (now (reply .entry))) ⌝ }
 {
     let route = route_in(node, link, bc, false, packet);
     if is_short(route, packet.len() / 2) {
@@ -89,6 +90,7 @@ fn take(
         io,
         area,
         list,
+        events,
         reply,
     )
 }
@@ -106,10 +108,11 @@ fn call(
     io: &mut [u8],
     area: &mut [u8],
     list: &mut [u8],
+    events: &[u8],
     reply: &mut [u8],
 ) -> Turn
     requires { ⌜ (length (now flash) / 2 ≤ 262144) × (12288 ≤ length (now reply) / 2) × (length (now pm) / 4 ≤ 8192) × (length (now dm) / 2 ≤ 8192) ⌝ }
-    ensures { λ r. ⌜ outcome r (lent (now (flash .exit)) (memories (now (pm .exit)) (now (dm .exit)) (now (io .exit))) (further (now (area .exit)) (now (list .exit))) (now (reply .exit))) ≡ inBytes (requestOf node clock link bc false (wordsOf 2 (now (packet .entry))) (runWords (lent (now (flash .entry)) (memories (now (pm .entry)) (now (dm .entry)) (now (io .entry))) (further (now (area .entry)) (now (list .entry))) (now (reply .entry))))) (lent (now (flash .entry)) (memories (now (pm .entry)) (now (dm .entry)) (now (io .entry))) (further (now (area .entry)) (now (list .entry))) (now (reply .entry))) ⌝ }
+    ensures { λ r. ⌜ outcome r (lent (now (flash .exit)) (memories (now (pm .exit)) (now (dm .exit)) (now (io .exit))) (further (now (area .exit)) (now (list .exit)) (now (events .entry))) (now (reply .exit))) ≡ inBytes (requestOf node clock link bc false (wordsOf 2 (now (packet .entry))) (runWords (lent (now (flash .entry)) (memories (now (pm .entry)) (now (dm .entry)) (now (io .entry))) (further (now (area .entry)) (now (list .entry)) (now (events .entry))) (now (reply .entry))))) (lent (now (flash .entry)) (memories (now (pm .entry)) (now (dm .entry)) (now (io .entry))) (further (now (area .entry)) (now (list .entry)) (now (events .entry))) (now (reply .entry))) ⌝ }
 {
     let verdict = request_verdict(
         node,
@@ -121,6 +124,7 @@ fn call(
         io.len() / 2,
         area.len() / 2,
         list.len() / 14,
+        events.len() / 2,
         12288,
     );
     match verdict {
@@ -136,6 +140,7 @@ fn call(
             io,
             area,
             list,
+            events,
             reply,
         ),
         Verdict::No(refusal) => Turn {
@@ -190,11 +195,12 @@ fn step(
     io: &mut [u8],
     area: &mut [u8],
     list: &mut [u8],
+    events: &[u8],
     replies: &mut [u8],
 ) -> Stepped
     requires { ⌜ endAt (wordsOf 2 (now packets)) at ≤ length (now packets) / 2 ⌝ }
     requires { ⌜ (length (now flash) / 2 ≤ 262144) × (length (now pm) / 4 ≤ 8192) × (length (now dm) / 2 ≤ 8192) ⌝ }
-    ensures { λ r. ⌜ stepped r (lent (now (flash .exit)) (memories (now (pm .exit)) (now (dm .exit)) (now (io .exit))) (further (now (area .exit)) (now (list .exit))) (now (replies .exit))) ≡ stepIn clock (now (packets .entry)) (kept node (lent (now (flash .entry)) (memories (now (pm .entry)) (now (dm .entry)) (now (io .entry))) (further (now (area .entry)) (now (list .entry))) (now (replies .entry))) filled) (packetAt (wordsOf 2 (now (packets .entry))) at) ⌝ }
+    ensures { λ r. ⌜ stepped r (lent (now (flash .exit)) (memories (now (pm .exit)) (now (dm .exit)) (now (io .exit))) (further (now (area .exit)) (now (list .exit)) (now (events .entry))) (now (replies .exit))) ≡ stepIn clock (now (packets .entry)) (kept node (lent (now (flash .entry)) (memories (now (pm .entry)) (now (dm .entry)) (now (io .entry))) (further (now (area .entry)) (now (list .entry)) (now (events .entry))) (now (replies .entry))) filled) (packetAt (wordsOf 2 (now (packets .entry))) at) ⌝ }
 {
     let bc = packet_word(packets, at + 1) as u32;
     if is_left(bc, replies.len() / 2, filled) {
@@ -220,6 +226,7 @@ fn step(
         io,
         area,
         list,
+        events,
         &mut replies[behind..],
     );
     let next = turn.node;
@@ -238,11 +245,12 @@ pub fn on_requests(
     io: &mut [u8],
     area: &mut [u8],
     list: &mut [u8],
+    events: &[u8],
     replies: &mut [u8],
 ) -> Rowed
     requires { ⌜ fits (wordsOf 2 (now packets)) ≡ true ⌝ }
     requires { ⌜ (length (now flash) / 2 ≤ 262144) × (length (now pm) / 4 ≤ 8192) × (length (now dm) / 2 ≤ 8192) ⌝ }
-    ensures { λ r. ⌜ rowed r (lent (now (flash .exit)) (memories (now (pm .exit)) (now (dm .exit)) (now (io .exit))) (further (now (area .exit)) (now (list .exit))) (now (replies .exit))) ≡ requestsIn node clock (now (packets .entry)) (lent (now (flash .entry)) (memories (now (pm .entry)) (now (dm .entry)) (now (io .entry))) (further (now (area .entry)) (now (list .entry))) (now (replies .entry))) ⌝ }
+    ensures { λ r. ⌜ rowed r (lent (now (flash .exit)) (memories (now (pm .exit)) (now (dm .exit)) (now (io .exit))) (further (now (area .exit)) (now (list .exit)) (now (events .entry))) (now (replies .exit))) ≡ requestsIn node clock (now (packets .entry)) (lent (now (flash .entry)) (memories (now (pm .entry)) (now (dm .entry)) (now (io .entry))) (further (now (area .entry)) (now (list .entry)) (now (events .entry))) (now (replies .entry))) ⌝ }
 {
     let mut kept = node;
     let mut at: usize = 0;
@@ -261,6 +269,7 @@ pub fn on_requests(
             io,
             area,
             list,
+            events,
             replies,
         );
         if !next.on {

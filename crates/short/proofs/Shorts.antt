@@ -57,7 +57,7 @@ short-passed (Route.Own id) words k h = absurd (miss (0 ∷ 1 ∷ 2 ∷ 3 ∷ 4 
 -- what is lent, with the reply buffer's bytes
 pub around-lends : (n : Node) (link words : ℕ) (l : Lent) → Around n link words l → 12288 ≤ length (l .reply) / 2 → Below 256 (l .reply) → Lends l
 around-lends n link words l a room reply =
-    record { buffer = room; flash = a .flash; pm = a .pm; dm = a .dm; io = a .io; area = a .area; list = a .list; reply = reply }
+    record { buffer = room; flash = a .flash; pm = a .pm; dm = a .dm; io = a .io; area = a .area; list = a .list; holds = a .holds; events = a .events; reply = reply }
 
 -- a command has a word
 pub own-some : (n : Node) (link bc : ℕ) (errors : Bool) (packet : List ℕ) {r : Route} → r ≡ routeOf n link bc errors (wordsOf 2 packet) → (id : ℕ) → r ≡ Route.Own id → 1 ≤ length packet / 2

@@ -17,6 +17,7 @@ use codec::words::packet_word;
 use node::Node;
 use node::Route;
 use node::Turn;
+use touch::requests::needs_events;
 use touch::requests::needs_flash;
 use touch::requests::needs_list;
 use touch::requests::needs_memories;
@@ -52,7 +53,8 @@ pub fn is_short(route: Route, words: usize) -> bool
         Route::Slave(_) => true,
         Route::Group(_, _) => true,
         Route::Own(id) => {
-            !(needs_memories(id) | needs_flash(id)) & (!needs_list(id) & (words <= 64))
+            !(needs_memories(id) | needs_flash(id) | needs_events(id))
+                & (!needs_list(id) & (words <= 64))
         }
     }
 }

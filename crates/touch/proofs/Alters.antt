@@ -101,7 +101,7 @@ pub alters-left : (n : Node) (d : Did) (l : Lent) {r : Turn} {end : List ℕ} �
     → outcome r (lent end (l .memories) (l .further) (l .reply)) ≡ inBytes (ownOutcome n (runWords l) d) l
 alters-left n d l {r} b a =
     ap (λ (f : List ℕ). outcome r (lent f (l .memories) (l .further) (l .reply))) (a .stored)
-    ∙ sym (λ i. outcome r (lent (storeWords 2 (a .words) (l .flash)) (memories (bytes-kept 4 (l .memories .pm) (b .pm) i) (bytes-kept 2 (l .memories .dm) (b .dm) i) (bytes-kept 2 (l .memories .io) (b .io) i)) (further (bytes-kept 2 (l .further .area) (b .area) i) (bytes-kept 2 (l .further .list) (b .list) i)) (reply-kept (l .reply) (b .buffer) (b .reply) i)))
+    ∙ sym (λ i. outcome r (lent (storeWords 2 (a .words) (l .flash)) (memories (bytes-kept 4 (l .memories .pm) (b .pm) i) (bytes-kept 2 (l .memories .dm) (b .dm) i) (bytes-kept 2 (l .memories .io) (b .io) i)) (further (bytes-kept 2 (l .further .area) (b .area) i) (bytes-kept 2 (l .further .list) (b .list) i) (reply-kept (l .further .events) (b .holds) (b .events) i)) (reply-kept (l .reply) (b .buffer) (b .reply) i)))
     ∙ ap (λ (o : Outcome). inBytes o l) (a .changed (memoryWords (l .memories)) (furtherWords (l .further)) (replyWords (l .reply)))
 
 own-filing : (id : ℕ) (n : Node) (clock link : ℕ) (packet : List ℕ) (l : Lent) → isFiling id ≡ true → ownOf id n clock link packet l ≡ filingOf id n (l .flash) packet

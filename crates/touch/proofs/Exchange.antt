@@ -17,6 +17,6 @@ unfolding laid bytesOf
 left-flash call before words {t} e made stored =
     ap (λ (l : List ℕ). outcome t (lentFlash l)) stored ∙ ap (λ (o : Outcome). inBytes o (lentFlash before)) (made ∙ ap call e)
 
-pub left-nothing : {t u : Turn} → t ≡ u → outcome t (lentReply []) ≡ inBytes (outcome u (lentReply [])) (lentReply [])
+pub left-nothing : {t u : Turn} → t ≡ u → outcome t (lentReply [] []) ≡ inBytes (outcome u (lentReply [] [])) (lentReply [] [])
 unfolding laid bytesOf
-left-nothing e = ap (λ (t : Turn). outcome t (lentReply [])) e
+left-nothing e = ap (λ (t : Turn). outcome t (lentReply [] [])) e

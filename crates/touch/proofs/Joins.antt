@@ -70,29 +70,29 @@ module _ (n : Node) (clock link bc : ℕ) (errors : Bool) (packet : List ℕ) (l
   words = wordsOf 2 packet
 
   pub join-request : (from at : ℕ) {r : Turn} {area′ : List ℕ} → at + length packet / 2 ≤ length area / 2 → routeIn n clock link bc errors packet l ≡ Route.Join from at
-      → Joins n link from at packet area r area′ → outcome r (lent (l .flash) (l .memories) (further area′ (l .further .list)) (l .reply)) ≡ inBytes (asked n clock link bc errors packet l) l
+      → Joins n link from at packet area r area′ → outcome r (lent (l .flash) (l .memories) (further area′ (l .further .list) (l .further .events)) (l .reply)) ≡ inBytes (asked n clock link bc errors packet l) l
   join-request from at fits e j =
       let room : at + length (drop from words) ≤ length area / 2 = omega (arith, length-drop from words, length-words-of 2 packet) in
       let more : Turn = turn (withWriting n (Writing.File (joining link (at + length (drop from words))))) (Answer.Reply (zeroReply ZeroLength.Next)) in
-      (λ i. outcome (j .turned i) (lent (l .flash) (l .memories) (further (j .stored i) (l .further .list)) (l .reply)))
-      ∙ sym (λ i. outcome more (lent (bytes-kept 2 (l .flash) (b .flash) i) (memories (bytes-kept 4 (l .memories .pm) (b .pm) i) (bytes-kept 2 (l .memories .dm) (b .dm) i) (bytes-kept 2 (l .memories .io) (b .io) i)) (further (area-joined area at (drop from words) room (b .area) i) (bytes-kept 2 (l .further .list) (b .list) i)) (reply-kept (l .reply) (b .buffer) (b .reply) i)))
+      (λ i. outcome (j .turned i) (lent (l .flash) (l .memories) (further (j .stored i) (l .further .list) (l .further .events)) (l .reply)))
+      ∙ sym (λ i. outcome more (lent (bytes-kept 2 (l .flash) (b .flash) i) (memories (bytes-kept 4 (l .memories .pm) (b .pm) i) (bytes-kept 2 (l .memories .dm) (b .dm) i) (bytes-kept 2 (l .memories .io) (b .io) i)) (further (area-joined area at (drop from words) room (b .area) i) (bytes-kept 2 (l .further .list) (b .list) i) (reply-kept (l .further .events) (b .holds) (b .events) i)) (reply-kept (l .reply) (b .buffer) (b .reply) i)))
       ∙ ap (λ (o : Outcome). inBytes o l) (sym (taken-in n clock link bc errors packet l b v e))
 
   -- what a file's Write comes to where its last words joined, and no write then stands
   ended : ℕ → Outcome → Outcome
   ended at o =
       outcome (turn (withWriting (o .turn .node) Writing.Nothing) (o .turn .answer))
-      (lent (o .after .flash) (o .after .memories) (further (laid (wordsOf 2 area) at words) (o .after .further .list)) (o .after .reply))
+      (lent (o .after .flash) (o .after .memories) (further (laid (wordsOf 2 area) at words) (o .after .further .list) (o .after .further .events)) (o .after .reply))
 
   pub last-request : (at : ℕ) {r : Turn} {flash′ area′ : List ℕ} → at + length packet / 2 ≤ length area / 2 → routeIn n clock link bc errors packet l ≡ Route.Last at
       → Ends n at packet (l .flash) area r flash′ area′
-      → outcome r (lent flash′ (l .memories) (further area′ (l .further .list)) (l .reply)) ≡ inBytes (asked n clock link bc errors packet l) l
+      → outcome r (lent flash′ (l .memories) (further area′ (l .further .list) (l .further .events)) (l .reply)) ≡ inBytes (asked n clock link bc errors packet l) l
   unfolding ended
   last-request at fits e j =
       let a = j .altered in
       let room : at + length words ≤ length area / 2 = omega (arith, length-words-of 2 packet) in
       let done : Turn = turn (withWriting (j .wrote .node) Writing.Nothing) (j .wrote .answer) in
-      (λ i. outcome (j .turned i) (lent (a .stored i) (l .memories) (further (j .stored i) (l .further .list)) (l .reply)))
-      ∙ sym (λ i. outcome done (lent (storeWords 2 (a .words) (l .flash)) (memories (bytes-kept 4 (l .memories .pm) (b .pm) i) (bytes-kept 2 (l .memories .dm) (b .dm) i) (bytes-kept 2 (l .memories .io) (b .io) i)) (further (area-joined area at words room (b .area) i) (bytes-kept 2 (l .further .list) (b .list) i)) (reply-kept (l .reply) (b .buffer) (b .reply) i)))
+      (λ i. outcome (j .turned i) (lent (a .stored i) (l .memories) (further (j .stored i) (l .further .list) (l .further .events)) (l .reply)))
+      ∙ sym (λ i. outcome done (lent (storeWords 2 (a .words) (l .flash)) (memories (bytes-kept 4 (l .memories .pm) (b .pm) i) (bytes-kept 2 (l .memories .dm) (b .dm) i) (bytes-kept 2 (l .memories .io) (b .io) i)) (further (area-joined area at words room (b .area) i) (bytes-kept 2 (l .further .list) (b .list) i) (reply-kept (l .further .events) (b .holds) (b .events) i)) (reply-kept (l .reply) (b .buffer) (b .reply) i)))
       ∙ ap (λ (o : Outcome). inBytes (ended at o) l) (a .changed (memoryWords (l .memories)) (furtherWords (l .further)) (replyWords (l .reply)))
       ∙ ap (λ (o : Outcome). inBytes o l) (sym (taken-in n clock link bc errors packet l b v e))

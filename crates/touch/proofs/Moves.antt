@@ -40,7 +40,7 @@ use Rattle.memory.proofs.Pairs.{after-next, answer-laid, length-answer-even, be
 use Rattle.memory.proofs.Command.{readable-tells, performable-tells, length-read-answer, length-perform-answer, sealed-laid, words-pm}
 use Rattle.node.specs.State.{turn}
 use Rattle.node.specs.Settings.{statusIn}
-use Rattle.node.specs.Effect.{Change, Store, Did, says, answers, memoriesAfter, sealedWords, further, Lent, lent, Outcome, outcome, Relist, Join, effect, applied, ownOutcome, nodeAfter, Said, said, told, Stores}
+use Rattle.node.specs.Effect.{Change, Store, Did, says, answers, memoriesAfter, sealedWords, further, Lent, lent, Outcome, outcome, Relist, Occur, Join, effect, applied, ownOutcome, nodeAfter, Said, said, told, Stores}
 use Rattle.node.specs.Memories.{dataRoom, memoryReadOf, memoryWriteOf, withStore, performIoOf}
 use Rattle.node.specs.Files.{isErasing, seen, namedBy, loadBy, loadAt, loadOf}
 use Rattle.node.specs.Own.{filesOf, memoriesOf, onMemories, ownOf}
@@ -57,7 +57,7 @@ use Rattle.assembly.specs.Held.{Rest}
 use Rattle.touch.specs.Moves.{takesSegment, performBy, MemoriesRest, Moves}
 use Rattle.codec.proofs.Runs.{length-words-of, put-one, word-in, below-each, part-each}
 use Rattle.codec.proofs.ThereAndBack.{bytes-kept}
-use Rattle.touch.proofs.Touch.{Lends, reply-front, quiet-says}
+use Rattle.touch.proofs.Touch.{Lends, reply-front, quiet-says, reply-kept}
 use Rattle.touch.proofs.Taken.{verdictIn, routeIn, asked, taken-in}
 use Rattle.assembly.proofs.Held.{words-laid, rest-laid, rest-none, rest-then, rest-left}
 
@@ -118,24 +118,24 @@ pub record MemoriesBelow (m : Memories) : Type 0 where
   pub dm : Below 256 (m .dm)
   pub io : Below 256 (m .io)
 
--- a command that leaves the flash, and the Q-List
+-- a command that leaves the flash, the Q-List, and what is known of events
 abbrev Kept : Did → Type 0
-Kept d = (d .change ≡ Change.Kept) × (d .list ≡ Relist.Kept)
+Kept d = (d .change ≡ Change.Kept) × (d .list ≡ Relist.Kept) × (d .event ≡ Occur.Kept)
 
 pub moves-left : (n : Node) (d : Did) (l : Lent) {r : Turn} {m : Memories} {reply : List ℕ} → Lends l → MemoriesBelow m → Kept d
     → Moves n d (l .memories) (l .reply) r m reply
     → outcome r (lent (l .flash) m (l .further) reply) ≡ inBytes (ownOutcome n (runWords l) d) l
 moves-left n d l {r} {m} {reply} b low kept q =
     (λ i. outcome (q .turned i) (lent (l .flash) m (l .further) (q .stored i)))
-    ∙ (λ i. outcome (turned (kept .0 i) (kept .1 i)) (lent (l .flash) m (l .further) (storeWords 2 (d .words) (l .reply))))
-    ∙ sym (λ i. outcome (turned Change.Kept Relist.Kept) (lent (bytes-kept 2 (l .flash) (b .flash) i) (left i) (further (bytes-kept 2 (l .further .area) (b .area) i) (bytes-kept 2 (l .further .list) (b .list) i)) (reply-front (l .reply) (d .words) (b .buffer) (q .short) (b .reply) i)))
-    ∙ sym (λ i. inBytes (owned (kept .0 i) (kept .1 i)) l)
+    ∙ (λ i. outcome (turned (kept .0 i) (kept .1 i) (kept .2 i)) (lent (l .flash) m (l .further) (storeWords 2 (d .words) (l .reply))))
+    ∙ sym (λ i. outcome (turned Change.Kept Relist.Kept Occur.Kept) (lent (bytes-kept 2 (l .flash) (b .flash) i) (left i) (further (bytes-kept 2 (l .further .area) (b .area) i) (bytes-kept 2 (l .further .list) (b .list) i) (reply-kept (l .further .events) (b .holds) (b .events) i)) (reply-front (l .reply) (d .words) (b .buffer) (q .short) (b .reply) i)))
+    ∙ sym (λ i. inBytes (owned (kept .0 i) (kept .1 i) (kept .2 i)) l)
   where
-    turned : Change → Relist → Turn
-    turned c g = turn (nodeAfter n [] (effect (Answer.Reply (d .reply)) c (d .store) (d .setup) Join.Kept g false (d .fault) (n .pending) [])) (Answer.Reply (d .reply))
+    turned : Change → Relist → Occur → Turn
+    turned c g o = turn (nodeAfter n [] (effect (Answer.Reply (d .reply)) c (d .store) (d .setup) Join.Kept g o false (d .fault) (n .pending) [])) (Answer.Reply (d .reply))
 
-    owned : Change → Relist → Outcome
-    owned c g = applied n (runWords l) (effect (Answer.Reply (d .reply)) c (d .store) (d .setup) Join.Kept g false (d .fault) (n .pending) (laid (replyWords (l .reply)) 0 (d .words)))
+    owned : Change → Relist → Occur → Outcome
+    owned c g o = applied n (runWords l) (effect (Answer.Reply (d .reply)) c (d .store) (d .setup) Join.Kept g o false (d .fault) (n .pending) (laid (replyWords (l .reply)) 0 (d .words)))
 
     left : memoriesLeft (memoriesAfter (d .store) (memoryWords (l .memories))) (l .memories) ≡ m
     left =
@@ -160,8 +160,8 @@ pub stores-moves : (n : Node) (d : Did) (m m′ : Memories) (reply : List ℕ) {
 unfolding bytesOf
 stores-moves n d m m′ reply none e rest =
     record {
-      turned = ap (λ (o : Outcome). o .turn) (e [] (further [] []) []);
-      moved = ap (λ (o : Outcome). o .after .memories) (e [] (further [] []) []);
+      turned = ap (λ (o : Outcome). o .turn) (e [] (further [] [] []) []);
+      moved = ap (λ (o : Outcome). o .after .memories) (e [] (further [] [] []) []);
       rest = rest;
       short = omega (arith, ap length none);
       stored = laid-none reply 0 ∙ sym (ap (λ (ws : List ℕ). storeWords 2 ws reply) none);
@@ -472,15 +472,15 @@ takes id h a b = by (eqb id 0x0F) (eqb id 0x50) (eqb id 0x51) (sym (λ i. eqb id
 
 -- the whole request
 
-pub own-memories : (id : ℕ) (n : Node) (clock link : ℕ) (packet : List ℕ) (l : Lent) → onMemories id ≡ true → ownOf id n clock link packet l ≡ memoriesOf id n (lent [] (l .memories) (further [] []) []) packet
+pub own-memories : (id : ℕ) (n : Node) (clock link : ℕ) (packet : List ℕ) (l : Lent) → onMemories id ≡ true → ownOf id n clock link packet l ≡ memoriesOf id n (lent [] (l .memories) (further [] [] []) []) packet
 unfolding ownOf memoriesOf
 own-memories id n clock link packet l h = by (eqb id 0x0F) (eqb id 0x10) (eqb id 0x50) (eqb id 0x11) (eqb id 0x51) refl refl refl refl refl h
   where
-    at : {x : ℕ} → id ≡ x → ownOf x n clock link packet l ≡ memoriesOf x n (lent [] (l .memories) (further [] []) []) packet → ownOf id n clock link packet l ≡ memoriesOf id n (lent [] (l .memories) (further [] []) []) packet
-    at e q = ap (λ (i : ℕ). ownOf i n clock link packet l) e ∙ q ∙ sym (ap (λ (i : ℕ). memoriesOf i n (lent [] (l .memories) (further [] []) []) packet) e)
+    at : {x : ℕ} → id ≡ x → ownOf x n clock link packet l ≡ memoriesOf x n (lent [] (l .memories) (further [] [] []) []) packet → ownOf id n clock link packet l ≡ memoriesOf id n (lent [] (l .memories) (further [] [] []) []) packet
+    at e q = ap (λ (i : ℕ). ownOf i n clock link packet l) e ∙ q ∙ sym (ap (λ (i : ℕ). memoriesOf i n (lent [] (l .memories) (further [] [] []) []) packet) e)
 
     by : (a b c d e : Bool) → eqb id 0x0F ≡ a → eqb id 0x10 ≡ b → eqb id 0x50 ≡ c → eqb id 0x11 ≡ d → eqb id 0x51 ≡ e → (a || b || c || d || e) ≡ true
-        → ownOf id n clock link packet l ≡ memoriesOf id n (lent [] (l .memories) (further [] []) []) packet
+        → ownOf id n clock link packet l ≡ memoriesOf id n (lent [] (l .memories) (further [] [] []) []) packet
     by true b c d e p q r s t g = at (eqb-true id 0x0F p) refl
     by false true c d e p q r s t g = at (eqb-true id 0x10 q) refl
     by false false true d e p q r s t g = at (eqb-true id 0x50 r) refl
@@ -497,34 +497,34 @@ own-load n clock link packet l e = ap (λ (i : ℕ). ownOf i n clock link packet
 pub memories-kept : (id : ℕ) (n : Node) (l : Lent) (packet : List ℕ) → Kept (memoriesOf id n l packet)
 unfolding memoriesOf performIoOf memoryReadOf memoryWriteOf
 memories-kept id n l packet =
-    pick-case Kept (eqb id 0x0F) (λ _. pick-case Kept (performable (length (l .memories .io)) (drop 1 packet) dataRoom) (λ _. (refl, refl)) (λ _. (refl, refl)))
+    pick-case Kept (eqb id 0x0F) (λ _. pick-case Kept (performable (length (l .memories .io)) (drop 1 packet) dataRoom) (λ _. (refl, refl, refl)) (λ _. (refl, refl, refl)))
     (λ _. pick-case Kept (eqb id 0x10) (λ _. reads Memory.Pm (l .memories .pm))
     (λ _. pick-case Kept (eqb id 0x50) (λ _. writes Memory.Pm (l .memories .pm))
     (λ _. pick-case Kept (eqb id 0x11) (λ _. reads Memory.Dm (l .memories .dm))
-    (λ _. pick-case Kept (eqb id 0x51) (λ _. writes Memory.Dm (l .memories .dm)) (λ _. (refl, refl))))))
+    (λ _. pick-case Kept (eqb id 0x51) (λ _. writes Memory.Dm (l .memories .dm)) (λ _. (refl, refl, refl))))))
   where
     reads : (memory : Memory) (words : List ℕ) → Kept (memoryReadOf (statusIn n) memory words packet)
     reads memory words =
-        pick-case Kept (eqb (length packet) 3) (λ _. pick-case Kept (readable memory (length words) (getD packet 1 0) (getD packet 2 0) dataRoom) (λ _. (refl, refl)) (λ _. (refl, refl))) (λ _. (refl, refl))
+        pick-case Kept (eqb (length packet) 3) (λ _. pick-case Kept (readable memory (length words) (getD packet 1 0) (getD packet 2 0) dataRoom) (λ _. (refl, refl, refl)) (λ _. (refl, refl, refl))) (λ _. (refl, refl, refl))
 
     writes : (memory : Memory) (words : List ℕ) → Kept (memoryWriteOf memory words packet)
-    writes memory words = pick-case Kept (writable memory (length words) (drop 1 packet)) (λ _. (refl, refl)) (λ _. (refl, refl))
+    writes memory words = pick-case Kept (writable memory (length words) (drop 1 packet)) (λ _. (refl, refl, refl)) (λ _. (refl, refl, refl))
 
 pub load-kept : (n : Node) (flash : List ℕ) (m : Memories) (packet : List ℕ) → Kept (loadOf n flash m packet)
 unfolding loadOf
 load-kept n flash m packet =
-    pick-case Kept (isErasing (n .erasing)) (λ _. (refl, refl)) (λ _. pick-case Kept (eqb (length packet) 2) (λ _. at (namedBy n (getD packet 1 0))) (λ _. (refl, refl)))
+    pick-case Kept (isErasing (n .erasing)) (λ _. (refl, refl, refl)) (λ _. pick-case Kept (eqb (length packet) 2) (λ _. at (namedBy n (getD packet 1 0))) (λ _. (refl, refl, refl)))
   where
     by : (words : List ℕ) (s : Status) → Kept (loadBy words m s)
-    by words (Status.Good end) = pick-case Kept (loadable (length (m .pm)) (length (m .dm)) (length (m .io)) words) (λ _. (refl, refl)) (λ _. (refl, refl))
-    by words Status.Empty = (refl, refl)
-    by words Status.Bad = (refl, refl)
-    by words Status.Erasing = (refl, refl)
+    by words (Status.Good end) = pick-case Kept (loadable (length (m .pm)) (length (m .dm)) (length (m .io)) words) (λ _. (refl, refl, refl)) (λ _. (refl, refl, refl))
+    by words Status.Empty = (refl, refl, refl)
+    by words Status.Bad = (refl, refl, refl)
+    by words Status.Erasing = (refl, refl, refl)
 
     at : (t : Target) → Kept (loadAt n flash m t)
-    at Target.Missing = (refl, refl)
+    at Target.Missing = (refl, refl, refl)
     at (Target.At s) = by (sectorOf flash s) (seen n flash s)
-    at Target.Several = (refl, refl)
+    at Target.Several = (refl, refl, refl)
 
 pub moves-request : (n : Node) (clock link bc : ℕ) (errors : Bool) (packet : List ℕ) (l : Lent) → Lends l → verdictIn n clock link bc errors packet l ≡ Verdict.Fine
     → (id : ℕ) → routeIn n clock link bc errors packet l ≡ Route.Own id → (d : Did) {r : Turn} {m : Memories} {reply : List ℕ}

@@ -38,7 +38,7 @@ file-plain id n words status = pick-case Plain (eqb id 0x05) (λ _. reads status
     reads Status.Erasing = faulty-plain ZeroLength.Abort
 
     tests : Plain (testBy n status)
-    tests = record { change = refl; store = refl; list = refl; words = refl }
+    tests = record { change = refl; store = refl; list = refl; event = λ e. refl; words = refl }
 
 file-at-plain : (id : ℕ) (n : Node) (flash : List ℕ) (t : Target) → Plain (fileAt id n flash t)
 file-at-plain id n flash Target.Missing = pick-case Plain (eqb id 0x05) (λ _. says-plain ZeroLength.End) (λ _. says-plain ZeroLength.Abort)

@@ -31,7 +31,7 @@ use Rattle.qlist.proofs.Lengths.{length-step, length-close, length-told, length
 use Rattle.qlist.proofs.Windows.{add-laid, close-front, fives-front, step-window, step-told}
 use Rattle.qlist.proofs.Writing.{can-tells}
 use Rattle.node.specs.State.{turn, withListing}
-use Rattle.node.specs.Effect.{Change, Store, Relist, Join, listAfter, Did, says, relists, answers, further, Lent, lent, Outcome, outcome, effect, applied, nodeAfter, ownOutcome}
+use Rattle.node.specs.Effect.{Change, Store, Relist, Occur, Join, listAfter, Did, says, relists, answers, further, Lent, lent, Outcome, outcome, effect, applied, nodeAfter, ownOutcome}
 use Rattle.node.specs.Lists.{changesList, listWriteOf, listDeleteOf, listReadOf}
 use Rattle.node.specs.Own.{listsOf, ownOf}
 use Rattle.node.specs.Refusals.{slowVerdict}
@@ -48,7 +48,7 @@ use Rattle.codec.proofs.ThereAndBack.{bytes-kept}
 use Rattle.touch.specs.Apart.{needsList}
 use Rattle.touch.specs.InBytes.{replyWords, runWords, inBytes}
 use Rattle.touch.specs.Touch.{ownTurn, Quiet, Relists}
-use Rattle.touch.proofs.Touch.{Lends, reply-front}
+use Rattle.touch.proofs.Touch.{Lends, reply-front, reply-kept}
 use Rattle.touch.proofs.Taken.{records-words, verdictIn, routeIn, asked, taken-in}
 
 -- words laid among those of the list, and stored with the others, are their bytes laid among its bytes
@@ -357,11 +357,11 @@ module _ (n : Node) (clock : ℕ) (list packet : List ℕ) where
       sym (ap (λ (i : ℕ). listsOf i n clock list packet) (eqb-true id 0x5C last))
 
   abbrev Kept : Did → Type 0
-  Kept d = (d .change ≡ Change.Kept) × (d .store ≡ Store.Kept)
+  Kept d = (d .change ≡ Change.Kept) × (d .store ≡ Store.Kept) × (d .event ≡ Occur.Kept)
 
   kept-changes : (l : Listed) (ws : List ℕ) → (changesList (changed l ws) .words ≡ []) × Kept (changesList (changed l ws))
-  kept-changes (Listed.Entries g) ws = (refl, (refl, refl))
-  kept-changes Listed.Abort ws = (refl, (refl, refl))
+  kept-changes (Listed.Entries g) ws = (refl, (refl, refl, refl))
+  kept-changes Listed.Abort ws = (refl, (refl, refl, refl))
 
   pub delete-words : listDeleteOf n list packet .words ≡ []
   unfolding listDeleteOf
@@ -378,10 +378,10 @@ module _ (n : Node) (clock : ℕ) (list packet : List ℕ) where
   lists-kept : (id : ℕ) → Kept (listsOf id n clock list packet)
   unfolding listsOf listReadOf listDeleteOf listWriteOf
   lists-kept id =
-      pick-case Kept (eqb id 0x1C) (λ _. pick-case Kept (eqb (length packet) 1) (λ _. (refl, refl)) (λ _. (refl, refl)))
+      pick-case Kept (eqb id 0x1C) (λ _. pick-case Kept (eqb (length packet) 1) (λ _. (refl, refl, refl)) (λ _. (refl, refl, refl)))
       (λ _. pick-case Kept (eqb id 0x5B) (λ _. kept-changes (deleteIn (n .listing) (drop 1 packet) list .listed) (deleteIn (n .listing) (drop 1 packet) list .words) .1)
       (λ _. pick-case Kept (eqb id 0x5C) (λ _. kept-changes (writeIn (n .listing) clock (drop 1 packet) list .listed) (writeIn (n .listing) clock (drop 1 packet) list .words) .1)
-      (λ _. (refl, refl))))
+      (λ _. (refl, refl, refl))))
 
 own-lists : (id : ℕ) (n : Node) (clock link : ℕ) (packet : List ℕ) (l : Lent) → needsList id ≡ true → ownOf id n clock link packet l ≡ listsOf id n clock (l .further .list) packet
 unfolding ownOf listsOf
@@ -398,31 +398,31 @@ own-lists id n clock link packet l h = by (eqb id 0x1C) (eqb id 0x5B) (eqb id 0x
 
 -- as the entry has it
 lists-left : (n : Node) (d : Did) (l : Lent) {r : Turn} {list reply : List ℕ} → Lends l → d .change ≡ Change.Kept → d .store ≡ Store.Kept
-    → Relists n d (l .further .list) r list → Quiet n d (l .reply) r reply
-    → outcome r (lent (l .flash) (l .memories) (further (l .further .area) list) reply) ≡ inBytes (ownOutcome n (runWords l) d) l
-lists-left n d l b kc ks p q =
-    (λ i. outcome (p .turned i) (lent (l .flash) (l .memories) (further (l .further .area) (p .stored i)) (q .stored i)))
-    ∙ (λ i. outcome (turned (kc i)) (lent (l .flash) (l .memories) (further (l .further .area) listed) (storeWords 2 (d .words) (l .reply))))
-    ∙ sym (λ i. outcome (turned Change.Kept) (lent (bytes-kept 2 (l .flash) (b .flash) i) (memories (bytes-kept 4 (l .memories .pm) (b .pm) i) (bytes-kept 2 (l .memories .dm) (b .dm) i) (bytes-kept 2 (l .memories .io) (b .io) i)) (further (bytes-kept 2 (l .further .area) (b .area) i) listed) (reply-front (l .reply) (d .words) (b .buffer) (q .short) (b .reply) i)))
-    ∙ sym (λ i. inBytes (owned (kc i) (ks i)) l)
+    → d .event ≡ Occur.Kept → Relists n d (l .further .list) r list → Quiet n d (l .reply) r reply
+    → outcome r (lent (l .flash) (l .memories) (further (l .further .area) list (l .further .events)) reply) ≡ inBytes (ownOutcome n (runWords l) d) l
+lists-left n d l b kc ks ke p q =
+    (λ i. outcome (p .turned i) (lent (l .flash) (l .memories) (further (l .further .area) (p .stored i) (l .further .events)) (q .stored i)))
+    ∙ (λ i. outcome (turned (kc i) (ke i)) (lent (l .flash) (l .memories) (further (l .further .area) listed (l .further .events)) (storeWords 2 (d .words) (l .reply))))
+    ∙ sym (λ i. outcome (turned Change.Kept Occur.Kept) (lent (bytes-kept 2 (l .flash) (b .flash) i) (memories (bytes-kept 4 (l .memories .pm) (b .pm) i) (bytes-kept 2 (l .memories .dm) (b .dm) i) (bytes-kept 2 (l .memories .io) (b .io) i)) (further (bytes-kept 2 (l .further .area) (b .area) i) listed (reply-kept (l .further .events) (b .holds) (b .events) i)) (reply-front (l .reply) (d .words) (b .buffer) (q .short) (b .reply) i)))
+    ∙ sym (λ i. inBytes (owned (kc i) (ks i) (ke i)) l)
   where
     listed : List ℕ
     listed = storeWords 2 (listAfter (d .list) (wordsOf 2 (l .further .list))) (l .further .list)
 
-    turned : Change → Turn
-    turned c = turn (nodeAfter n [] (effect (Answer.Reply (d .reply)) c (d .store) (d .setup) Join.Kept (d .list) false (d .fault) (n .pending) [])) (Answer.Reply (d .reply))
+    turned : Change → Occur → Turn
+    turned c o = turn (nodeAfter n [] (effect (Answer.Reply (d .reply)) c (d .store) (d .setup) Join.Kept (d .list) o false (d .fault) (n .pending) [])) (Answer.Reply (d .reply))
 
-    owned : Change → Store → Outcome
-    owned c s = applied n (runWords l) (effect (Answer.Reply (d .reply)) c s (d .setup) Join.Kept (d .list) false (d .fault) (n .pending) (laid (replyWords (l .reply)) 0 (d .words)))
+    owned : Change → Store → Occur → Outcome
+    owned c s o = applied n (runWords l) (effect (Answer.Reply (d .reply)) c s (d .setup) Join.Kept (d .list) o false (d .fault) (n .pending) (laid (replyWords (l .reply)) 0 (d .words)))
 
 pub lists-request : (n : Node) (clock link bc : ℕ) (errors : Bool) (packet : List ℕ) (l : Lent) → Lends l → verdictIn n clock link bc errors packet l ≡ Verdict.Fine
     → (id : ℕ) → routeIn n clock link bc errors packet l ≡ Route.Own id → needsList id ≡ true → {r : Turn} {list reply : List ℕ}
     → Relists n (listsOf id n clock (wordsOf 2 (l .further .list)) (wordsOf 2 packet)) (l .further .list) r list
     → Quiet n (listsOf id n clock (wordsOf 2 (l .further .list)) (wordsOf 2 packet)) (l .reply) r reply
-    → outcome r (lent (l .flash) (l .memories) (further (l .further .area) list) reply) ≡ inBytes (asked n clock link bc errors packet l) l
+    → outcome r (lent (l .flash) (l .memories) (further (l .further .area) list (l .further .events)) reply) ≡ inBytes (asked n clock link bc errors packet l) l
 lists-request n clock link bc errors packet l b v id e h p q =
     let k = lists-kept n clock (wordsOf 2 (l .further .list)) (wordsOf 2 packet) id in
-    lists-left n (listsOf id n clock (wordsOf 2 (l .further .list)) (wordsOf 2 packet)) l b (k .0) (k .1) p q
+    lists-left n (listsOf id n clock (wordsOf 2 (l .further .list)) (wordsOf 2 packet)) l b (k .0) (k .1) (k .2) p q
     ∙ ap (λ (o : Outcome). inBytes o l)
     (ap (ownOutcome n (runWords l)) (sym (own-lists id n clock link (wordsOf 2 packet) (runWords l) h))
     ∙ sym (taken-in n clock link bc errors packet l b v e))

@@ -34,7 +34,7 @@ records-words list = ap (λ (n : ℕ). n / 7) (length-words-of 2 list) ∙ omega
 module _ (n : Node) (clock link bc : ℕ) (errors : Bool) (packet : List ℕ) (l : Lent) where
   -- the verdict, by the lengths in bytes
   abbrev pub verdictIn : Verdict
-  verdictIn = requestVerdict n link (length packet / 2) (length (l .flash) / 2) (length (l .memories .pm) / 4) (length (l .memories .dm) / 2) (length (l .memories .io) / 2) (length (l .further .area) / 2) (length (l .further .list) / 14) 12288
+  verdictIn = requestVerdict n link (length packet / 2) (length (l .flash) / 2) (length (l .memories .pm) / 4) (length (l .memories .dm) / 2) (length (l .memories .io) / 2) (length (l .further .area) / 2) (length (l .further .list) / 14) 12288 12288
 
   abbrev pub routeIn : Route
   routeIn = routeOf n link bc errors (wordsOf 2 packet)
@@ -43,9 +43,9 @@ module _ (n : Node) (clock link bc : ℕ) (errors : Bool) (packet : List ℕ) (l
   asked = requestOf n clock link bc errors (wordsOf 2 packet) (runWords l)
 
   verdict-in : Lends l
-      → verdictIn ≡ requestVerdict n link (length (wordsOf 2 packet)) (length (wordsOf 2 (l .flash))) (length (wordsOf 4 (l .memories .pm))) (length (wordsOf 2 (l .memories .dm))) (length (wordsOf 2 (l .memories .io))) (length (wordsOf 2 (l .further .area))) (recordsIn (wordsOf 2 (l .further .list))) (length (replyWords (l .reply)))
+      → verdictIn ≡ requestVerdict n link (length (wordsOf 2 packet)) (length (wordsOf 2 (l .flash))) (length (wordsOf 4 (l .memories .pm))) (length (wordsOf 2 (l .memories .dm))) (length (wordsOf 2 (l .memories .io))) (length (wordsOf 2 (l .further .area))) (recordsIn (wordsOf 2 (l .further .list))) (length (replyWords (l .further .events))) (length (replyWords (l .reply)))
   verdict-in b =
-      sym (λ i. requestVerdict n link (length-words-of 2 packet i) (length-words-of 2 (l .flash) i) (length-words-of 4 (l .memories .pm) i) (length-words-of 2 (l .memories .dm) i) (length-words-of 2 (l .memories .io) i) (length-words-of 2 (l .further .area) i) (records-words (l .further .list) i) (length-reply (l .reply) (b .buffer) i))
+      sym (λ i. requestVerdict n link (length-words-of 2 packet i) (length-words-of 2 (l .flash) i) (length-words-of 4 (l .memories .pm) i) (length-words-of 2 (l .memories .dm) i) (length-words-of 2 (l .memories .io) i) (length-words-of 2 (l .further .area) i) (records-words (l .further .list) i) (length-reply (l .further .events) (b .holds) i) (length-reply (l .reply) (b .buffer) i))
 
   pub route-in : routeBy n link bc errors (length packet / 2) (getD (wordsOf 2 packet) 0 0) (getD (wordsOf 2 packet) 1 0) ≡ routeIn
   unfolding routeOf

@@ -12,12 +12,13 @@ use Rattle.group.specs.Ending.{zeroReply, trailer}
 use Rattle.group.specs.declared.ZeroLength.{ZeroLength}
 use Rattle.memory.specs.Segment.{memories}
 use Rattle.node.specs.State.{turn}
-use Rattle.node.specs.Effect.{Change, Store, Setup, Did, says, faulty, sets, answers, Lent, lent, Outcome, outcome, further, Relist, Join, effect, applied, ownOutcome, nodeAfter, Sets, Replies}
+use Rattle.node.specs.Effect.{Change, Store, Setup, Did, says, faulty, sets, answers, knows, hands, Lent, lent, Outcome, outcome, further, Relist, Occur, eventsAfter, Join, effect, applied, ownOutcome, nodeAfter, Sets, Replies}
 use Rattle.node.specs.declared.Answer.{Answer}
+use Rattle.node.specs.declared.Events.{Events}
 use Rattle.node.specs.declared.Node.{Node}
 use Rattle.node.specs.declared.Turn.{Turn}
 use Rattle.codec.specs.Bytes.{wordsIn, wordsOf, bytesOf, storeWords}
-use Rattle.touch.specs.InBytes.{replyWords, runWords, inBytes}
+use Rattle.touch.specs.InBytes.{memoryWords, replyWords, runWords, inBytes}
 use Rattle.touch.specs.Touch.{ownTurn, Quiet, repliedWords}
 use Rattle.codec.proofs.Runs.{length-words-of, words-take, store-words, store-laid}
 use Rattle.codec.proofs.ThereAndBack.{bytes-kept}
@@ -51,40 +52,52 @@ pub record Lends (l : Lent) : Type 0 where
   pub io : Below 256 (l .memories .io)
   pub area : Below 256 (l .further .area)
   pub list : Below 256 (l .further .list)
+  pub holds : 12288 ≤ length (l .further .events) / 2
+  pub events : Below 256 (l .further .events)
   pub reply : Below 256 (l .reply)
 
 -- runs of which no word changes keep their bytes
 pub runs-kept : (t : Turn) (l : Lent) → Lends l → outcome t l ≡ inBytes (outcome t (runWords l)) l
 runs-kept t l b =
-    sym (λ i. outcome t (lent (bytes-kept 2 (l .flash) (b .flash) i) (memories (bytes-kept 4 (l .memories .pm) (b .pm) i) (bytes-kept 2 (l .memories .dm) (b .dm) i) (bytes-kept 2 (l .memories .io) (b .io) i)) (further (bytes-kept 2 (l .further .area) (b .area) i) (bytes-kept 2 (l .further .list) (b .list) i)) (reply-kept (l .reply) (b .buffer) (b .reply) i)))
+    sym (λ i. outcome t (lent (bytes-kept 2 (l .flash) (b .flash) i) (memories (bytes-kept 4 (l .memories .pm) (b .pm) i) (bytes-kept 2 (l .memories .dm) (b .dm) i) (bytes-kept 2 (l .memories .io) (b .io) i)) (further (bytes-kept 2 (l .further .area) (b .area) i) (bytes-kept 2 (l .further .list) (b .list) i) (reply-kept (l .further .events) (b .holds) (b .events) i)) (reply-kept (l .reply) (b .buffer) (b .reply) i)))
 
--- a command that touches the reply buffer at most
+-- a command that touches the reply buffer at most; what is known of events is no run
+
+abbrev pub Unlaid : Occur → Type 0
+Unlaid o = (events : List ℕ) → eventsAfter o events ≡ events
 
 pub record Plain (d : Did) : Type 0 where
   pub change : d .change ≡ Change.Kept
   pub store : d .store ≡ Store.Kept
   pub list : d .list ≡ Relist.Kept
+  pub event : Unlaid (d .event)
   pub words : d .reply .words ≡ length (d .words)
 
 pub says-plain : (z : ZeroLength) → Plain (says z)
-says-plain z = record { change = refl; store = refl; list = refl; words = refl }
+says-plain z = record { change = refl; store = refl; list = refl; event = λ e. refl; words = refl }
 
 pub sets-plain : (u : Setup) → Plain (sets u)
-sets-plain u = record { change = refl; store = refl; list = refl; words = refl }
+sets-plain u = record { change = refl; store = refl; list = refl; event = λ e. refl; words = refl }
 
 pub answers-plain : (status : ℕ) (ws : List ℕ) → Plain (answers status ws)
-answers-plain status ws = record { change = refl; store = refl; list = refl; words = sym (length-append ws (trailer ws status)) }
+answers-plain status ws = record { change = refl; store = refl; list = refl; event = λ e. refl; words = sym (length-append ws (trailer ws status)) }
 
 pub faulty-plain : (z : ZeroLength) → Plain (faulty z)
-faulty-plain z = record { change = refl; store = refl; list = refl; words = refl }
+faulty-plain z = record { change = refl; store = refl; list = refl; event = λ e. refl; words = refl }
+
+pub knows-plain : (e : Events) → Plain (knows e)
+knows-plain e = record { change = refl; store = refl; list = refl; event = λ x. refl; words = refl }
+
+pub hands-plain : (e : Events) (ws : List ℕ) → Plain (hands e ws)
+hands-plain e ws = record { change = refl; store = refl; list = refl; event = λ x. refl; words = refl }
 
 -- what the node's function leaves in a room of words, and how many of them are stored
 
 pub replied-turn : (n : Node) (d : Did) (before : List ℕ) {r : Turn} {after : List ℕ} → Replies n d before r after → r ≡ ownTurn n d
-replied-turn n d before e = ap (λ (o : Outcome). o .turn) (e [] (memories [] [] []) (further [] []))
+replied-turn n d before e = ap (λ (o : Outcome). o .turn) (e [] (memories [] [] []) (further [] [] []))
 
 pub replied-room : (n : Node) (d : Did) (before : List ℕ) {r : Turn} {after : List ℕ} → Replies n d before r after → after ≡ laid before 0 (d .words)
-replied-room n d before e = ap (λ (o : Outcome). o .after .reply) (e [] (memories [] [] []) (further [] []))
+replied-room n d before e = ap (λ (o : Outcome). o .after .reply) (e [] (memories [] [] []) (further [] [] []))
 
 pub replied-count : (n : Node) (d : Did) (before : List ℕ) {r : Turn} {after : List ℕ} {k : ℕ} → Plain d → Replies n d before r after → k ≡ repliedWords (r .answer)
     → k ≡ length (d .words)
@@ -117,14 +130,15 @@ pub quiet-left : (n : Node) (d : Did) (l : Lent) {r : Turn} {end : List ℕ} →
 quiet-left n d l {r} {end} b p q =
     (λ i. outcome (q .turned i) (lent (l .flash) (l .memories) (l .further) (q .stored i)))
     ∙ (λ i. outcome (turned (p .change i) (p .list i)) (lent (l .flash) (l .memories) (l .further) (storeWords 2 (d .words) (l .reply))))
-    ∙ sym (λ i. outcome (turned Change.Kept Relist.Kept) (lent (bytes-kept 2 (l .flash) (b .flash) i) (memories (bytes-kept 4 (l .memories .pm) (b .pm) i) (bytes-kept 2 (l .memories .dm) (b .dm) i) (bytes-kept 2 (l .memories .io) (b .io) i)) (further (bytes-kept 2 (l .further .area) (b .area) i) (bytes-kept 2 (l .further .list) (b .list) i)) (reply-front (l .reply) (d .words) (b .buffer) (q .short) (b .reply) i)))
+    ∙ sym (λ i. outcome (turned Change.Kept Relist.Kept) (lent (bytes-kept 2 (l .flash) (b .flash) i) (memories (bytes-kept 4 (l .memories .pm) (b .pm) i) (bytes-kept 2 (l .memories .dm) (b .dm) i) (bytes-kept 2 (l .memories .io) (b .io) i)) (further (bytes-kept 2 (l .further .area) (b .area) i) (bytes-kept 2 (l .further .list) (b .list) i) (reply-kept (l .further .events) (b .holds) (b .events) i)) (reply-front (l .reply) (d .words) (b .buffer) (q .short) (b .reply) i)))
+    ∙ sym (ap (λ (x : List ℕ). inBytes (outcome (turned Change.Kept Relist.Kept) (lent (wordsOf 2 (l .flash)) (memoryWords (l .memories)) (further (wordsOf 2 (l .further .area)) (wordsOf 2 (l .further .list)) x) (laid (replyWords (l .reply)) 0 (d .words)))) l) (p .event (replyWords (l .further .events))))
     ∙ sym (λ i. inBytes (owned (p .change i) (p .store i) (p .list i)) l)
   where
     turned : Change → Relist → Turn
-    turned c q = turn (nodeAfter n [] (effect (Answer.Reply (d .reply)) c (d .store) (d .setup) Join.Kept q false (d .fault) (n .pending) [])) (Answer.Reply (d .reply))
+    turned c q = turn (nodeAfter n [] (effect (Answer.Reply (d .reply)) c (d .store) (d .setup) Join.Kept q (d .event) false (d .fault) (n .pending) [])) (Answer.Reply (d .reply))
 
     owned : Change → Store → Relist → Outcome
-    owned c s q = applied n (runWords l) (effect (Answer.Reply (d .reply)) c s (d .setup) Join.Kept q false (d .fault) (n .pending) (laid (replyWords (l .reply)) 0 (d .words)))
+    owned c s q = applied n (runWords l) (effect (Answer.Reply (d .reply)) c s (d .setup) Join.Kept q (d .event) false (d .fault) (n .pending) (laid (replyWords (l .reply)) 0 (d .words)))
 
 pub quiet-is : (n : Node) (before : List ℕ) {d d′ : Did} {r : Turn} {after : List ℕ} → Quiet n d before r after → d ≡ d′ → Quiet n d′ before r after
 quiet-is n before {r = r} {after = after} q e = subst (λ (x : Did). Quiet n x before r after) e q
@@ -134,7 +148,7 @@ pub quiet-sets : (n : Node) (d : Did) (reply : List ℕ) {t : Turn} → d .words
 unfolding bytesOf
 quiet-sets n d reply none e =
     record {
-      turned = ap (λ (o : Outcome). o .turn) (e (lent [] (memories [] [] []) (further [] []) reply));
+      turned = ap (λ (o : Outcome). o .turn) (e (lent [] (memories [] [] []) (further [] [] []) reply));
       short = omega (arith, ap length none);
       stored = laid-none reply 0 ∙ ap (λ (ws : List ℕ). storeWords 2 ws reply) (sym none);
     }

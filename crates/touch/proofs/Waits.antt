@@ -19,11 +19,13 @@ use Rattle.codec.specs.Bytes.{bytesOf}
 use Rattle.touch.specs.InBytes.{replyWords, inBytes}
 use Rattle.touch.proofs.Touch.{length-reply, reply-kept}
 
-pub poll-waits : (n : Node) (clock : ℕ) (reply : List ℕ) → isLate clock (askedAt (n .pending)) ≡ false → 12288 ≤ length reply / 2 → Below 256 reply → pollVerdict n 12288 ≡ Verdict.Fine
-    → outcome (turn n Answer.Waiting) (lentReply reply) ≡ inBytes (pollOf n clock (replyWords reply)) (lentReply reply)
+pub poll-waits : (n : Node) (clock : ℕ) (events reply : List ℕ) → isLate clock (askedAt (n .pending)) ≡ false → 12288 ≤ length events / 2
+    → 12288 ≤ length reply / 2 → Below 256 events → Below 256 reply → pollVerdict n 12288 12288 ≡ Verdict.Fine
+    → outcome (turn n Answer.Waiting) (lentReply events reply) ≡ inBytes (pollOf n clock (replyWords events) (replyWords reply)) (lentReply events reply)
 unfolding pollOf pollEffect laid bytesOf
-poll-waits n clock reply early h b fine =
+poll-waits n clock events reply early g h a b fine =
+    let held = replyWords events in
     let words = replyWords reply in
-    let verdict = sym (ap (pollVerdict n) (length-reply reply h) ∙ fine) in
-    ap (λ (x : List ℕ). outcome (turn n Answer.Waiting) (lentReply x)) (sym (reply-kept reply h b))
-    ∙ (λ i. inBytes (judged (verdict i) n (lentReply words) (pick (sym early i) (hears (n .pending) n clock silent [] words) (only Answer.Waiting (n .pending) words))) (lentReply reply))
+    let verdict = sym ((λ i. pollVerdict n (length-reply events g i) (length-reply reply h i)) ∙ fine) in
+    (λ i. outcome (turn n Answer.Waiting) (lentReply (sym (reply-kept events g a) i) (sym (reply-kept reply h b) i)))
+    ∙ (λ i. inBytes (judged (verdict i) n (lentReply held words) (pick (sym early i) (hears (n .pending) n clock silent [] held words) (only Answer.Waiting (n .pending) words))) (lentReply events reply))

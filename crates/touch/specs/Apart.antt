@@ -2,7 +2,7 @@
 use Prim.Native.Nat.{ℕ}
 use mathlib.Core.Bool.{Bool, _||_}
 use lib.Dec.{eqb}
-use Rattle.node.specs.Own.{onMemories, onList}
+use Rattle.node.specs.Own.{onMemories, onList, onEvents}
 
 -- PM, DM and IO: Perform IO, the reads and writes of PM and DM, and Load.
 abbrev pub needsMemories : ℕ → Bool
@@ -15,3 +15,7 @@ needsFlash id = eqb id 0x05 || eqb id 0x45 || eqb id 0x06 || eqb id 0x46 || eqb 
 -- The Q-List: Write, Entry Delete and Read. 02, request 7.
 abbrev pub needsList : ℕ → Bool
 needsList id = onList id
+
+-- The event area: Read Event. 02, request 12.
+abbrev pub needsEvents : ℕ → Bool
+needsEvents id = onEvents id

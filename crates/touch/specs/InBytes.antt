@@ -1,5 +1,5 @@
--- The words of the bytes that a host lends, and the words that a call leaves stored back: 01 'Covered', and 02, requests 1 and 7, for the area
--- and the Q-List. Assumes nothing.
+-- The words of the bytes that a host lends, and the words that a call leaves stored back: 01 'Covered', and 02, requests 1, 7 and 12, for the area,
+-- the Q-List and the event area. Assumes nothing.
 use Prim.Native.Nat.{ℕ}
 use mathlib.Core.List.{List}
 use lib.ListN.{take}
@@ -14,16 +14,17 @@ memoryWords m = memories (wordsOf 4 (m .pm)) (wordsOf 2 (m .dm)) (wordsOf 2 (m .
 abbrev pub memoriesLeft : Memories → Memories → Memories
 memoriesLeft m before = memories (storeWords 4 (m .pm) (before .pm)) (storeWords 2 (m .dm) (before .dm)) (storeWords 2 (m .io) (before .io))
 
--- The words of the further runs, and the words stored back.
-abbrev pub furtherWords : Further → Further
-furtherWords x = further (wordsOf 2 (x .area)) (wordsOf 2 (x .list))
-
-abbrev pub furtherLeft : Further → Further → Further
-furtherLeft x before = further (storeWords 2 (x .area) (before .area)) (storeWords 2 (x .list) (before .list))
-
--- Of a reply buffer the node is lent the first 12,288 words: the rest stays.
+-- Of a reply buffer, and of an event area, the node is lent the first 12,288 words: the rest stays.
 abbrev pub replyWords : List ℕ → List ℕ
 replyWords reply = wordsOf 2 (take 24576 reply)
+
+-- The words of the further runs, and the words stored back.
+abbrev pub furtherWords : Further → Further
+furtherWords x = further (wordsOf 2 (x .area)) (wordsOf 2 (x .list)) (replyWords (x .events))
+
+abbrev pub furtherLeft : Further → Further → Further
+furtherLeft x before =
+    further (storeWords 2 (x .area) (before .area)) (storeWords 2 (x .list) (before .list)) (storeWords 2 (x .events) (before .events))
 
 -- The words of the runs, and the words stored back.
 abbrev pub runWords : Lent → Lent

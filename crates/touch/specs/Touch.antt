@@ -19,26 +19,28 @@ use Rattle.node.specs.declared.Answer.{Answer}
 use Rattle.node.specs.declared.Node.{Node}
 use Rattle.node.specs.declared.Turn.{Turn}
 use Rattle.codec.specs.Bytes.{wordsOf, storeWords}
-use Rattle.touch.specs.Apart.{needsMemories, needsFlash}
+use Rattle.touch.specs.Apart.{needsMemories, needsFlash, needsEvents}
 
--- The further runs that may be lent beside those that a call touches: they pass 8 and 9, and hold bytes.
+-- The further runs that may be lent beside those that a call touches: they pass 8, 9 and 11, and hold bytes.
 pub record Beside (n : Node) (x : Further) : Type 0 where
   pub room : 32768 ≤ length (x .area) / 2
   pub most : length (x .list) / 14 ≤ 910
   pub listed : n .listing .entries ≤ length (x .list) / 14
   pub area : Below 256 (x .area)
   pub list : Below 256 (x .list)
+  pub holds : 12288 ≤ length (x .events) / 2
+  pub events : Below 256 (x .events)
 
 -- The commands that touch the reply buffer at most, and what each does.
 abbrev pub isQuiet : ℕ → Bool
-isQuiet id = not (needsMemories id || needsFlash id)
+isQuiet id = not (needsMemories id || needsFlash id || needsEvents id)
 
 abbrev pub quietOf : ℕ → Node → ℕ → ℕ → List ℕ → Did
 quietOf id n clock link packet = pick (eqb id 0x07) (summaryOf n packet) (settingsOf id n clock link packet)
 
 -- The turn of an own command that changes neither flash nor memories, whatever is lent.
 abbrev pub ownTurn : Node → Did → Turn
-ownTurn n d = ownOutcome n (lentReply []) d .turn
+ownTurn n d = ownOutcome n (lentReply [] []) d .turn
 
 -- Such a command on the bytes of the reply buffer: its turn, and its words, which fit, stored at the front.
 pub record Quiet (n : Node) (d : Did) (before : List ℕ) (r : Turn) (after : List ℕ) : Type 0 where
@@ -56,6 +58,9 @@ repliedWords (Answer.Next s) = 0
 repliedWords Answer.Waiting = 0
 repliedWords (Answer.Erased count) = 0
 repliedWords (Answer.Slow s) = 0
+repliedWords (Answer.AskEvent s) = 0
+repliedWords Answer.NoEvent = 0
+repliedWords (Answer.Built words) = 0
 
 -- The commands that touch one sector, which they leave, and the reply buffer: Read and Test. By the sector's words and its status ..
 abbrev pub fileAs : ℕ → Node → List ℕ → Status → Did

@@ -1,6 +1,7 @@
 // What each call does on the bytes that a host lends, of which it touches what its command is about and nothing else: the node's calls on
 // parts of the runs. The C border, `logodwen`, checks what it is given and calls these.
 pub mod erasing;
+pub mod events;
 mod files;
 mod filing;
 pub mod lists;

@@ -325,7 +325,7 @@ fn on_segment(
 ) -> Turn
     requires { ⌜ (1 ≤ length (now packet)) × (length (now packet) ≤ length (now held)) × (length (now packet) + 1 ≤ length (now room)) × (length (now room) ≤ 12288) × (12288 ≤ length (now reply) / 2) ⌝ }
     requires { ⌜ takesSegment id ≡ true ⌝ }
-    ensures { λ r. ⌜ Moves node (memoriesOf id node (lent [] (memoryWords (memories (now (pm .entry)) (now (dm .entry)) (now (io .entry)))) (further [] []) []) (now (packet .entry))) (memories (now (pm .entry)) (now (dm .entry)) (now (io .entry))) (now (reply .entry)) r (memories (now (pm .exit)) (now (dm .exit)) (now (io .exit))) (now (reply .exit)) ⌝ }
+    ensures { λ r. ⌜ Moves node (memoriesOf id node (lent [] (memoryWords (memories (now (pm .entry)) (now (dm .entry)) (now (io .entry)))) (further [] [] []) []) (now (packet .entry))) (memories (now (pm .entry)) (now (dm .entry)) (now (io .entry))) (now (reply .entry)) r (memories (now (pm .exit)) (now (dm .exit)) (now (io .exit))) (now (reply .exit)) ⌝ }
 {
     if id == 0x0F {
         return perform(node, &packet[1..], io, room, reply);
@@ -348,7 +348,7 @@ fn segment_short(
 ) -> Turn
     requires { ⌜ (1 ≤ length (now packet) / 2) × (length (now packet) / 2 ≤ 64) × (12288 ≤ length (now reply) / 2) ⌝ }
     requires { ⌜ takesSegment id ≡ true ⌝ }
-    ensures { λ r. ⌜ Moves node (memoriesOf id node (lent [] (memoryWords (memories (now (pm .entry)) (now (dm .entry)) (now (io .entry)))) (further [] []) []) (wordsOf 2 (now (packet .entry)))) (memories (now (pm .entry)) (now (dm .entry)) (now (io .entry))) (now (reply .entry)) r (memories (now (pm .exit)) (now (dm .exit)) (now (io .exit))) (now (reply .exit)) ⌝ }
+    ensures { λ r. ⌜ Moves node (memoriesOf id node (lent [] (memoryWords (memories (now (pm .entry)) (now (dm .entry)) (now (io .entry)))) (further [] [] []) []) (wordsOf 2 (now (packet .entry)))) (memories (now (pm .entry)) (now (dm .entry)) (now (io .entry))) (now (reply .entry)) r (memories (now (pm .exit)) (now (dm .exit)) (now (io .exit))) (now (reply .exit)) ⌝ }
 {
     let mut words = room_64();
     let mut held = room_pm_64();
@@ -378,7 +378,7 @@ fn segment_long(
 ) -> Turn
     requires { ⌜ (1 ≤ length (now packet) / 2) × (length (now packet) / 2 ≤ 8192) × (12288 ≤ length (now reply) / 2) ⌝ }
     requires { ⌜ takesSegment id ≡ true ⌝ }
-    ensures { λ r. ⌜ Moves node (memoriesOf id node (lent [] (memoryWords (memories (now (pm .entry)) (now (dm .entry)) (now (io .entry)))) (further [] []) []) (wordsOf 2 (now (packet .entry)))) (memories (now (pm .entry)) (now (dm .entry)) (now (io .entry))) (now (reply .entry)) r (memories (now (pm .exit)) (now (dm .exit)) (now (io .exit))) (now (reply .exit)) ⌝ }
+    ensures { λ r. ⌜ Moves node (memoriesOf id node (lent [] (memoryWords (memories (now (pm .entry)) (now (dm .entry)) (now (io .entry)))) (further [] [] []) []) (wordsOf 2 (now (packet .entry)))) (memories (now (pm .entry)) (now (dm .entry)) (now (io .entry))) (now (reply .entry)) r (memories (now (pm .exit)) (now (dm .exit)) (now (io .exit))) (now (reply .exit)) ⌝ }
 {
     let mut words = room_8192();
     let mut held = room_pm();
@@ -409,7 +409,7 @@ pub fn on_memories(
 ) -> Turn
     requires { ⌜ (1 ≤ length (now packet) / 2) × (length (now packet) / 2 ≤ 8192) × (12288 ≤ length (now reply) / 2) ⌝ }
     requires { ⌜ onMemories id ≡ true ⌝ }
-    ensures { λ r. ⌜ Moves node (memoriesOf id node (lent [] (memoryWords (memories (now (pm .entry)) (now (dm .entry)) (now (io .entry)))) (further [] []) []) (wordsOf 2 (now (packet .entry)))) (memories (now (pm .entry)) (now (dm .entry)) (now (io .entry))) (now (reply .entry)) r (memories (now (pm .exit)) (now (dm .exit)) (now (io .exit))) (now (reply .exit)) ⌝ }
+    ensures { λ r. ⌜ Moves node (memoriesOf id node (lent [] (memoryWords (memories (now (pm .entry)) (now (dm .entry)) (now (io .entry)))) (further [] [] []) []) (wordsOf 2 (now (packet .entry)))) (memories (now (pm .entry)) (now (dm .entry)) (now (io .entry))) (now (reply .entry)) r (memories (now (pm .exit)) (now (dm .exit)) (now (io .exit))) (now (reply .exit)) ⌝ }
 {
     if id == 0x10 {
         return pm_read(node, packet, pm, reply);

@@ -16,5 +16,8 @@ pub fn answer_words(answer: Answer) -> usize
         Answer::Waiting => 0,
         Answer::Erased(_) => 0,
         Answer::Slow(_) => 0,
+        Answer::AskEvent(_) => 0,
+        Answer::NoEvent => 0,
+        Answer::Built(_) => 0,
     }
 }

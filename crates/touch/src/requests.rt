@@ -14,8 +14,9 @@ ghost use Rattle.node.specs.declared.Verdict.{Verdict};
 ghost use Rattle.node.specs.Calls.{requestOf};
 ghost use Rattle.codec.specs.Bytes.{wordsOf};
 ghost use Rattle.touch.specs.InBytes.{runWords, inBytes};
-ghost use Rattle.touch.specs.Apart.{needsMemories, needsFlash, needsList};
+ghost use Rattle.touch.specs.Apart.{needsMemories, needsFlash, needsList, needsEvents};
 ghost use Rattle.touch.specs.Touch.{Beside};
+use crate::events::on_events;
 use crate::files::on_file;
 use crate::filing::on_filing;
 use crate::lists::on_lists;
@@ -29,7 +30,7 @@ use node::Node;
 use node::Route;
 use node::Turn;
 
-// Whether an own command touches a memory, the flash, or the Q-List.
+// Whether an own command touches a memory, the flash, the Q-List, or the event area.
 pub fn needs_memories(id: u16) -> bool
     ensures { λ r. ⌜ r ≡ needsMemories id ⌝ }
 {
@@ -48,7 +49,13 @@ pub fn needs_list(id: u16) -> bool
     (id == 0x1C) | (id == 0x5B) | (id == 0x5C)
 }
 
-// An own command that leaves the Q-List: on the runs that it touches, whatever area and list are lent beside.
+pub fn needs_events(id: u16) -> bool
+    ensures { λ r. ⌜ r ≡ needsEvents id ⌝ }
+{
+    id == 0x01
+}
+
+// An own command that leaves the Q-List and the event area: on the runs that it touches, whatever further runs are lent beside.
 fn on_own(
     node: Node,
     id: u16,
@@ -64,9 +71,9 @@ fn on_own(
     reply: &mut [u8],
 ) -> Turn
     requires { ⌜ (length (now flash) / 2 ≤ 262144) × (12288 ≤ length (now reply) / 2) × (length (now pm) / 4 ≤ 8192) × (length (now dm) / 2 ≤ 8192) × (length (now io) / 2 ≤ 4096) ⌝ }
-    requires { ⌜ ((x : Further) → Beside node x → requestVerdict node link (length (now packet) / 2) (length (now flash) / 2) (length (now pm) / 4) (length (now dm) / 2) (length (now io) / 2) (length (x .area) / 2) (length (x .list) / 14) 12288 ≡ Verdict.Fine) ⌝ }
+    requires { ⌜ ((x : Further) → Beside node x → requestVerdict node link (length (now packet) / 2) (length (now flash) / 2) (length (now pm) / 4) (length (now dm) / 2) (length (now io) / 2) (length (x .area) / 2) (length (x .list) / 14) 12288 12288 ≡ Verdict.Fine) ⌝ }
     requires { ⌜ routeOf node link bc errors (wordsOf 2 (now packet)) ≡ Route.Own id ⌝ }
-    requires { ⌜ needsList id ≡ false ⌝ }
+    requires { ⌜ (needsList id ≡ false) × (needsEvents id ≡ false) ⌝ }
     ensures { λ r. ⌜ ((x : Further) → Beside node x → outcome r (lent (now (flash .exit)) (memories (now (pm .exit)) (now (dm .exit)) (now (io .exit))) x (now (reply .exit))) ≡ inBytes (requestOf node clock link bc errors (wordsOf 2 (now (packet .entry))) (runWords (lent (now (flash .entry)) (memories (now (pm .entry)) (now (dm .entry)) (now (io .entry))) x (now (reply .entry))))) (lent (now (flash .entry)) (memories (now (pm .entry)) (now (dm .entry)) (now (io .entry))) x (now (reply .entry)))) ⌝ }
 {
     if !(needs_memories(id) | needs_flash(id)) {
@@ -98,15 +105,19 @@ fn on_command(
     dm: &mut [u8],
     io: &mut [u8],
     list: &mut [u8],
+    events: &[u8],
     reply: &mut [u8],
 ) -> Turn
-    requires { ⌜ (length (now flash) / 2 ≤ 262144) × (12288 ≤ length (now reply) / 2) × (length (now pm) / 4 ≤ 8192) × (length (now dm) / 2 ≤ 8192) × (length (now io) / 2 ≤ 4096) × (length (now list) / 14 ≤ 910) × (node .listing .entries ≤ length (now list) / 14) ⌝ }
-    requires { ⌜ ((x : Further) → Beside node x → requestVerdict node link (length (now packet) / 2) (length (now flash) / 2) (length (now pm) / 4) (length (now dm) / 2) (length (now io) / 2) (length (x .area) / 2) (length (x .list) / 14) 12288 ≡ Verdict.Fine) ⌝ }
+    requires { ⌜ (length (now flash) / 2 ≤ 262144) × (12288 ≤ length (now reply) / 2) × (length (now pm) / 4 ≤ 8192) × (length (now dm) / 2 ≤ 8192) × (length (now io) / 2 ≤ 4096) × (length (now list) / 14 ≤ 910) × (node .listing .entries ≤ length (now list) / 14) × (12288 ≤ length (now events) / 2) × (node .events .unread ≤ 12288) ⌝ }
+    requires { ⌜ ((x : Further) → Beside node x → requestVerdict node link (length (now packet) / 2) (length (now flash) / 2) (length (now pm) / 4) (length (now dm) / 2) (length (now io) / 2) (length (x .area) / 2) (length (x .list) / 14) 12288 12288 ≡ Verdict.Fine) ⌝ }
     requires { ⌜ routeOf node link bc errors (wordsOf 2 (now packet)) ≡ Route.Own id ⌝ }
-    ensures { λ r. ⌜ ((area : List ℕ) → 32768 ≤ length area / 2 → Below 256 area → outcome r (lent (now (flash .exit)) (memories (now (pm .exit)) (now (dm .exit)) (now (io .exit))) (further area (now (list .exit))) (now (reply .exit))) ≡ inBytes (requestOf node clock link bc errors (wordsOf 2 (now (packet .entry))) (runWords (lent (now (flash .entry)) (memories (now (pm .entry)) (now (dm .entry)) (now (io .entry))) (further area (now (list .entry))) (now (reply .entry))))) (lent (now (flash .entry)) (memories (now (pm .entry)) (now (dm .entry)) (now (io .entry))) (further area (now (list .entry))) (now (reply .entry)))) ⌝ }
+    ensures { λ r. ⌜ ((area : List ℕ) → 32768 ≤ length area / 2 → Below 256 area → outcome r (lent (now (flash .exit)) (memories (now (pm .exit)) (now (dm .exit)) (now (io .exit))) (further area (now (list .exit)) (now (events .entry))) (now (reply .exit))) ≡ inBytes (requestOf node clock link bc errors (wordsOf 2 (now (packet .entry))) (runWords (lent (now (flash .entry)) (memories (now (pm .entry)) (now (dm .entry)) (now (io .entry))) (further area (now (list .entry)) (now (events .entry))) (now (reply .entry))))) (lent (now (flash .entry)) (memories (now (pm .entry)) (now (dm .entry)) (now (io .entry))) (further area (now (list .entry)) (now (events .entry))) (now (reply .entry)))) ⌝ }
 {
     if needs_list(id) {
         return on_lists(node, id, clock, packet, list, reply);
+    }
+    if needs_events(id) {
+        return on_events(node, packet, events, reply);
     }
     on_own(
         node,
@@ -138,11 +149,12 @@ pub fn on_request(
     io: &mut [u8],
     area: &mut [u8],
     list: &mut [u8],
+    events: &[u8],
     reply: &mut [u8],
 ) -> Turn
-    requires { ⌜ (length (now flash) / 2 ≤ 262144) × (12288 ≤ length (now reply) / 2) × (length (now pm) / 4 ≤ 8192) × (length (now dm) / 2 ≤ 8192) × (length (now io) / 2 ≤ 4096) × (32768 ≤ length (now area) / 2) × (length (now list) / 14 ≤ 910) × (node .listing .entries ≤ length (now list) / 14) ⌝ }
-    requires { ⌜ ((x : Further) → Beside node x → requestVerdict node link (length (now packet) / 2) (length (now flash) / 2) (length (now pm) / 4) (length (now dm) / 2) (length (now io) / 2) (length (x .area) / 2) (length (x .list) / 14) 12288 ≡ Verdict.Fine) ⌝ }
-    ensures { λ r. ⌜ outcome r (lent (now (flash .exit)) (memories (now (pm .exit)) (now (dm .exit)) (now (io .exit))) (further (now (area .exit)) (now (list .exit))) (now (reply .exit))) ≡ inBytes (requestOf node clock link bc errors (wordsOf 2 (now (packet .entry))) (runWords (lent (now (flash .entry)) (memories (now (pm .entry)) (now (dm .entry)) (now (io .entry))) (further (now (area .entry)) (now (list .entry))) (now (reply .entry))))) (lent (now (flash .entry)) (memories (now (pm .entry)) (now (dm .entry)) (now (io .entry))) (further (now (area .entry)) (now (list .entry))) (now (reply .entry))) ⌝ }
+    requires { ⌜ (length (now flash) / 2 ≤ 262144) × (12288 ≤ length (now reply) / 2) × (length (now pm) / 4 ≤ 8192) × (length (now dm) / 2 ≤ 8192) × (length (now io) / 2 ≤ 4096) × (32768 ≤ length (now area) / 2) × (length (now list) / 14 ≤ 910) × (node .listing .entries ≤ length (now list) / 14) × (12288 ≤ length (now events) / 2) × (node .events .unread ≤ 12288) ⌝ }
+    requires { ⌜ ((x : Further) → Beside node x → requestVerdict node link (length (now packet) / 2) (length (now flash) / 2) (length (now pm) / 4) (length (now dm) / 2) (length (now io) / 2) (length (x .area) / 2) (length (x .list) / 14) 12288 12288 ≡ Verdict.Fine) ⌝ }
+    ensures { λ r. ⌜ outcome r (lent (now (flash .exit)) (memories (now (pm .exit)) (now (dm .exit)) (now (io .exit))) (further (now (area .exit)) (now (list .exit)) (now (events .entry))) (now (reply .exit))) ≡ inBytes (requestOf node clock link bc errors (wordsOf 2 (now (packet .entry))) (runWords (lent (now (flash .entry)) (memories (now (pm .entry)) (now (dm .entry)) (now (io .entry))) (further (now (area .entry)) (now (list .entry)) (now (events .entry))) (now (reply .entry))))) (lent (now (flash .entry)) (memories (now (pm .entry)) (now (dm .entry)) (now (io .entry))) (further (now (area .entry)) (now (list .entry)) (now (events .entry))) (now (reply .entry))) ⌝ }
 {
     let route = node::routing::route_by(
         node,
@@ -176,6 +188,7 @@ pub fn on_request(
             dm,
             io,
             list,
+            events,
             reply,
         ),
     }

@@ -7,31 +7,31 @@ use lib.ListN.{length}
 use Rattle.memory.specs.Segment.{memories}
 use Rattle.node.specs.Effect.{further, Lent, lent}
 use Rattle.node.specs.declared.Verdict.{Verdict}
-use Rattle.node.proofs.Verdicts.{request-fine}
-use Rattle.touch.proofs.Touch.{Lends}
-use Rattle.touch.proofs.Taken.{verdictIn, refused-left}
+use Rattle.node.proofs.Verdicts.{request-fine, unread-most}
 use Rattle.touch.proofs.Beside.{io-short, beside-fine}
+use Rattle.rows.proofs.Held.{Held, verdictBy, held-refused}
 use borrow.Author.Needs.{needs}
 use Rattle.rows.proofs.call.Statement.{statement}
 use Rattle.rows.proofs.call.Tie as tie
 
 -- what is lent, and its verdict
 abbrev given : tie.Start → Lent
-given s = lent (s .args .flash .now) (memories (s .args .pm .now) (s .args .dm .now) (s .args .io .now)) (further (s .args .area .now) (s .args .list .now)) (s .args .reply .now)
+given s = lent (s .args .flash .now) (memories (s .args .pm .now) (s .args .dm .now) (s .args .io .now)) (further (s .args .area .now) (s .args .list .now) (s .args .events .now)) (s .args .reply .now)
 
 abbrev judged : tie.Start → Verdict
-judged s = verdictIn (s .args .node) (s .args .clock) (s .args .link) (s .args .bc) false (s .args .packet .now) (given s)
+judged s = verdictBy (s .args .node) (s .args .clock) (s .args .link) (s .args .bc) false (s .args .packet .now) (given s)
 
-lends : (c : tie.After-slice-known7) → Lends (given (c .before .before .before .before .before .before .before .before))
+lends : (c : tie.After-slice-known7) → Held (given (c .before .before .before .before .before .before .before .before .before))
 lends c =
     record {
-      buffer = c .before .before .before .before .before .before .before .before .pre .1;
-      flash = λ i. omega (arith, c .before .before .before .before .before .before .slice-known .given i);
-      pm = λ i. omega (arith, c .before .before .before .before .before .slice-known2 .given i);
-      dm = λ i. omega (arith, c .before .before .before .before .slice-known3 .given i);
-      io = λ i. omega (arith, c .before .before .before .slice-known4 .given i);
-      area = λ i. omega (arith, c .before .before .slice-known5 .given i);
-      list = λ i. omega (arith, c .before .slice-known6 .given i);
+      buffer = c .before .before .before .before .before .before .before .before .before .pre .1;
+      flash = λ i. omega (arith, c .before .before .before .before .before .before .before .slice-known .given i);
+      pm = λ i. omega (arith, c .before .before .before .before .before .before .slice-known2 .given i);
+      dm = λ i. omega (arith, c .before .before .before .before .before .slice-known3 .given i);
+      io = λ i. omega (arith, c .before .before .before .before .slice-known4 .given i);
+      area = λ i. omega (arith, c .before .before .before .slice-known5 .given i);
+      list = λ i. omega (arith, c .before .before .slice-known6 .given i);
+      events = λ i. omega (arith, c .before .shared-slice-known2 .given i);
       reply = λ i. omega (arith, c .slice-known7 .given i);
     }
 
@@ -43,13 +43,13 @@ enum-told c = search needs
 
 take-requires : tie.Need-take-requires
 take-requires c κs =
-    let s = c .before .before .before .before .before .before .before .before .before .before .before .before .before .before .before .before .before .before in
+    let s = c .before .before .before .before .before .before .before .before .before .before .before .before .before .before .before .before .before .before .before in
     let a = s .args in
     let e : judged s ≡ Verdict.Fine = sym (c .before .before .before .before .before .before .before .before .before .request-verdict .ensures) ∙ c .before .before .before .before .before .before .before .enum-told .given .1 in
-    let f = request-fine (a .node) (a .link) (length (a .packet .now) / 2) (length (a .flash .now) / 2) (length (a .pm .now) / 4) (length (a .dm .now) / 2) (length (a .io .now) / 2) (length (a .area .now) / 2) (length (a .list .now) / 14) 12288 e in
-    let io = io-short (a .node) (a .link) (length (a .packet .now) / 2) (length (a .flash .now) / 2) (length (a .pm .now) / 4) (length (a .dm .now) / 2) (length (a .io .now) / 2) (length (a .area .now) / 2) (length (a .list .now) / 14) 12288 e in (
-      (s .pre .0, s .pre .1, s .pre .2, s .pre .3, io, f .room, f .most, f .listed),
-      λ x beside. beside-fine (a .node) (a .link) (length (a .packet .now) / 2) (length (a .flash .now) / 2) (length (a .pm .now) / 4) (length (a .dm .now) / 2) (length (a .io .now) / 2) (length (a .area .now) / 2) (length (a .list .now) / 14) 12288 e (length (x .area) / 2) (length (x .list) / 14) (beside .room) (beside .most) (beside .listed),
+    let f = request-fine (a .node) (a .link) (length (a .packet .now) / 2) (length (a .flash .now) / 2) (length (a .pm .now) / 4) (length (a .dm .now) / 2) (length (a .io .now) / 2) (length (a .area .now) / 2) (length (a .list .now) / 14) (length (a .events .now) / 2) 12288 e in
+    let io = io-short (a .node) (a .link) (length (a .packet .now) / 2) (length (a .flash .now) / 2) (length (a .pm .now) / 4) (length (a .dm .now) / 2) (length (a .io .now) / 2) (length (a .area .now) / 2) (length (a .list .now) / 14) (length (a .events .now) / 2) 12288 e in (
+      (s .pre .0, s .pre .1, s .pre .2, s .pre .3, io, f .room, f .most, f .listed, f .holds, unread-most (a .node) (f .fits .state)),
+      λ x beside. beside-fine (a .node) (a .link) (length (a .packet .now) / 2) (length (a .flash .now) / 2) (length (a .pm .now) / 4) (length (a .dm .now) / 2) (length (a .io .now) / 2) (length (a .area .now) / 2) (length (a .list .now) / 14) (length (a .events .now) / 2) 12288 e (length (x .area) / 2) (length (x .list) / 14) 12288 (beside .room) (beside .most) (beside .listed) (omega arith),
     )
 
 enum-known-verdict : tie.Need-enum-known-verdict
@@ -81,8 +81,8 @@ returns c = c .before .before .before .before .before .before .before .before .b
 
 returns-2 : tie.Need-returns-2
 returns-2 c =
-    let a = c .before .before .before .before .before .before .before .before .before .before .before .before .args in
-    refused-left (a .node) (a .clock) (a .link) (a .bc) false (a .packet .now) (given (c .before .before .before .before .before .before .before .before .before .before .before .before)) (lends (c .before .before .before .before)) (sym (c .before .before .before .request-verdict .ensures) ∙ c .before .verdict .given .1)
+    let a = c .before .before .before .before .before .before .before .before .before .before .before .before .before .args in
+    held-refused (a .node) (a .clock) (a .link) (a .bc) false (a .packet .now) (given (c .before .before .before .before .before .before .before .before .before .before .before .before .before)) (lends (c .before .before .before .before)) (sym (c .before .before .before .request-verdict .ensures) ∙ c .before .verdict .given .1)
 
 pub call-spec : {M : Type 1} → statement M
 call-spec =

@@ -19,7 +19,7 @@ use Rattle.series.specs.Packets.{Packet, packetAt}
 use Rattle.series.specs.Requests.{Kept, kept, isLeft}
 use Rattle.series.proofs.Behind.{rest-is}
 use Rattle.touch.specs.InBytes.{runWords, inBytes}
-use Rattle.touch.proofs.Touch.{Lends}
+use Rattle.rows.proofs.Held.{Held}
 use Rattle.rows.proofs.Steps.{place, lentTo, callIn, step-left, called-step, call-short, packet-is}
 use borrow.Author.Needs.{needs}
 use Rattle.rows.proofs.step.Statement.{statement}
@@ -27,7 +27,7 @@ use Rattle.rows.proofs.step.Tie as tie
 
 -- what is kept, and the packet
 abbrev given : tie.Start → List ℕ → Lent
-given s replies = lent (s .args .flash .now) (memories (s .args .pm .now) (s .args .dm .now) (s .args .io .now)) (further (s .args .area .now) (s .args .list .now)) replies
+given s replies = lent (s .args .flash .now) (memories (s .args .pm .now) (s .args .dm .now) (s .args .io .now)) (further (s .args .area .now) (s .args .list .now) (s .args .events .now)) replies
 
 abbrev before : tie.Start → Kept
 before s = kept (s .args .node) (given s (s .args .replies .now)) (s .args .filled)
@@ -39,41 +39,42 @@ directory : (s : tie.Start) → length (s .args .node .directory) ≡ 32
 directory s = search needs
 
 -- whether it is left, and the room where it is not
-tested : (c : tie.After-is-left) → isLeft (packet (c .before .before .before .before .before .before .before .before .before .before)) (length (c .before .before .before .before .before .before .before .before .before .before .args .replies .now) / 2) (c .before .before .before .before .before .before .before .before .before .before .args .filled) ≡ c .is-left .result
+tested : (c : tie.After-is-left) → isLeft (packet (c .before .before .before .before .before .before .before .before .before .before .before)) (length (c .before .before .before .before .before .before .before .before .before .before .before .args .replies .now) / 2) (c .before .before .before .before .before .before .before .before .before .before .before .args .filled) ≡ c .is-left .result
 tested c =
-    let a = c .before .before .before .before .before .before .before .before .before .before .args in
+    let a = c .before .before .before .before .before .before .before .before .before .before .before .args in
     ap (λ (bc : ℕ). ltb 3 bc || ltb (length (a .replies .now) / 2) (a .filled + 12290)) (sym (c .before .packet-word .ensures)) ∙ sym (c .is-left .ensures)
 
-room : (c : tie.Else1) → c .before .before .before .before .before .before .before .before .before .before .before .args .filled + 12290 ≤ length (c .before .before .before .before .before .before .before .before .before .before .before .args .replies .now) / 2
+room : (c : tie.Else1) → c .before .before .before .before .before .before .before .before .before .before .before .before .args .filled + 12290 ≤ length (c .before .before .before .before .before .before .before .before .before .before .before .before .args .replies .now) / 2
 room c =
-    let a = c .before .before .before .before .before .before .before .before .before .before .before .args in
+    let a = c .before .before .before .before .before .before .before .before .before .before .before .before .args in
     ltb-false (length (a .replies .now) / 2) (a .filled + 12290)
     (or-neither (ltb 3 (c .before .before .packet-word .result)) (ltb (length (a .replies .now) / 2) (a .filled + 12290)) (sym (c .before .is-left .ensures) ∙ c .if1 .left) .1)
 
 -- what its call is lent holds bytes, and a reply buffer
-lends : (c : tie.Else1) → Lends (lentTo (before (c .before .before .before .before .before .before .before .before .before .before .before)))
+lends : (c : tie.Else1) → Held (lentTo (before (c .before .before .before .before .before .before .before .before .before .before .before .before)))
 lends c =
-    let a = c .before .before .before .before .before .before .before .before .before .before .before .args in
+    let a = c .before .before .before .before .before .before .before .before .before .before .before .before .args in
     let r = room c in
     record {
       buffer = simp length-drop (omega arith);
-      flash = λ i. omega (arith, c .before .before .before .before .before .before .before .before .before .slice-known .given i);
-      pm = λ i. omega (arith, c .before .before .before .before .before .before .before .before .slice-known2 .given i);
-      dm = λ i. omega (arith, c .before .before .before .before .before .before .before .slice-known3 .given i);
-      io = λ i. omega (arith, c .before .before .before .before .before .before .slice-known4 .given i);
-      area = λ i. omega (arith, c .before .before .before .before .before .slice-known5 .given i);
-      list = λ i. omega (arith, c .before .before .before .before .slice-known6 .given i);
-      reply = below-drop (place (before (c .before .before .before .before .before .before .before .before .before .before .before))) (a .replies .now) (λ i. omega (arith, c .before .before .before .slice-known7 .given i));
+      flash = λ i. omega (arith, c .before .before .before .before .before .before .before .before .before .before .slice-known .given i);
+      pm = λ i. omega (arith, c .before .before .before .before .before .before .before .before .before .slice-known2 .given i);
+      dm = λ i. omega (arith, c .before .before .before .before .before .before .before .before .slice-known3 .given i);
+      io = λ i. omega (arith, c .before .before .before .before .before .before .before .slice-known4 .given i);
+      area = λ i. omega (arith, c .before .before .before .before .before .before .slice-known5 .given i);
+      list = λ i. omega (arith, c .before .before .before .before .before .slice-known6 .given i);
+      events = λ i. omega (arith, c .before .before .before .before .shared-slice-known2 .given i);
+      reply = below-drop (place (before (c .before .before .before .before .before .before .before .before .before .before .before .before))) (a .replies .now) (λ i. omega (arith, c .before .before .before .slice-known7 .given i));
     }
 
 -- what it leaves
 abbrev after : tie.After-call → Lent
-after c = let l = c .call .last in lent (l .1 .1 .1 .1 .1 .0) (memories (l .1 .1 .1 .1 .1 .1 .0) (l .1 .1 .1 .1 .1 .1 .1 .0) (l .1 .1 .1 .1 .1 .1 .1 .1 .0)) (further (l .1 .1 .1 .1 .1 .1 .1 .1 .1 .0) (l .1 .1 .1 .1 .1 .1 .1 .1 .1 .1 .0)) (l .1 .1 .1 .1 .1 .1 .1 .1 .1 .1 .1 .0)
+after c = let l = c .call .last in lent (l .1 .1 .1 .1 .1 .0) (memories (l .1 .1 .1 .1 .1 .1 .0) (l .1 .1 .1 .1 .1 .1 .1 .0) (l .1 .1 .1 .1 .1 .1 .1 .1 .0)) (further (l .1 .1 .1 .1 .1 .1 .1 .1 .1 .0) (l .1 .1 .1 .1 .1 .1 .1 .1 .1 .1 .0) (c .before .before .before .before .before .before .before .before .before .before .before .before .before .before .before .before .before .before .before .before .before .before .before .args .events .now)) (l .1 .1 .1 .1 .1 .1 .1 .1 .1 .1 .1 .1 .0)
 
 -- it is the definition's
-made : (c : tie.After-call) → outcome (c .call .result) (after c) ≡ callIn (c .before .before .before .before .before .before .before .before .before .before .before .before .before .before .before .before .before .before .before .before .before .before .args .clock) (c .before .before .before .before .before .before .before .before .before .before .before .before .before .before .before .before .before .before .before .before .before .before .args .packets .now) (before (c .before .before .before .before .before .before .before .before .before .before .before .before .before .before .before .before .before .before .before .before .before .before)) (packet (c .before .before .before .before .before .before .before .before .before .before .before .before .before .before .before .before .before .before .before .before .before .before))
+made : (c : tie.After-call) → outcome (c .call .result) (after c) ≡ callIn (c .before .before .before .before .before .before .before .before .before .before .before .before .before .before .before .before .before .before .before .before .before .before .before .args .clock) (c .before .before .before .before .before .before .before .before .before .before .before .before .before .before .before .before .before .before .before .before .before .before .before .args .packets .now) (before (c .before .before .before .before .before .before .before .before .before .before .before .before .before .before .before .before .before .before .before .before .before .before .before)) (packet (c .before .before .before .before .before .before .before .before .before .before .before .before .before .before .before .before .before .before .before .before .before .before .before))
 made c =
-    let s = c .before .before .before .before .before .before .before .before .before .before .before .before .before .before .before .before .before .before .before .before .before .before in
+    let s = c .before .before .before .before .before .before .before .before .before .before .before .before .before .before .before .before .before .before .before .before .before .before .before in
     let a = s .args in
     let r = room (c .before .before .before .before .before .before .before .before .before .before .before) in
     let words = wordsOf 2 (a .packets .now) in
@@ -84,12 +85,12 @@ made c =
     ∙ (λ i. inBytes (requestOf (a .node) (a .clock) (c .before .before .before .before .before .before .before .before .before .before .packet-word2 .ensures i) (c .before .before .before .before .before .before .before .before .before .before .before .before .before .packet-word .ensures i) false (own i) (runWords (given s (rest i)))) (given s (rest i)))
 
 -- the replies' run comes back as long as it was
-buffer-long : (c : tie.After-call) → place (before (c .before .before .before .before .before .before .before .before .before .before .before .before .before .before .before .before .before .before .before .before .before .before)) + length (after c .reply) ≡ length (c .before .before .before .before .before .before .before .before .before .before .before .before .before .before .before .before .before .before .before .before .before .before .args .replies .now)
+buffer-long : (c : tie.After-call) → place (before (c .before .before .before .before .before .before .before .before .before .before .before .before .before .before .before .before .before .before .before .before .before .before .before)) + length (after c .reply) ≡ length (c .before .before .before .before .before .before .before .before .before .before .before .before .before .before .before .before .before .before .before .before .before .before .before .args .replies .now)
 buffer-long c =
-    let a = c .before .before .before .before .before .before .before .before .before .before .before .before .before .before .before .before .before .before .before .before .before .before .args in
+    let a = c .before .before .before .before .before .before .before .before .before .before .before .before .before .before .before .before .before .before .before .before .before .before .before .args in
     let r = room (c .before .before .before .before .before .before .before .before .before .before .before) in
     let m = mid-len ((a .filled + 2) * 2) (length (a .replies .now)) (a .replies .now) (omega arith) in
-    omega (arith, m, r, c .call .kept .1 .1 .1 .1 .1 .1 .1 .1 .1 .1 .1 .0)
+    omega (arith, m, r, c .call .kept .1 .1 .1 .1 .1 .1 .1 .1 .1 .1 .1 .1 .0)
 
 add-packet-word : tie.Need-add-packet-word
 add-packet-word c = search needs
@@ -104,7 +105,7 @@ is-left-requires : tie.Need-is-left-requires
 is-left-requires c κs = search needs
 
 returns : tie.Need-returns
-returns c = let s = c .before .before .before .before .before .before .before .before .before .before .before in step-left (s .args .clock) (s .args .packets .now) (before s) (packet s) (tested (c .before) ∙ c .if1 .taken)
+returns c = let s = c .before .before .before .before .before .before .before .before .before .before .before .before in step-left (s .args .clock) (s .args .packets .now) (before s) (packet s) (tested (c .before) ∙ c .if1 .taken)
 
 packet-word-requires-2 : tie.Need-packet-word-requires-2
 packet-word-requires-2 c κs = search needs
@@ -134,10 +135,10 @@ add-to : tie.Need-add-to
 add-to c = search needs
 
 add-behind : tie.Need-add-behind
-add-behind c = omega (arith, room (c .before .before), c .before .before .before .before .before .before .before .before .before .before .before .before .before .good .1 .1 .1 .1 .1 .1 .1 .1 .1 .1 .1 .0)
+add-behind c = omega (arith, room (c .before .before), c .before .before .before .before .before .before .before .before .before .before .before .before .before .before .good .1 .1 .1 .1 .1 .1 .1 .1 .1 .1 .1 .1 .0)
 
 mul-behind : tie.Need-mul-behind
-mul-behind c = omega (arith, room (c .before .before), c .before .before .before .before .before .before .before .before .before .before .before .before .before .good .1 .1 .1 .1 .1 .1 .1 .1 .1 .1 .1 .0)
+mul-behind c = omega (arith, room (c .before .before), c .before .before .before .before .before .before .before .before .before .before .before .before .before .before .good .1 .1 .1 .1 .1 .1 .1 .1 .1 .1 .1 .1 .0)
 
 sub-call : tie.Need-sub-call
 sub-call c = search needs
@@ -159,19 +160,19 @@ part-call-end-2 c = search needs
 
 call-requires : tie.Need-call-requires
 call-requires c κs =
-    let s = c .before .before .before .before .before .before .before .before .before .before .before .before .before .before .before .before .before .before .before .before .before in
+    let s = c .before .before .before .before .before .before .before .before .before .before .before .before .before .before .before .before .before .before .before .before .before .before in
     let r = room (c .before .before .before .before .before .before .before .before .before .before) in
     let m = mid-len ((s .args .filled + 2) * 2) (length (s .args .replies .now)) (s .args .replies .now) (omega arith) in
     (s .pre .1 .0, omega (arith, r, m), s .pre .1 .1, s .pre .1 .2)
 
 end-with-requires : tie.Need-end-with-requires
 end-with-requires c κs =
-    let s = c .before .before .before .before .before .before .before .before .before .before .before .before .before .before .before .before .before .before .before .before .before .before .before .before .before .before .before .before .before .before .before .before .before .before .before .before .before .before in
+    let s = c .before .before .before .before .before .before .before .before .before .before .before .before .before .before .before .before .before .before .before .before .before .before .before .before .before .before .before .before .before .before .before .before .before .before .before .before .before .before .before in
     let a = s .args in
     let r = room (c .before .before .before .before .before .before .before .before .before .before .before .before .before .before .before .before .before .before .before .before .before .before .before .before .before .before .before) in
-    let back = same-len-mid ((a .filled + 2) * 2) (length (a .replies .now) - (a .filled + 2) * 2) (a .replies .now) (c .before .before .before .before .before .before .before .before .before .before .before .before .before .before .before .before .call .last .1 .1 .1 .1 .1 .1 .1 .1 .1 .1 .1 .0) (c .before .before .before .before .before .before .before .before .before .before .before .before .before .before .before .before .call .kept .1 .1 .1 .1 .1 .1 .1 .1 .1 .1 .1 .0) in (
+    let back = same-len-mid ((a .filled + 2) * 2) (length (a .replies .now) - (a .filled + 2) * 2) (a .replies .now) (c .before .before .before .before .before .before .before .before .before .before .before .before .before .before .before .before .call .last .1 .1 .1 .1 .1 .1 .1 .1 .1 .1 .1 .1 .0) (c .before .before .before .before .before .before .before .before .before .before .before .before .before .before .before .before .call .kept .1 .1 .1 .1 .1 .1 .1 .1 .1 .1 .1 .1 .0) in (
       omega (arith, r, back),
-      λ reply e. let short = call-short (a .clock) (a .packets .now) (before s) (packet s) (outcome (c .before .before .before .before .before .before .before .before .before .before .before .before .before .before .before .before .call .result) (after (c .before .before .before .before .before .before .before .before .before .before .before .before .before .before .before .before))) (made (c .before .before .before .before .before .before .before .before .before .before .before .before .before .before .before .before)) (directory (c .before .before .before .before .before .before .before .before .before .before .before .before .before .before .before .before .before .before .before .before .before .before .before .before .before .before .before .before .before .before .before .before .before .before .before .before .before .before)) reply e in omega (arith, r, back, short),
+      λ reply e. let short = call-short (a .clock) (a .packets .now) (before s) (packet s) (outcome (c .before .before .before .before .before .before .before .before .before .before .before .before .before .before .before .before .call .result) (after (c .before .before .before .before .before .before .before .before .before .before .before .before .before .before .before .before))) (made (c .before .before .before .before .before .before .before .before .before .before .before .before .before .before .before .before)) (directory (c .before .before .before .before .before .before .before .before .before .before .before .before .before .before .before .before .before .before .before .before .before .before .before .before .before .before .before .before .before .before .before .before .before .before .before .before .before .before .before)) reply e in omega (arith, r, back, short),
     )
 
 same-length : tie.Need-same-length
@@ -197,7 +198,7 @@ same-length-7 c = search needs
 
 returns-2 : tie.Need-returns-2
 returns-2 c =
-    let s = c .before .before .before .before .before .before .before .before .before .before .before .before .before .before .before .before .before .before .before .before .before .before .before .before .before .before .before .before .before .before .before .before .before .before .before .before .before .before .before .before .before in
+    let s = c .before .before .before .before .before .before .before .before .before .before .before .before .before .before .before .before .before .before .before .before .before .before .before .before .before .before .before .before .before .before .before .before .before .before .before .before .before .before .before .before .before .before in
     called-step (s .args .clock) (s .args .packets .now) (before s) (packet s) (tested (c .before .before .before .before .before .before .before .before .before .before .before .before .before .before .before .before .before .before .before .before .before .before .before .before .before .before .before .before .before .before .before) ∙ c .before .before .before .before .before .before .before .before .before .before .before .before .before .before .before .before .before .before .before .before .before .before .before .before .before .before .before .before .before .before .if1 .left) (made (c .before .before .before .before .before .before .before .before .before .before .before .before .before .before .before .before .before .before .before)) (lends (c .before .before .before .before .before .before .before .before .before .before .before .before .before .before .before .before .before .before .before .before .before .before .before .before .before .before .before .before .before .before)) (buffer-long (c .before .before .before .before .before .before .before .before .before .before .before .before .before .before .before .before .before .before .before)) (c .before .before .end-with .ensures)
 
 pub step-spec : {M : Type 1} → statement M

@@ -44,6 +44,9 @@ needs-memories-requires c κs = search needs
 needs-flash-requires : tie.Need-needs-flash-requires
 needs-flash-requires c κs = search needs
 
+needs-events-requires : tie.Need-needs-events-requires
+needs-events-requires c κs = search needs
+
 needs-list-requires : tie.Need-needs-list-requires
 needs-list-requires c κs = search needs
 
@@ -76,9 +79,9 @@ returns-9 c = search needs
 
 returns-10 : tie.Need-returns-10
 returns-10 c =
-    let words = c .before .before .before .before .before .before .args .words in
-    (λ i. not (c .before .before .needs-memories .ensures i || c .before .needs-flash .ensures i) && (not (c .needs-list .ensures i) && leb words 64))
-    ∙ sym (ap (λ (r : Route). isShort r words) (c .before .before .before .before .route .given .1))
+    let words = c .before .before .before .before .before .before .before .args .words in
+    (λ i. not (c .before .before .before .needs-memories .ensures i || c .before .before .needs-flash .ensures i || c .before .needs-events .ensures i) && (not (c .needs-list .ensures i) && leb words 64))
+    ∙ sym (ap (λ (r : Route). isShort r words) (c .before .before .before .before .before .route .given .1))
 
 pub is-short-spec : {M : Type 1} → statement M
 is-short-spec =
@@ -96,6 +99,7 @@ is-short-spec =
     enum-known-route
     needs-memories-requires
     needs-flash-requires
+    needs-events-requires
     needs-list-requires
     returns
     returns-2

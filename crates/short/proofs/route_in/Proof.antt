@@ -24,7 +24,7 @@ returns c =
     let a = c .before .before .before .before .args in
     c .route-by .ensures
     ∙ (λ i. routeBy (a .node) (a .link) (a .bc) (a .errors) (length (a .packet .now) / 2) (c .before .before .packet-word .ensures i) (c .before .packet-word2 .ensures i))
-    ∙ route-in (a .node) 0 (a .link) (a .bc) (a .errors) (a .packet .now) (lentReply [])
+    ∙ route-in (a .node) 0 (a .link) (a .bc) (a .errors) (a .packet .now) (lentReply [] [])
 
 pub route-in-spec : {M : Type 1} → statement M
 route-in-spec =

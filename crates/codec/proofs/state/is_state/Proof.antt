@@ -40,14 +40,14 @@ array-share-prefix-again : tie.Need-array-share-prefix-again
 array-share-prefix-again c = search needs
 
 slice-aggregate-same : tie.Need-slice-aggregate-same
-slice-aggregate-same c = sym (ap length (numbers-front (c .before .before .before .before .before .before .before .before .node-in .result) _ refl (c .before .before .before .before .before .put-numbers .ensures) (c .before .before .put-tail .ensures)) ∙ length-numbers (c .before .before .before .before .before .before .before .before .node-in .result))
+slice-aggregate-same c = sym (ap length (numbers-front (c .before .before .before .before .before .before .before .before .before .node-in .result) _ refl (c .before .before .before .before .before .put-numbers .ensures) (c .before .before .put-tail .ensures)) ∙ length-numbers (c .before .before .before .before .before .before .before .before .before .node-in .result))
 
 slice-aggregate-same-2 : tie.Need-slice-aggregate-same-2
-slice-aggregate-same-2 c = let long : 44 ≤ length (c .before .before .before .before .before .before .before .before .before .before .before .before .args .bytes .now) = omega (arith, c .before .before .before .before .before .before .before .before .before .before .if1 .left) in sym (length-take-le 44 (c .before .before .before .before .before .before .before .before .before .before .before .before .args .bytes .now) long)
+slice-aggregate-same-2 c = let long : 44 ≤ length (c .before .before .before .before .before .before .before .before .before .before .before .before .before .args .bytes .now) = omega (arith, c .before .before .before .before .before .before .before .before .before .before .before .if1 .left) in sym (length-take-le 44 (c .before .before .before .before .before .before .before .before .before .before .before .before .before .args .bytes .now) long)
 
 same-requires : tie.Need-same-requires
-same-requires c κs = let long : 44 ≤ length (c .before .before .before .before .before .before .before .before .before .before .before .before .args .bytes .now) = omega (arith, c .before .before .before .before .before .before .before .before .before .before .if1 .left) in
-    ap length (numbers-front (c .before .before .before .before .before .before .before .before .before .node-in .result) _ refl (c .before .before .before .before .before .before .put-numbers .ensures) (c .before .before .before .put-tail .ensures)) ∙ length-numbers (c .before .before .before .before .before .before .before .before .before .node-in .result) ∙ sym (length-take-le 44 (c .before .before .before .before .before .before .before .before .before .before .before .before .args .bytes .now) long)
+same-requires c κs = let long : 44 ≤ length (c .before .before .before .before .before .before .before .before .before .before .before .before .before .args .bytes .now) = omega (arith, c .before .before .before .before .before .before .before .before .before .before .before .if1 .left) in
+    ap length (numbers-front (c .before .before .before .before .before .before .before .before .before .before .node-in .result) _ refl (c .before .before .before .before .before .before .put-numbers .ensures) (c .before .before .before .put-tail .ensures)) ∙ length-numbers (c .before .before .before .before .before .before .before .before .before .before .node-in .result) ∙ sym (length-take-le 44 (c .before .before .before .before .before .before .before .before .before .before .before .before .before .args .bytes .now) long)
 
 sub-same : tie.Need-sub-same
 sub-same c = search needs
@@ -68,20 +68,20 @@ part-same-end-2 : tie.Need-part-same-end-2
 part-same-end-2 c = search needs
 
 same-requires-2 : tie.Need-same-requires-2
-same-requires-2 c κs = let long : 172 + 20 ≤ length (c .before .before .before .before .before .before .before .before .before .before .before .before .before .before .before .before .args .bytes .now) = omega (arith, c .before .before .before .before .before .before .before .before .before .before .before .before .before .before .if1 .left) in
-    ap length (tail-back (c .before .before .before .before .before .before .before .before .before .before .before .before .before .node-in .result) _ refl (c .before .before .before .before .before .before .before .before .before .before .put-numbers .ensures) (c .before .before .before .before .before .before .before .put-tail .ensures)) ∙ length-tail (c .before .before .before .before .before .before .before .before .before .before .before .before .before .node-in .result .writing) (c .before .before .before .before .before .before .before .before .before .before .before .before .before .node-in .result .pending) (c .before .before .before .before .before .before .before .before .before .before .before .before .before .node-in .result .listing) ∙ sym (length-part (c .before .before .before .before .before .before .before .before .before .before .before .before .before .before .before .before .args .bytes .now) 172 20 long)
+same-requires-2 c κs = let long : 172 + 36 ≤ length (c .before .before .before .before .before .before .before .before .before .before .before .before .before .before .before .before .before .args .bytes .now) = omega (arith, c .before .before .before .before .before .before .before .before .before .before .before .before .before .before .before .if1 .left) in
+    ap length (tail-back (c .before .before .before .before .before .before .before .before .before .before .before .before .before .before .node-in .result) _ refl (c .before .before .before .before .before .before .before .before .before .before .put-numbers .ensures) (c .before .before .before .before .before .before .before .put-tail .ensures)) ∙ length-tail (c .before .before .before .before .before .before .before .before .before .before .before .before .before .before .node-in .result .writing) (c .before .before .before .before .before .before .before .before .before .before .before .before .before .before .node-in .result .pending) (c .before .before .before .before .before .before .before .before .before .before .before .before .before .before .node-in .result .listing) (c .before .before .before .before .before .before .before .before .before .before .before .before .before .before .node-in .result .events) ∙ sym (length-part (c .before .before .before .before .before .before .before .before .before .before .before .before .before .before .before .before .before .args .bytes .now) 172 36 long)
 
 state-ok-requires : tie.Need-state-ok-requires
 state-ok-requires c κs = search needs
 
 returns-2 : tie.Need-returns-2
 unfolding areState
-returns-2 c = let bytes = c .before .before .before .before .before .before .before .before .before .before .before .before .before .before .before .before .before .before .args .bytes .now in
-    let made = c .before .before .before .before .before .before .before .before .before .before .before .before .before .before .before .node-in in
+returns-2 c = let bytes = c .before .before .before .before .before .before .before .before .before .before .before .before .before .before .before .before .before .before .before .args .bytes .now in
+    let made = c .before .before .before .before .before .before .before .before .before .before .before .before .before .before .before .before .node-in in
     let front = numbers-front (made .result) _ refl (c .before .before .before .before .before .before .before .before .before .before .before .before .put-numbers .ensures) (c .before .before .before .before .before .before .before .before .before .put-tail .ensures) ∙ ap (λ (n : Node). packed sizes (numbersOf n)) (made .ensures) in
-    let back = tail-back (made .result) _ refl (c .before .before .before .before .before .before .before .before .before .before .before .before .put-numbers .ensures) (c .before .before .before .before .before .before .before .before .before .put-tail .ensures) ∙ ap (λ (n : Node). tailBytes (n .writing) (n .pending) (n .listing)) (made .ensures) in
-    and-yes (eq-eqb _ _ (c .before .before .before .before .before .before .before .before .before .before .before .before .before .before .before .before .if1 .left))
-    (ap₂ _&&_ (ap₂ _&&_ (c .before .before .before .before .before .same .ensures) (c .before .same2 .ensures) ∙ ends-alike bytes _ _ (c .before .before .before .before .before .before .before .before .before .before .before .before .before .before .before .before .if1 .left) (λ i. omega (arith, c .before .before .before .before .before .before .before .before .before .before .before .before .before .before .before .before .before .shared-slice-known .given i)) front back) (c .state-ok .ensures ∙ ap stateOk (made .ensures)))
+    let back = tail-back (made .result) _ refl (c .before .before .before .before .before .before .before .before .before .before .before .before .put-numbers .ensures) (c .before .before .before .before .before .before .before .before .before .put-tail .ensures) ∙ ap (λ (n : Node). tailBytes (n .writing) (n .pending) (n .listing) (n .events)) (made .ensures) in
+    and-yes (eq-eqb _ _ (c .before .before .before .before .before .before .before .before .before .before .before .before .before .before .before .before .before .if1 .left))
+    (ap₂ _&&_ (ap₂ _&&_ (c .before .before .before .before .before .same .ensures) (c .before .same2 .ensures) ∙ ends-alike bytes _ _ (c .before .before .before .before .before .before .before .before .before .before .before .before .before .before .before .before .before .if1 .left) (λ i. omega (arith, c .before .before .before .before .before .before .before .before .before .before .before .before .before .before .before .before .before .before .shared-slice-known .given i)) front back) (c .state-ok .ensures ∙ ap stateOk (made .ensures)))
 
 pub is-state-spec : {M : Type 1} → statement M
 is-state-spec =

@@ -36,6 +36,9 @@ writing-of-requires c κs = search needs
 listing-in-requires : tie.Need-listing-in-requires
 listing-in-requires c κs = search needs
 
+events-in-requires : tie.Need-events-in-requires
+events-in-requires c κs = search needs
+
 word16-requires : tie.Need-word16-requires
 word16-requires c κs = search needs
 
@@ -45,12 +48,12 @@ word16-requires-2 c κs = search needs
 byte-requires : tie.Need-byte-requires
 byte-requires c κs = search needs
 
-cast-t13 : tie.Need-cast-t13
-cast-t13 c = search needs
+cast-t14 : tie.Need-cast-t14
+cast-t14 c = search needs
 
 returns : tie.Need-returns
 unfolding nodeIn
-returns c = λ i. node ((c .before .before .before .before .before .before .before .before .before .before .before .before .masks-in .ensures) i) ((c .before .before .before .before .before .before .before .before .before .before .before .directory-in .ensures) i) ((c .before .before .before .before .before .before .before .before .before .before .given-in .ensures) i) ((c .byte .ensures) i) (counts ((c .before .before .word16 .ensures) i) ((c .before .word162 .ensures) i)) ((c .before .before .before .before .before .before .before .before .erasing-of .ensures ∙ ap erasingOf (c .before .before .before .before .before .before .before .before .before .progress-in .ensures)) i) ((c .before .before .before .before .before .before .pending-of .ensures ∙ ap pendingOf (c .before .before .before .before .before .before .before .wait-in .ensures)) i) ((c .before .before .before .before .writing-of .ensures ∙ ap writingOf (c .before .before .before .before .before .standing-in .ensures)) i) ((c .before .before .before .listing-in .ensures) i)
+returns c = λ i. node ((c .before .before .before .before .before .before .before .before .before .before .before .before .before .masks-in .ensures) i) ((c .before .before .before .before .before .before .before .before .before .before .before .before .directory-in .ensures) i) ((c .before .before .before .before .before .before .before .before .before .before .before .given-in .ensures) i) ((c .byte .ensures) i) (counts ((c .before .before .word16 .ensures) i) ((c .before .word162 .ensures) i)) ((c .before .before .before .before .before .before .before .before .before .erasing-of .ensures ∙ ap erasingOf (c .before .before .before .before .before .before .before .before .before .before .progress-in .ensures)) i) ((c .before .before .before .before .before .before .before .pending-of .ensures ∙ ap pendingOf (c .before .before .before .before .before .before .before .before .wait-in .ensures)) i) ((c .before .before .before .before .before .writing-of .ensures ∙ ap writingOf (c .before .before .before .before .before .before .standing-in .ensures)) i) ((c .before .before .before .before .listing-in .ensures) i) ((c .before .before .before .events-in .ensures) i)
 
 pub node-in-spec : {M : Type 1} → statement M
 node-in-spec =
@@ -66,8 +69,9 @@ node-in-spec =
     standing-in-requires
     writing-of-requires
     listing-in-requires
+    events-in-requires
     word16-requires
     word16-requires-2
     byte-requires
-    cast-t13
+    cast-t14
     returns)

@@ -30,7 +30,7 @@ cast-put8-2 : tie.Need-cast-put8-2
 cast-put8-2 c = search needs
 
 put8-requires-3 : tie.Need-put8-requires-3
-put8-requires-3 c κs = search needs
+put8-requires-3 c κs = omega (arith, c .before .before .before .before .before .before .before .before .before .before .before .before .before .before .before .before .before .before .before .before .before .before .before .before .before .pre, c .before .before .before .before .put323 .kept .0, c .before .before .before .before .before .before .before .before .put322 .kept .0, c .before .before .before .before .before .before .before .before .before .before .before .before .put32 .kept .0, c .before .before .before .before .before .before .before .before .before .before .before .before .before .before .before .before .before .put82 .kept .0, c .before .before .before .before .before .before .before .before .before .before .before .before .before .before .before .before .before .before .before .before .before .before .put8 .kept .0)
 
 cast-put8-3 : tie.Need-cast-put8-3
 cast-put8-3 c = search needs

@@ -1,5 +1,5 @@
 -- `codec::state::put_tail` meets its contract. Assumes nothing.
-use mathlib.Core.Path.{refl, _∙_}
+use mathlib.Core.Path.{refl}
 use native.Mathlib.Omega.{arith}
 use Rattle.codec.specs.Places.{putAll, total}
 use Rattle.codec.specs.StateBytes.{waitOf, standingOf, tailSizes, tailNumbers}
@@ -14,48 +14,18 @@ standing-of-requires c κs = search needs
 wait-of-requires : tie.Need-wait-of-requires
 wait-of-requires c κs = search needs
 
-cast-put8 : tie.Need-cast-put8
-cast-put8 c = search needs
+put-kept-requires : tie.Need-put-kept-requires
+put-kept-requires c κs = search needs
 
-put8-requires : tie.Need-put8-requires
-put8-requires c κs = search needs
-
-cast-put8-2 : tie.Need-cast-put8-2
-cast-put8-2 c = search needs
-
-put8-requires-2 : tie.Need-put8-requires-2
-put8-requires-2 c κs = search needs
-
-put16-requires : tie.Need-put16-requires
-put16-requires c κs = search needs
-
-put32-requires : tie.Need-put32-requires
-put32-requires c κs = search needs
-
-put32-requires-2 : tie.Need-put32-requires-2
-put32-requires-2 c κs = search needs
-
-cast-put16 : tie.Need-cast-put16
-cast-put16 c = search needs
-
-put16-requires-2 : tie.Need-put16-requires-2
-put16-requires-2 c κs = search needs
-
-put16-requires-3 : tie.Need-put16-requires-3
-put16-requires-3 c κs = omega (arith, c .before .before .before .before .before .before .before .before .before .before .before .before .before .before .before .before .before .before .before .before .before .before .before .before .before .before .before .before .before .before .before .pre, c .before .before .before .put162 .kept)
-
-put16-requires-4 : tie.Need-put16-requires-4
-put16-requires-4 c κs = omega (arith, c .before .before .before .before .before .before .before .before .before .before .before .before .before .before .before .before .before .before .before .before .before .before .before .before .before .before .before .before .before .before .before .before .before .before .before .pre, c .before .before .before .put163 .kept)
-
-put16-requires-5 : tie.Need-put16-requires-5
-put16-requires-5 c κs = omega (arith, c .before .before .before .before .before .before .before .before .before .before .before .before .before .before .before .before .before .before .before .before .before .before .before .before .before .before .before .before .before .before .before .before .before .before .before .before .before .before .before .pre, c .before .before .before .put164 .kept .0 ∙ c .before .before .before .before .before .before .before .put163 .kept .0 ∙ c .before .before .before .before .before .before .before .before .before .before .before .put162 .kept .0 ∙ c .before .before .before .before .before .before .before .before .before .before .before .before .before .before .before .before .put322 .kept .0 ∙ c .before .before .before .before .before .before .before .before .before .before .before .before .before .before .before .before .before .before .before .before .put32 .kept .0 ∙ c .before .before .before .before .before .before .before .before .before .before .before .before .before .before .before .before .before .before .before .before .before .before .before .before .put16 .kept .0 ∙ c .before .before .before .before .before .before .before .before .before .before .before .before .before .before .before .before .before .before .before .before .before .before .before .before .before .before .before .before .put82 .kept .0 ∙ c .before .before .before .before .before .before .before .before .before .before .before .before .before .before .before .before .before .before .before .before .before .before .before .before .before .before .before .before .before .before .before .before .before .put8 .kept .0)
+put-events-requires : tie.Need-put-events-requires
+put-events-requires c κs = search needs
 
 same-length : tie.Need-same-length
-same-length c = c .before .before .put165 .kept .0 ∙ c .before .before .before .before .before .before .put164 .kept .0 ∙ c .before .before .before .before .before .before .before .before .before .before .put163 .kept .0 ∙ c .before .before .before .before .before .before .before .before .before .before .before .before .before .before .put162 .kept .0 ∙ c .before .before .before .before .before .before .before .before .before .before .before .before .before .before .before .before .before .before .before .put322 .kept .0 ∙ c .before .before .before .before .before .before .before .before .before .before .before .before .before .before .before .before .before .before .before .before .before .before .before .put32 .kept .0 ∙ c .before .before .before .before .before .before .before .before .before .before .before .before .before .before .before .before .before .before .before .before .before .before .before .before .before .before .before .put16 .kept .0 ∙ c .before .before .before .before .before .before .before .before .before .before .before .before .before .before .before .before .before .before .before .before .before .before .before .before .before .before .before .before .before .before .before .put82 .kept .0 ∙ c .before .before .before .before .before .before .before .before .before .before .before .before .before .before .before .before .before .before .before .before .before .before .before .before .before .before .before .before .before .before .before .before .before .before .before .before .put8 .kept .0
+same-length c = search needs
 
 returns : tie.Need-returns
 unfolding putAll total
-returns c = rw (c .before .before .put165 .ensures, c .before .before .before .before .before .before .put164 .ensures, c .before .before .before .before .before .before .before .before .before .before .put163 .ensures, c .before .before .before .before .before .before .before .before .before .before .before .before .before .before .put162 .ensures, c .before .before .before .before .before .before .before .before .before .before .before .before .before .before .before .before .before .before .before .put322 .ensures, c .before .before .before .before .before .before .before .before .before .before .before .before .before .before .before .before .before .before .before .before .before .before .before .put32 .ensures, c .before .before .before .before .before .before .before .before .before .before .before .before .before .before .before .before .before .before .before .before .before .before .before .before .before .before .before .put16 .ensures, c .before .before .before .before .before .before .before .before .before .before .before .before .before .before .before .before .before .before .before .before .before .before .before .before .before .before .before .before .before .before .before .put82 .ensures, c .before .before .before .before .before .before .before .before .before .before .before .before .before .before .before .before .before .before .before .before .before .before .before .before .before .before .before .before .before .before .before .before .before .before .before .before .put8 .ensures, c .before .before .before .before .before .before .before .before .before .before .before .before .before .before .before .before .before .before .before .before .before .before .before .before .before .before .before .before .before .before .before .before .before .before .before .before .before .before .before .wait-of .ensures, c .before .before .before .before .before .before .before .before .before .before .before .before .before .before .before .before .before .before .before .before .before .before .before .before .before .before .before .before .before .before .before .before .before .before .before .before .before .before .before .before .standing-of .ensures) (put-all tailSizes (tailNumbers (standingOf (c .before .before .before .before .before .before .before .before .before .before .before .before .before .before .before .before .before .before .before .before .before .before .before .before .before .before .before .before .before .before .before .before .before .before .before .before .before .before .before .before .before .before .args .writing)) (waitOf (c .before .before .before .before .before .before .before .before .before .before .before .before .before .before .before .before .before .before .before .before .before .before .before .before .before .before .before .before .before .before .before .before .before .before .before .before .before .before .before .before .before .before .args .pending)) (c .before .before .before .before .before .before .before .before .before .before .before .before .before .before .before .before .before .before .before .before .before .before .before .before .before .before .before .before .before .before .before .before .before .before .before .before .before .before .before .before .before .before .args .listing)) (c .before .before .before .before .before .before .before .before .before .before .before .before .before .before .before .before .before .before .before .before .before .before .before .before .before .before .before .before .before .before .before .before .before .before .before .before .before .before .before .before .before .before .args .bytes .now) 172 refl (omega (arith, c .before .before .before .before .before .before .before .before .before .before .before .before .before .before .before .before .before .before .before .before .before .before .before .before .before .before .before .before .before .before .before .before .before .before .before .before .before .before .before .before .before .before .pre)))
+returns c = rw (c .before .before .put-events .ensures, c .before .before .before .before .before .before .put-kept .ensures, c .before .before .before .before .before .before .before .before .wait-of .ensures, c .before .before .before .before .before .before .before .before .before .standing-of .ensures) (put-all tailSizes (tailNumbers (standingOf (c .before .before .before .before .before .before .before .before .before .before .before .args .writing)) (waitOf (c .before .before .before .before .before .before .before .before .before .before .before .args .pending)) (c .before .before .before .before .before .before .before .before .before .before .before .args .listing) (c .before .before .before .before .before .before .before .before .before .before .before .args .events)) (c .before .before .before .before .before .before .before .before .before .before .before .args .bytes .now) 172 refl (omega (arith, c .before .before .before .before .before .before .before .before .before .before .before .pre)))
 
 pub put-tail-spec : {M : Type 1} → statement M
 put-tail-spec =
@@ -63,17 +33,7 @@ put-tail-spec =
     (tie.spec
     standing-of-requires
     wait-of-requires
-    cast-put8
-    put8-requires
-    cast-put8-2
-    put8-requires-2
-    put16-requires
-    put32-requires
-    put32-requires-2
-    cast-put16
-    put16-requires-2
-    put16-requires-3
-    put16-requires-4
-    put16-requires-5
+    put-kept-requires
+    put-events-requires
     same-length
     returns)

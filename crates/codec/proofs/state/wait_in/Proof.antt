@@ -54,8 +54,17 @@ cast-t17 c = search needs
 word16-requires : tie.Need-word16-requires
 word16-requires c κs = search needs
 
+byte-requires-6 : tie.Need-byte-requires-6
+byte-requires-6 c κs = search needs
+
+cast-t20 : tie.Need-cast-t20
+cast-t20 c = search needs
+
+word32-requires-5 : tie.Need-word32-requires-5
+word32-requires-5 c κs = search needs
+
 returns : tie.Need-returns
-returns c = λ i. record { pending = (c .before .before .before .before .before .before .before .before .before .byte .ensures) i; link = (c .before .before .before .before .before .before .before .before .byte2 .ensures) i; slave = (c .before .before .before .before .before .before .before .byte3 .ensures) i; from = (c .before .before .before .before .before .before .byte4 .ensures) i; tally = (c .before .before .before .before .before .byte5 .ensures) i; set = (c .before .before .before .before .word32 .ensures) i; at = (c .before .before .before .word322 .ensures) i; words = (c .before .before .word323 .ensures) i; received = (c .before .word324 .ensures) i; «rx_status» = (c .word16 .ensures) i }
+returns c = λ i. record { pending = (c .before .before .before .before .before .before .before .before .before .before .before .byte .ensures) i; link = (c .before .before .before .before .before .before .before .before .before .before .byte2 .ensures) i; slave = (c .before .before .before .before .before .before .before .before .before .byte3 .ensures) i; from = (c .before .before .before .before .before .before .before .before .byte4 .ensures) i; tally = (c .before .before .before .before .before .before .before .byte5 .ensures) i; set = (c .before .before .before .before .before .before .word32 .ensures) i; at = (c .before .before .before .before .before .word322 .ensures) i; words = (c .before .before .before .before .word323 .ensures) i; received = (c .before .before .before .word324 .ensures) i; «rx_status» = (c .before .before .word16 .ensures) i; asks = (c .before .byte6 .ensures) i; «left_out» = (c .word325 .ensures) i }
 
 pub wait-in-spec : {M : Type 1} → statement M
 wait-in-spec =
@@ -78,4 +87,7 @@ wait-in-spec =
     word32-requires-4
     cast-t17
     word16-requires
+    byte-requires-6
+    cast-t20
+    word32-requires-5
     returns)

@@ -65,6 +65,27 @@ enum-known-answer-6 c = search needs
 slow-number-requires : tie.Need-slow-number-requires
 slow-number-requires c κs = search needs
 
+enum-known-answer-7 : tie.Need-enum-known-answer-7
+enum-known-answer-7 c = search needs
+
+cast-done-5 : tie.Need-cast-done-5
+cast-done-5 c = search needs
+
+done-requires-6 : tie.Need-done-requires-6
+done-requires-6 c κs = search needs
+
+enum-told-3 : tie.Need-enum-told-3
+enum-told-3 c = search needs
+
+done-requires-7 : tie.Need-done-requires-7
+done-requires-7 c κs = search needs
+
+enum-known-answer-8 : tie.Need-enum-known-answer-8
+enum-known-answer-8 c = search needs
+
+done-requires-8 : tie.Need-done-requires-8
+done-requires-8 c κs = search needs
+
 returns : tie.Need-returns
 returns c = search needs
 
@@ -88,6 +109,15 @@ returns-7 c = via answerNumber (c .before .before .answer5 .given .1) (c .done5 
 
 returns-8 : tie.Need-returns-8
 returns-8 c = via answerNumber (c .before .before .answer6 .given .1) (c .slow-number .ensures)
+
+returns-9 : tie.Need-returns-9
+returns-9 c = via answerNumber (c .before .before .answer7 .given .1) (c .done6 .ensures)
+
+returns-10 : tie.Need-returns-10
+returns-10 c = search needs
+
+returns-11 : tie.Need-returns-11
+returns-11 c = via answerNumber (c .before .before .answer8 .given .1) (c .done8 .ensures)
 
 pub answer-number-spec : {M : Type 1} → statement M
 answer-number-spec =
@@ -113,6 +143,13 @@ answer-number-spec =
     done-requires-5
     enum-known-answer-6
     slow-number-requires
+    enum-known-answer-7
+    cast-done-5
+    done-requires-6
+    enum-told-3
+    done-requires-7
+    enum-known-answer-8
+    done-requires-8
     returns
     returns-2
     returns-3
@@ -120,4 +157,7 @@ answer-number-spec =
     returns-5
     returns-6
     returns-7
-    returns-8)
+    returns-8
+    returns-9
+    returns-10
+    returns-11)

@@ -25,4 +25,11 @@ returns-2 c = search needs
 
 pub slow-number-spec : {M : Type 1} → statement M
 slow-number-spec =
-    tie.close (tie.spec enum-known-slow done-requires enum-told done-requires-2 returns returns-2)
+    tie.close
+    (tie.spec
+    enum-known-slow
+    done-requires
+    enum-told
+    done-requires-2
+    returns
+    returns-2)

@@ -31,4 +31,11 @@ returns-3 c = no _ (sym (λ i. not (c .before .before .before .before .bytes-ok 
 
 pub erase-check-spec : {M : Type 1} → statement M
 erase-check-spec =
-    tie.close (tie.spec bytes-ok-requires kept-ok-requires returns is-state-requires returns-2 returns-3)
+    tie.close
+    (tie.spec
+    bytes-ok-requires
+    kept-ok-requires
+    returns
+    is-state-requires
+    returns-2
+    returns-3)

@@ -20,4 +20,10 @@ returns-2 : tie.Need-returns-2
 returns-2 c = yes _ (eq-eqb _ _ (c .before .if1 .left)) (ap (eqb (c .before .before .before .args .flash)) (c .word32 .ensures))
 
 pub kept-ok-spec : {M : Type 1} → statement M
-kept-ok-spec = tie.close (tie.spec returns word32-requires cast-result returns-2)
+kept-ok-spec =
+    tie.close
+    (tie.spec
+    returns
+    word32-requires
+    cast-result
+    returns-2)

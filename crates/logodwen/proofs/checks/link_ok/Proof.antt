@@ -20,4 +20,10 @@ returns-2 : tie.Need-returns-2
 returns-2 c = yes _ (eq-eqb _ _ (c .before .if1 .left)) (ap (ltb (c .before .before .before .args .link)) (c .byte .ensures))
 
 pub link-ok-spec : {M : Type 1} → statement M
-link-ok-spec = tie.close (tie.spec returns byte-requires cast-result returns-2)
+link-ok-spec =
+    tie.close
+    (tie.spec
+    returns
+    byte-requires
+    cast-result
+    returns-2)

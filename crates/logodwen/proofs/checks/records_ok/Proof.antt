@@ -21,4 +21,10 @@ returns-2 : tie.Need-returns-2
 returns-2 c = yes _ (eq-eqb _ _ (c .before .if1 .left)) (ap (λ (x : ℕ). leb x (c .before .before .before .args .records)) (c .word16 .ensures))
 
 pub records-ok-spec : {M : Type 1} → statement M
-records-ok-spec = tie.close (tie.spec returns word16-requires cast-result returns-2)
+records-ok-spec =
+    tie.close
+    (tie.spec
+    returns
+    word16-requires
+    cast-result
+    returns-2)

@@ -1,13 +1,13 @@
 -- `logodwen::checks::request_check` meets its contract. Assumes nothing.
 use mathlib.Core.Path.{refl, sym, ap, _∙_}
 use mathlib.Core.Bool.{Bool, _&&_, _||_, not}
-use lib.Dec.{eqb, ltb, leb}
+use lib.Dec.{ltb, leb}
 use Rattle.base.proofs.Pick.{yes, no}
 use borrow.Author.Tests.{lt-ltb, le-ltb, not-false}
-use Rattle.logodwen.proofs.Entering.{state-long}
-use Rattle.logodwen.specs.Causes.{requestCheck}
-use Rattle.node.specs.declared.Node.{Node}
 use Rattle.node.specs.Refusals.{isPending}
+use Rattle.node.specs.declared.Node.{Node}
+use Rattle.logodwen.specs.Causes.{requestCheck}
+use Rattle.logodwen.proofs.Entering.{state-long}
 use borrow.Author.Needs.{needs}
 use Rattle.logodwen.proofs.checks.request_check.Statement.{statement}
 use Rattle.logodwen.proofs.checks.request_check.Tie as tie
@@ -41,33 +41,37 @@ returns-5 : tie.Need-returns-5
 unfolding requestCheck
 returns-5 c = no _ (sym (λ i. not (c .before .before .before .before .before .before .before .bytes-ok .ensures i) || not (c .before .before .before .before .before .before .kept-ok .ensures i)) ∙ c .before .before .before .before .before .if1 .left) (no _ (le-ltb _ _ (c .before .before .before .before .if2 .left)) (no _ (c .before .before .before .if3 .left) (no _ (le-ltb _ _ (c .before .before .if4 .left)) (yes _ (sym (ap (λ (x : Bool). ltb 910 (c .before .before .before .before .before .before .before .before .before .args .records) || not x) (c .before .records-ok .ensures)) ∙ c .if5 .taken) refl))))
 
+returns-6 : tie.Need-returns-6
+unfolding requestCheck
+returns-6 c = no _ (sym (λ i. not (c .before .before .before .before .before .before .before .before .bytes-ok .ensures i) || not (c .before .before .before .before .before .before .before .kept-ok .ensures i)) ∙ c .before .before .before .before .before .before .if1 .left) (no _ (le-ltb _ _ (c .before .before .before .before .before .if2 .left)) (no _ (c .before .before .before .before .if3 .left) (no _ (le-ltb _ _ (c .before .before .before .if4 .left)) (no _ (sym (ap (λ (x : Bool). ltb 910 (c .before .before .before .before .before .before .before .before .before .before .args .records) || not x) (c .before .before .records-ok .ensures)) ∙ c .before .if5 .left) (yes _ (lt-ltb _ _ (c .if6 .taken)) refl)))))
+
 link-ok-requires : tie.Need-link-ok-requires
 link-ok-requires c κs = search needs
 
-returns-6 : tie.Need-returns-6
+returns-7 : tie.Need-returns-7
 unfolding requestCheck
-returns-6 c = no _ (sym (λ i. not (c .before .before .before .before .before .before .before .before .before .bytes-ok .ensures i) || not (c .before .before .before .before .before .before .before .before .kept-ok .ensures i)) ∙ c .before .before .before .before .before .before .before .if1 .left) (no _ (le-ltb _ _ (c .before .before .before .before .before .before .if2 .left)) (no _ (c .before .before .before .before .before .if3 .left) (no _ (le-ltb _ _ (c .before .before .before .before .if4 .left)) (no _ (sym (ap (λ (x : Bool). ltb 910 (c .before .before .before .before .before .before .before .before .before .before .before .args .records) || not x) (c .before .before .before .records-ok .ensures)) ∙ c .before .before .if5 .left) (yes _ (sym (ap not (c .before .link-ok .ensures)) ∙ c .if6 .taken) refl)))))
+returns-7 c = no _ (sym (λ i. not (c .before .before .before .before .before .before .before .before .before .before .bytes-ok .ensures i) || not (c .before .before .before .before .before .before .before .before .before .kept-ok .ensures i)) ∙ c .before .before .before .before .before .before .before .before .if1 .left) (no _ (le-ltb _ _ (c .before .before .before .before .before .before .before .if2 .left)) (no _ (c .before .before .before .before .before .before .if3 .left) (no _ (le-ltb _ _ (c .before .before .before .before .before .if4 .left)) (no _ (sym (ap (λ (x : Bool). ltb 910 (c .before .before .before .before .before .before .before .before .before .before .before .before .args .records) || not x) (c .before .before .before .before .records-ok .ensures)) ∙ c .before .before .before .if5 .left) (no _ (le-ltb _ _ (c .before .before .if6 .left)) (yes _ (sym (ap not (c .before .link-ok .ensures)) ∙ c .if7 .taken) refl))))))
 
 is-state-requires : tie.Need-is-state-requires
 is-state-requires c κs = search needs
 
-returns-7 : tie.Need-returns-7
+returns-8 : tie.Need-returns-8
 unfolding requestCheck
-returns-7 c = no _ (sym (λ i. not (c .before .before .before .before .before .before .before .before .before .before .before .bytes-ok .ensures i) || not (c .before .before .before .before .before .before .before .before .before .before .kept-ok .ensures i)) ∙ c .before .before .before .before .before .before .before .before .before .if1 .left) (no _ (le-ltb _ _ (c .before .before .before .before .before .before .before .before .if2 .left)) (no _ (c .before .before .before .before .before .before .before .if3 .left) (no _ (le-ltb _ _ (c .before .before .before .before .before .before .if4 .left)) (no _ (sym (ap (λ (x : Bool). ltb 910 (c .before .before .before .before .before .before .before .before .before .before .before .before .before .args .records) || not x) (c .before .before .before .before .before .records-ok .ensures)) ∙ c .before .before .before .before .if5 .left) (no _ (sym (ap not (c .before .before .before .link-ok .ensures)) ∙ c .before .before .if6 .left) (yes _ (sym (ap not (c .before .is-state .ensures)) ∙ c .if7 .taken) refl))))))
+returns-8 c = no _ (sym (λ i. not (c .before .before .before .before .before .before .before .before .before .before .before .before .bytes-ok .ensures i) || not (c .before .before .before .before .before .before .before .before .before .before .before .kept-ok .ensures i)) ∙ c .before .before .before .before .before .before .before .before .before .before .if1 .left) (no _ (le-ltb _ _ (c .before .before .before .before .before .before .before .before .before .if2 .left)) (no _ (c .before .before .before .before .before .before .before .before .if3 .left) (no _ (le-ltb _ _ (c .before .before .before .before .before .before .before .if4 .left)) (no _ (sym (ap (λ (x : Bool). ltb 910 (c .before .before .before .before .before .before .before .before .before .before .before .before .before .before .args .records) || not x) (c .before .before .before .before .before .before .records-ok .ensures)) ∙ c .before .before .before .before .before .if5 .left) (no _ (le-ltb _ _ (c .before .before .before .before .if6 .left)) (no _ (sym (ap not (c .before .before .before .link-ok .ensures)) ∙ c .before .before .if7 .left) (yes _ (sym (ap not (c .before .is-state .ensures)) ∙ c .if8 .taken) refl)))))))
 
 node-in-requires : tie.Need-node-in-requires
-node-in-requires c κs = state-long (c .before .before .before .before .before .before .before .before .before .before .before .before .before .args .state .now) (not-false _ (sym (ap not (c .before .is-state .ensures)) ∙ c .if7 .left))
+node-in-requires c κs = state-long (c .before .before .before .before .before .before .before .before .before .before .before .before .before .before .args .state .now) (not-false _ (sym (ap not (c .before .is-state .ensures)) ∙ c .if8 .left))
 
 is-pending-requires : tie.Need-is-pending-requires
 is-pending-requires c κs = search needs
 
-returns-8 : tie.Need-returns-8
-unfolding requestCheck
-returns-8 c = no _ (sym (λ i. not (c .before .before .before .before .before .before .before .before .before .before .before .before .before .before .bytes-ok .ensures i) || not (c .before .before .before .before .before .before .before .before .before .before .before .before .before .kept-ok .ensures i)) ∙ c .before .before .before .before .before .before .before .before .before .before .before .before .if1 .left) (no _ (le-ltb _ _ (c .before .before .before .before .before .before .before .before .before .before .before .if2 .left)) (no _ (c .before .before .before .before .before .before .before .before .before .before .if3 .left) (no _ (le-ltb _ _ (c .before .before .before .before .before .before .before .before .before .if4 .left)) (no _ (sym (ap (λ (x : Bool). ltb 910 (c .before .before .before .before .before .before .before .before .before .before .before .before .before .before .before .before .args .records) || not x) (c .before .before .before .before .before .before .before .before .records-ok .ensures)) ∙ c .before .before .before .before .before .before .before .if5 .left) (no _ (sym (ap not (c .before .before .before .before .before .before .link-ok .ensures)) ∙ c .before .before .before .before .before .if6 .left) (no _ (sym (ap not (c .before .before .before .before .is-state .ensures)) ∙ c .before .before .before .if7 .left) (yes _ (sym (ap (λ (x : Bool). x && leb 1 (c .before .before .before .before .before .before .before .before .before .before .before .before .before .before .before .before .args .packet)) (c .before .is-pending .ensures ∙ ap (λ (n : Node). isPending (n .pending)) (c .before .before .node-in .ensures))) ∙ c .if8 .taken) refl)))))))
-
 returns-9 : tie.Need-returns-9
 unfolding requestCheck
-returns-9 c = no _ (sym (λ i. not (c .before .before .before .before .before .before .before .before .before .before .before .before .before .before .bytes-ok .ensures i) || not (c .before .before .before .before .before .before .before .before .before .before .before .before .before .kept-ok .ensures i)) ∙ c .before .before .before .before .before .before .before .before .before .before .before .before .if1 .left) (no _ (le-ltb _ _ (c .before .before .before .before .before .before .before .before .before .before .before .if2 .left)) (no _ (c .before .before .before .before .before .before .before .before .before .before .if3 .left) (no _ (le-ltb _ _ (c .before .before .before .before .before .before .before .before .before .if4 .left)) (no _ (sym (ap (λ (x : Bool). ltb 910 (c .before .before .before .before .before .before .before .before .before .before .before .before .before .before .before .before .args .records) || not x) (c .before .before .before .before .before .before .before .before .records-ok .ensures)) ∙ c .before .before .before .before .before .before .before .if5 .left) (no _ (sym (ap not (c .before .before .before .before .before .before .link-ok .ensures)) ∙ c .before .before .before .before .before .if6 .left) (no _ (sym (ap not (c .before .before .before .before .is-state .ensures)) ∙ c .before .before .before .if7 .left) (no _ (sym (ap (λ (x : Bool). x && leb 1 (c .before .before .before .before .before .before .before .before .before .before .before .before .before .before .before .before .args .packet)) (c .before .is-pending .ensures ∙ ap (λ (n : Node). isPending (n .pending)) (c .before .before .node-in .ensures))) ∙ c .if8 .left) refl)))))))
+returns-9 c = no _ (sym (λ i. not (c .before .before .before .before .before .before .before .before .before .before .before .before .before .before .before .bytes-ok .ensures i) || not (c .before .before .before .before .before .before .before .before .before .before .before .before .before .before .kept-ok .ensures i)) ∙ c .before .before .before .before .before .before .before .before .before .before .before .before .before .if1 .left) (no _ (le-ltb _ _ (c .before .before .before .before .before .before .before .before .before .before .before .before .if2 .left)) (no _ (c .before .before .before .before .before .before .before .before .before .before .before .if3 .left) (no _ (le-ltb _ _ (c .before .before .before .before .before .before .before .before .before .before .if4 .left)) (no _ (sym (ap (λ (x : Bool). ltb 910 (c .before .before .before .before .before .before .before .before .before .before .before .before .before .before .before .before .before .args .records) || not x) (c .before .before .before .before .before .before .before .before .before .records-ok .ensures)) ∙ c .before .before .before .before .before .before .before .before .if5 .left) (no _ (le-ltb _ _ (c .before .before .before .before .before .before .before .if6 .left)) (no _ (sym (ap not (c .before .before .before .before .before .before .link-ok .ensures)) ∙ c .before .before .before .before .before .if7 .left) (no _ (sym (ap not (c .before .before .before .before .is-state .ensures)) ∙ c .before .before .before .if8 .left) (yes _ (sym (ap (λ (x : Bool). x && leb 1 (c .before .before .before .before .before .before .before .before .before .before .before .before .before .before .before .before .before .args .packet)) (c .before .is-pending .ensures ∙ ap (λ (n : Node). isPending (n .pending)) (c .before .before .node-in .ensures))) ∙ c .if9 .taken) refl))))))))
+
+returns-10 : tie.Need-returns-10
+unfolding requestCheck
+returns-10 c = no _ (sym (λ i. not (c .before .before .before .before .before .before .before .before .before .before .before .before .before .before .before .bytes-ok .ensures i) || not (c .before .before .before .before .before .before .before .before .before .before .before .before .before .before .kept-ok .ensures i)) ∙ c .before .before .before .before .before .before .before .before .before .before .before .before .before .if1 .left) (no _ (le-ltb _ _ (c .before .before .before .before .before .before .before .before .before .before .before .before .if2 .left)) (no _ (c .before .before .before .before .before .before .before .before .before .before .before .if3 .left) (no _ (le-ltb _ _ (c .before .before .before .before .before .before .before .before .before .before .if4 .left)) (no _ (sym (ap (λ (x : Bool). ltb 910 (c .before .before .before .before .before .before .before .before .before .before .before .before .before .before .before .before .before .args .records) || not x) (c .before .before .before .before .before .before .before .before .before .records-ok .ensures)) ∙ c .before .before .before .before .before .before .before .before .if5 .left) (no _ (le-ltb _ _ (c .before .before .before .before .before .before .before .if6 .left)) (no _ (sym (ap not (c .before .before .before .before .before .before .link-ok .ensures)) ∙ c .before .before .before .before .before .if7 .left) (no _ (sym (ap not (c .before .before .before .before .is-state .ensures)) ∙ c .before .before .before .if8 .left) (no _ (sym (ap (λ (x : Bool). x && leb 1 (c .before .before .before .before .before .before .before .before .before .before .before .before .before .before .before .before .before .args .packet)) (c .before .is-pending .ensures ∙ ap (λ (n : Node). isPending (n .pending)) (c .before .before .node-in .ensures))) ∙ c .if9 .left) (refl)))))))))
 
 pub request-check-spec : {M : Type 1} → statement M
 request-check-spec =
@@ -81,11 +85,12 @@ request-check-spec =
     returns-4
     records-ok-requires
     returns-5
-    link-ok-requires
     returns-6
-    is-state-requires
+    link-ok-requires
     returns-7
+    is-state-requires
+    returns-8
     node-in-requires
     is-pending-requires
-    returns-8
-    returns-9)
+    returns-9
+    returns-10)

@@ -28,4 +28,10 @@ returns-3 c = no _ (sym (ap (λ (x : Bool). ltb 910 (c .before .before .before .
 
 pub slow-check-spec : {M : Type 1} → statement M
 slow-check-spec =
-    tie.close (tie.spec records-ok-requires returns is-state-requires returns-2 returns-3)
+    tie.close
+    (tie.spec
+    records-ok-requires
+    returns
+    is-state-requires
+    returns-2
+    returns-3)

@@ -19,7 +19,7 @@ abbrev held : tie.Start → Memories
 held s = memories (s .args .pm .now) (s .args .dm .now) (s .args .io .now)
 
 abbrev given : tie.Start → Lent
-given s = lent [] (memoryWords (held s)) (further [] []) []
+given s = lent [] (memoryWords (held s)) (further [] [] []) []
 
 pm-read-requires : tie.Need-pm-read-requires
 pm-read-requires c κs = c .before .before .before .before .before .before .before .before .pre .0 .2

@@ -18,7 +18,7 @@ abbrev held : tie.Start → Memories
 held s = memories (s .args .pm .now) (s .args .dm .now) (s .args .io .now)
 
 abbrev given : tie.Start → Lent
-given s = lent [] (memoryWords (held s)) (further [] []) []
+given s = lent [] (memoryWords (held s)) (further [] [] []) []
 
 sub-perform : tie.Need-sub-perform
 sub-perform c = search needs

@@ -63,7 +63,7 @@ same-length-4 c = search needs
 returns : tie.Need-returns
 returns c = let a = c .before .before .before .before .before .before .before .before .before .before .before .before .before .before .before .before .before .before .before .before .before .before .before .before .before .before .before .before .before .args in
     let m = memories (a .pm .now) (a .dm .now) (a .io .now) in
-    moves-is (a .node) m (a .reply .now) (c .before .before .before .before .before .before .before .before .before .before .on-segment .ensures) (ap (λ (ws : List ℕ). memoriesOf (a .id) (a .node) (lent [] (memoryWords m) (further [] []) []) ws) (loaded-front (c .before .before .before .before .before .before .before .before .before .before .before .before .before .before .before .before .before .before .before .load16 .ensures)))
+    moves-is (a .node) m (a .reply .now) (c .before .before .before .before .before .before .before .before .before .before .on-segment .ensures) (ap (λ (ws : List ℕ). memoriesOf (a .id) (a .node) (lent [] (memoryWords m) (further [] [] []) []) ws) (loaded-front (c .before .before .before .before .before .before .before .before .before .before .before .before .before .before .before .before .before .before .before .load16 .ensures)))
 
 pub segment-long-spec : {M : Type 1} → statement M
 segment-long-spec =

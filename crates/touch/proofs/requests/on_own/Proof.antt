@@ -1,7 +1,7 @@
 -- `touch::requests::on_own` meets its contract: each family of commands on the runs that it touches. Assumes nothing.
 use Prim.Native.Nat.{_/_, _≤_}
-use mathlib.Core.Path.{_≡_, sym, subst, _∙_}
-use mathlib.Core.Bool.{true, not, _||_}
+use mathlib.Core.Path.{_≡_, refl, sym, ap, subst, _∙_}
+use mathlib.Core.Bool.{Bool, true, false, not, _||_}
 use mathlib.Core.List.{[]}
 use native.Mathlib.Omega.{arith}
 use borrow.Author.Tests.{not-false}
@@ -26,6 +26,10 @@ use borrow.Author.Needs.{needs}
 use Rattle.touch.proofs.requests.on_own.Statement.{statement}
 use Rattle.touch.proofs.requests.on_own.Tie as tie
 
+or-none : (t : Bool) → (t || false) ≡ t
+or-none true = refl
+or-none false = refl
+
 -- what is lent, and how many words the packet has
 abbrev held : tie.Start → Memories
 held s = memories (s .args .pm .now) (s .args .dm .now) (s .args .io .now)
@@ -38,12 +42,12 @@ some s =
     let a = s .args in
     let e = length-words-of 2 (a .packet .now) in (
       omega (arith, e, subst (λ (r : Route). Fits r (wordsOf 2 (a .packet .now))) (s .pre .1 .1 .0) (route-fits (a .node) (a .link) (a .bc) (a .errors) (wordsOf 2 (a .packet .now)))),
-      omega (arith, e, own-short (a .node) (a .clock) (a .link) (a .bc) (a .errors) (a .packet .now) (given s (further [] [])) (a .id) (s .pre .1 .1 .0)),
+      omega (arith, e, own-short (a .node) (a .clock) (a .link) (a .bc) (a .errors) (a .packet .now) (given s (further [] [] [])) (a .id) (s .pre .1 .1 .0)),
     )
 
 lends : (c : tie.After-slice-known5) (x : Further) → Beside (c .before .before .before .before .before .before .args .node) x → Lends (given (c .before .before .before .before .before .before) x)
 lends c x beside =
-    record { buffer = c .before .before .before .before .before .before .pre .0 .1; flash = λ i. omega (arith, c .before .before .before .before .slice-known .given i); pm = λ i. omega (arith, c .before .before .before .slice-known2 .given i); dm = λ i. omega (arith, c .before .before .slice-known3 .given i); io = λ i. omega (arith, c .before .slice-known4 .given i); area = beside .area; list = beside .list; reply = λ i. omega (arith, c .slice-known5 .given i) }
+    record { buffer = c .before .before .before .before .before .before .pre .0 .1; flash = λ i. omega (arith, c .before .before .before .before .slice-known .given i); pm = λ i. omega (arith, c .before .before .before .slice-known2 .given i); dm = λ i. omega (arith, c .before .before .slice-known3 .given i); io = λ i. omega (arith, c .before .slice-known4 .given i); area = beside .area; list = beside .list; holds = beside .holds; events = beside .events; reply = λ i. omega (arith, c .slice-known5 .given i) }
 
 needs-memories-requires : tie.Need-needs-memories-requires
 needs-memories-requires c κs = search needs
@@ -59,8 +63,8 @@ same-length c = search needs
 
 returns : tie.Need-returns
 returns c = λ x beside. let a = c .before .before .before .before .before .before .before .before .before .before .before .before .before .args in
-    let q : isQuiet (a .id) ≡ true = sym (λ i. not (c .before .before .before .before .before .before .needs-memories .ensures i || c .before .before .before .before .before .needs-flash .ensures i)) ∙ c .before .before .before .before .if1 .taken in
-    quiet-request (a .node) (a .clock) (a .link) (a .bc) (a .errors) (a .packet .now) (given (c .before .before .before .before .before .before .before .before .before .before .before .before .before) x) (lends (c .before .before .before .before .before .before .before) x beside) (c .before .before .before .before .before .before .before .before .before .before .before .before .before .pre .1 .0 x beside) (a .id) (c .before .before .before .before .before .before .before .before .before .before .before .before .before .pre .1 .1 .0) q (c .before .before .before .before .before .before .before .before .before .before .before .before .before .pre .1 .1 .1) (c .before .before .on-settings .ensures)
+    let q : isQuiet (a .id) ≡ true = sym (λ i. not (c .before .before .before .before .before .before .needs-memories .ensures i || c .before .before .before .before .before .needs-flash .ensures i || sym (c .before .before .before .before .before .before .before .before .before .before .before .before .before .pre .1 .1 .1 .1) i)) ∙ ap not (or-none (c .before .before .before .before .before .before .needs-memories .result || c .before .before .before .before .before .needs-flash .result)) ∙ c .before .before .before .before .if1 .taken in
+    quiet-request (a .node) (a .clock) (a .link) (a .bc) (a .errors) (a .packet .now) (given (c .before .before .before .before .before .before .before .before .before .before .before .before .before) x) (lends (c .before .before .before .before .before .before .before) x beside) (c .before .before .before .before .before .before .before .before .before .before .before .before .before .pre .1 .0 x beside) (a .id) (c .before .before .before .before .before .before .before .before .before .before .before .before .before .pre .1 .1 .0) q (c .before .before .before .before .before .before .before .before .before .before .before .before .before .pre .1 .1 .1 .0) (c .before .before .on-settings .ensures)
 
 on-file-requires : tie.Need-on-file-requires
 on-file-requires c κs = search needs
@@ -131,7 +135,7 @@ returns-5 c = λ x beside. let a = c .before .before .before .before .before .be
     let p = wordsOf 2 (a .packet .now) in
     let h : onMemories (a .id) ≡ true = rest-memories (a .id) (sym (λ i. c .before .before .before .before .before .before .before .before .before .before .before .before .before .before .before .before .before .before .needs-memories .ensures i || c .before .before .before .before .before .before .before .before .before .before .before .before .before .before .before .before .before .needs-flash .ensures i) ∙ not-false _ (c .before .before .before .before .before .before .before .before .before .before .before .before .before .before .before .before .if1 .left)) (c .before .before .before .before .before .before .before .before .before .before .before .before .before .before .before .if2 .left) (c .before .before .before .before .before .before .before .before .before .before .before .before .before .before .if3 .left) (c .before .before .before .before .before .before .before .before .before .before .before .before .before .if4 .left) in
     moves-request (a .node) (a .clock) (a .link) (a .bc) (a .errors) (a .packet .now) (given (c .before .before .before .before .before .before .before .before .before .before .before .before .before .before .before .before .before .before .before .before .before .before .before .before .before) x) (lends (c .before .before .before .before .before .before .before .before .before .before .before .before .before .before .before .before .before .before .before) x beside) (c .before .before .before .before .before .before .before .before .before .before .before .before .before .before .before .before .before .before .before .before .before .before .before .before .before .pre .1 .0 x beside) (a .id) (c .before .before .before .before .before .before .before .before .before .before .before .before .before .before .before .before .before .before .before .before .before .before .before .before .before .pre .1 .1 .0)
-    (memoriesOf (a .id) (a .node) (lent [] m (further [] []) []) p) (own-memories (a .id) (a .node) (a .clock) (a .link) p (runWords (given (c .before .before .before .before .before .before .before .before .before .before .before .before .before .before .before .before .before .before .before .before .before .before .before .before .before) x)) h) (memories-kept (a .id) (a .node) (lent [] m (further [] []) []) p)
+    (memoriesOf (a .id) (a .node) (lent [] m (further [] [] []) []) p) (own-memories (a .id) (a .node) (a .clock) (a .link) p (runWords (given (c .before .before .before .before .before .before .before .before .before .before .before .before .before .before .before .before .before .before .before .before .before .before .before .before .before) x)) h) (memories-kept (a .id) (a .node) (lent [] m (further [] [] []) []) p)
     (record { pm = λ i. omega (arith, c .before .before .before .before .before .before .slice-known12 .given i); dm = λ i. omega (arith, c .before .before .before .before .slice-known13 .given i); io = λ i. omega (arith, c .before .before .slice-known14 .given i) }) (c .before .before .before .before .before .before .before .before .on-memories .ensures)
 
 pub on-own-spec : {M : Type 1} → statement M

@@ -61,7 +61,7 @@ returns c = let s = (c .before .before .before .before .before .before .before .
     let ws = a .words .now in
     let t = part-tells (a .heard) (g .received .words) (length ws) (g .built .words) (c .before .before .before .before .before .before .before .before .before .slaves-above .result) (sym (c .before .before .before .before .before .before .is-part .ensures) ∙ c .before .before .before .before .before .if1 .taken) in
     let kept = stored-in 12288 (a .reply .now) ws (g .built .words + 1 + g .received .words) (s .pre .0 .0) (λ i. omega (arith, c .before .before .before .before .before .before .before .before .before .before .slice-known2 .given i)) (λ i. omega (arith, c .before .before .before .before .before .before .before .before .before .before .before .before .shared-slice-known .given i)) (omega (arith, t .room)) (c .before .before .before .store-at16 .ensures) in
-    (awaits-told (a .node) (a .ask) g (a .clock) (a .heard) ws (bufferWords (a .reply .now)) (c .send-next .ensures) (kept .0) (c .before .before .before .before .before .before .before .before .before .slaves-above .ensures) (sym (c .before .before .before .before .before .before .is-part .ensures) ∙ c .before .before .before .before .before .if1 .taken), kept .1)
+    (λ events. awaits-told (a .node) (a .ask) g (a .clock) (a .heard) ws events (bufferWords (a .reply .now)) (c .send-next .ensures) (kept .0) (c .before .before .before .before .before .before .before .before .before .slaves-above .ensures) (sym (c .before .before .before .before .before .before .is-part .ensures) ∙ c .before .before .before .before .before .if1 .taken), kept .1)
 
 next-slave-requires : tie.Need-next-slave-requires
 next-slave-requires c κs = search needs
@@ -82,7 +82,7 @@ same-length-3 c = search needs
 returns-2 : tie.Need-returns-2
 returns-2 c = let s = (c .before .before .before .before .before .before .before .before .before .before .before .before .before .before .before .before .before .before .before .before) in
     let a = s .args in
-    (gathers-told (a .node) (a .ask) (a .gathering) (a .clock) (a .heard) (a .words .now) (bufferWords (a .reply .now)) (c .before .before .go-on-in .ensures .0) (c .before .before .before .before .before .before .before .before .take-answer-in .ensures .0) (c .before .before .before .before .before .before .before .before .before .before .before .before .before .before .before .before .slaves-above .ensures) (c .before .before .before .before .before .before .before .before .before .before .before .next-slave .ensures) (sym (c .before .before .before .before .before .before .before .before .before .before .before .before .before .is-part .ensures) ∙ c .before .before .before .before .before .before .before .before .before .before .before .before .if1 .left), rest-then 2 12288 (c .before .before .before .before .before .before .before .before .take-answer-in .ensures .1) (c .before .before .go-on-in .ensures .1))
+    (λ events. gathers-told (a .node) (a .ask) (a .gathering) (a .clock) (a .heard) (a .words .now) events (bufferWords (a .reply .now)) (c .before .before .go-on-in .ensures .0 events) (c .before .before .before .before .before .before .before .before .take-answer-in .ensures .0) (c .before .before .before .before .before .before .before .before .before .before .before .before .before .before .before .before .slaves-above .ensures) (c .before .before .before .before .before .before .before .before .before .before .before .next-slave .ensures) (sym (c .before .before .before .before .before .before .before .before .before .before .before .before .before .is-part .ensures) ∙ c .before .before .before .before .before .before .before .before .before .before .before .before .if1 .left), rest-then 2 12288 (c .before .before .before .before .before .before .before .before .take-answer-in .ensures .1) (c .before .before .go-on-in .ensures .1))
 
 pub gather-in-spec : {M : Type 1} → statement M
 gather-in-spec =

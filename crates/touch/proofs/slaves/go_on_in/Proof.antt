@@ -1,5 +1,7 @@
 -- `touch::slaves::go_on_in` meets its contract, by whether a slave is left. Assumes nothing.
+use Prim.Native.Nat.{ℕ}
 use mathlib.Core.Path.{ap, _∙_}
+use mathlib.Core.List.{List}
 use Rattle.base.proofs.Pick.{via}
 use Rattle.group.specs.Fragment.{assembly}
 use Rattle.group.specs.Ending.{endOf}
@@ -15,10 +17,10 @@ use borrow.Author.Needs.{needs}
 use Rattle.touch.proofs.slaves.go_on_in.Statement.{statement}
 use Rattle.touch.proofs.slaves.go_on_in.Tie as tie
 
--- what is owed, by the slave that is next
-abbrev owed : tie.Start → Next → Outcome
-owed s next =
-    applied (s .args .node) (lentReply (bufferWords (s .args .reply .now)))
+-- what is owed, by the slave that is next, whatever the event area is
+abbrev owed : tie.Start → List ℕ → Next → Outcome
+owed s events next =
+    applied (s .args .node) (lentReply events (bufferWords (s .args .reply .now)))
     (goesOn (s .args .node) (s .args .ask) (s .args .gathering) (s .args .clock) (assembly (bufferWords (s .args .reply .now)) (s .args .built)) next)
 
 own-status-requires : tie.Need-own-status-requires
@@ -41,16 +43,16 @@ send-requires c κs = search needs
 
 returns : tie.Need-returns
 returns c = let b = c .before .before .before .before .before .before .before .args .reply .now in
-    (via (owed (c .before .before .before .before .before .before .before)) (c .before .before .next .given .1) (ap (λ (t : Turn). outcome t (lentReply (bufferWords b))) (c .ask-next .ensures)), rest-none 2 12288 b)
+    (λ events. via (owed (c .before .before .before .before .before .before .before) events) (c .before .before .next .given .1) (ap (λ (t : Turn). outcome t (lentReply events (bufferWords b))) (c .ask-next .ensures)), rest-none 2 12288 b)
 
 same-length : tie.Need-same-length
 same-length c = search needs
 
 returns-2 : tie.Need-returns-2
 returns-2 c = let a = c .before .before .before .before .before .before .before .before .before .before .args in (
-  via (owed (c .before .before .before .before .before .before .before .before .before .before)) (c .before .before .before .before .before .enum-told .given .1)
-      (sends-told (a .node) (bufferWords (a .reply .now)) _ (c .send .ensures)
-      (c .before .before .before .finish-in .ensures .0 ∙ ap (endOf (assembly (bufferWords (a .reply .now)) (a .built))) (c .before .before .before .before .before .before .before .own-status .ensures))),
+  (λ events. via (owed (c .before .before .before .before .before .before .before .before .before .before) events) (c .before .before .before .before .before .enum-told .given .1)
+      (sends-told (a .node) events (bufferWords (a .reply .now)) _ (c .send .ensures)
+      (c .before .before .before .finish-in .ensures .0 ∙ ap (endOf (assembly (bufferWords (a .reply .now)) (a .built))) (c .before .before .before .before .before .before .before .own-status .ensures)))),
   c .before .before .before .finish-in .ensures .1,
 )
 

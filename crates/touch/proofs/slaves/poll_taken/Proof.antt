@@ -15,14 +15,17 @@ slice-aggregate-hear-in-2 c = search needs
 
 hear-in-requires : tie.Need-hear-in-requires
 hear-in-requires c κs =
-    let s = c .before .before .before .before .before in
-    ((s .pre .0, omega (arith, c .before .before .before .room-5 .ensures), λ short. omega arith), s .pre .1)
+    let s = c .before .before .before .before .before .before .before in
+    ((s .pre .0 .0, s .pre .0 .1, omega (arith, c .before .before .before .before .room-5 .ensures), λ short. omega arith), s .pre .1)
 
 same-length : tie.Need-same-length
 same-length c = search needs
 
+same-length-2 : tie.Need-same-length-2
+same-length-2 c = search needs
+
 returns : tie.Need-returns
-returns c = c .before .before .before .hear-in .ensures
+returns c = c .before .before .before .before .before .hear-in .ensures
 
 pub poll-taken-spec : {M : Type 1} → statement M
 poll-taken-spec =
@@ -33,4 +36,5 @@ poll-taken-spec =
     slice-aggregate-hear-in-2
     hear-in-requires
     same-length
+    same-length-2
     returns)

@@ -1,4 +1,4 @@
--- `logodwen::logodwen5_erase` meets its contract. Assumes nothing.
+-- `logodwen::logodwen6_erase` meets its contract. Assumes nothing.
 use mathlib.Core.Path.{sym, ap, _∙_}
 use Prim.Native.Nat.{_/_}
 use lib.ListN.{length}
@@ -13,8 +13,8 @@ use Rattle.node.specs.Refusals.{eraseVerdict}
 use Rattle.node.specs.Calls.{eraseOf, lentFlash}
 use Rattle.node.specs.declared.Node.{Node}
 use borrow.Author.Needs.{needs}
-use Rattle.logodwen.proofs.logodwen5_erase.Statement.{statement}
-use Rattle.logodwen.proofs.logodwen5_erase.Tie as tie
+use Rattle.logodwen.proofs.logodwen6_erase.Statement.{statement}
+use Rattle.logodwen.proofs.logodwen6_erase.Tie as tie
 
 erase-check-requires : tie.Need-erase-check-requires
 erase-check-requires c κs = search needs
@@ -63,8 +63,8 @@ returns-2 : tie.Need-returns-2
 unfolding eraseEntry
 returns-2 c = entered-refused (eraseCheck (c .before .before .before .before .before .before .before .before .args .state .now) (length (c .before .before .before .before .before .before .before .before .args .flash .now))) (c .before .before .before .before .before .before .before .before .args .state .now) (lentFlash (c .before .before .before .before .before .before .before .before .args .flash .now)) (eraseOf (nodeIn (c .before .before .before .before .before .before .before .before .args .state .now)) (c .before .before .before .before .before .before .before .before .args .budget) (wordsOf 2 (c .before .before .before .before .before .before .before .before .args .flash .now))) (c .before .before .verdict .given .0 .0) (sym (c .before .before .before .before .erase-check .ensures) ∙ c .before .before .verdict .given .1) (c .refusal-number .ensures)
 
-pub logodwen5-erase-spec : {M : Type 1} → statement M
-logodwen5-erase-spec =
+pub logodwen6-erase-spec : {M : Type 1} → statement M
+logodwen6-erase-spec =
     tie.close
     (tie.spec
     erase-check-requires

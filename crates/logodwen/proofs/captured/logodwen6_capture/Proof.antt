@@ -1,9 +1,9 @@
--- `logodwen::captured::logodwen5_capture` meets its contract. Assumes nothing.
+-- `logodwen::captured::logodwen6_capture` meets its contract. Assumes nothing.
 use mathlib.Core.Path.{ap, _∙_}
 use borrow.Author.Needs.{needs}
 use Rattle.logodwen.specs.Number.{captureNumber}
-use Rattle.logodwen.proofs.captured.logodwen5_capture.Statement.{statement}
-use Rattle.logodwen.proofs.captured.logodwen5_capture.Tie as tie
+use Rattle.logodwen.proofs.captured.logodwen6_capture.Statement.{statement}
+use Rattle.logodwen.proofs.captured.logodwen6_capture.Tie as tie
 
 read-bytes-requires : tie.Need-read-bytes-requires
 read-bytes-requires c κs = search needs
@@ -14,5 +14,5 @@ capture-number-requires c κs = search needs
 returns : tie.Need-returns
 returns c = c .capture-number .ensures ∙ ap captureNumber (c .before .read-bytes .ensures)
 
-pub logodwen5-capture-spec : {M : Type 1} → statement M
-logodwen5-capture-spec = tie.close (tie.spec read-bytes-requires capture-number-requires returns)
+pub logodwen6-capture-spec : {M : Type 1} → statement M
+logodwen6-capture-spec = tie.close (tie.spec read-bytes-requires capture-number-requires returns)

@@ -1,4 +1,4 @@
--- `logodwen::logodwen5_slow` meets its contract. Assumes nothing.
+-- `logodwen::logodwen6_slow` meets its contract. Assumes nothing.
 use Prim.Native.Nat.{_/_}
 use mathlib.Core.Path.{sym, ap, _∙_}
 use lib.ListN.{length}
@@ -15,8 +15,8 @@ use Rattle.logodwen.specs.Entry.{slowEntry}
 use Rattle.logodwen.proofs.Entering.{entered-fine, entered-refused, state-long, slow-fine}
 use Rattle.logodwen.proofs.Fine.{slow-verdict}
 use borrow.Author.Needs.{needs}
-use Rattle.logodwen.proofs.logodwen5_slow.Statement.{statement}
-use Rattle.logodwen.proofs.logodwen5_slow.Tie as tie
+use Rattle.logodwen.proofs.logodwen6_slow.Statement.{statement}
+use Rattle.logodwen.proofs.logodwen6_slow.Tie as tie
 
 -- whether it is refused, and the node's call
 abbrev checked : tie.Start → Verdict
@@ -72,8 +72,8 @@ unfolding slowEntry
 returns-2 c = let s = c .before .before .before .before .before .before .before .before in
     entered-refused (checked s) (s .args .state .now) (lentList (s .args .list .now)) (called s (nodeIn (s .args .state .now))) (c .before .before .verdict .given .0 .0) (sym (c .before .before .before .before .slow-check .ensures) ∙ c .before .before .verdict .given .1) (c .refusal-number .ensures)
 
-pub logodwen5-slow-spec : {M : Type 1} → statement M
-logodwen5-slow-spec =
+pub logodwen6-slow-spec : {M : Type 1} → statement M
+logodwen6-slow-spec =
     tie.close
     (tie.spec
     slow-check-requires
