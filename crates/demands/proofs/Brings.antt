@@ -34,7 +34,7 @@ use Rattle.node.proofs.Verdicts.{request-fine}
 use Rattle.demands.specs.Machine.{logodwen, isRefused}
 use Rattle.demands.specs.Requests.{Arrives, isCommand, isLast, isWrite, ended, brought}
 use Rattle.demands.proofs.Taken.{verdictOn, requestEffect}
-use Rattle.demands.proofs.Commands.{not-empty, arrives-fine, command-whole, command-told, bcIn, not-end, Unserved, unserved, delivered-own}
+use Rattle.demands.proofs.Commands.{not-empty, arrives-fine, command-whole, command-told, bcIn, not-end, Unserved, unserved, delivered-own, wordsIn}
 use Rattle.demands.proofs.Flash.{command-write, source-brought}
 
 module _ (n : Node) (clock link bc : ℕ) (errors : Bool) (packet : List ℕ) (l : Lent) where
@@ -97,29 +97,30 @@ module _ (n : Node) (clock link bc : ℕ) (errors : Bool) (packet : List ℕ) (l
       left : {r : Route} → routeOf n link bc errors packet ≡ r → (routed r n clock link packet l .answer ≡ Answer.Reply (zeroReply ZeroLength.End) → ⊥)
           → applied n l (routed r n clock link packet l) .after .flash ≡ l .flash → applied n l (routed r n clock link packet l) .after .memories ≡ l .memories
           → applied n l (routed r n clock link packet l) .turn .node .erasing ≡ n .erasing → applied n l (routed r n clock link packet l) .turn .node .listing ≡ n .listing
-          → applied n l (routed r n clock link packet l) .after .further .list ≡ l .further .list → Brings
-      left {r} q a f m e g k = inr (unserved n clock link bc errors packet l (applied n l (routed r n clock link packet l)) (is q) a f m e g k)
+          → applied n l (routed r n clock link packet l) .after .further .list ≡ l .further .list → applied n l (routed r n clock link packet l) .turn .node .events ≡ n .events
+          → wordsIn (routed r n clock link packet l .answer) ≡ 0 → Brings
+      left {r} q a f m e g k y w = inr (unserved n clock link bc errors packet l (applied n l (routed r n clock link packet l)) (is q) a f m e g k y w)
 
       taken : Brings
       taken =
           route-case (λ r. routeOf n link bc errors packet ≡ r → Brings) n link bc errors packet
-          (λ q. left q (λ h. not-end 1 refl (ap bcIn h)) refl refl refl refl refl)
-          (λ q. left q (λ h. not-end 2 refl (ap bcIn h)) refl refl refl refl refl)
-          (λ _ _ q. left q (λ h. not-end 1 refl (ap bcIn h)) refl refl refl refl refl)
-          (λ _ _ q. left q (λ h. not-end 2 refl (ap bcIn h)) refl refl refl refl refl)
+          (λ q. left q (λ h. not-end 1 refl (ap bcIn h)) refl refl refl refl refl refl refl)
+          (λ q. left q (λ h. not-end 2 refl (ap bcIn h)) refl refl refl refl refl refl refl)
+          (λ _ _ q. left q (λ h. not-end 1 refl (ap bcIn h)) refl refl refl refl refl refl refl)
+          (λ _ _ q. left q (λ h. not-end 2 refl (ap bcIn h)) refl refl refl refl refl refl refl)
           (λ _ d q. absurd (dropped (eqb-true (bcOf bc) 2 (and-right (asks (n .pending) link || writes (n .writing) link) (eqb (bcOf bc) 2) d))))
-          (λ from at j q. left q (λ h. not-end 0 refl (ap bcIn h)) refl refl refl refl refl)
+          (λ from at j q. left q (λ h. not-end 0 refl (ap bcIn h)) refl refl refl refl refl refl refl)
           (λ at k q. last at k q)
           (λ id w k q. own id w k q)
-          (λ s _ q. left q (λ h. not-end 0 refl (ap bcIn h)) refl refl refl refl refl)
-          (λ set from s _ _ q. left q (λ h. not-end 0 refl (ap bcIn h)) refl refl refl refl refl)
+          (λ s _ q. left q (λ h. not-end 0 refl (ap bcIn h)) refl refl refl refl refl refl refl)
+          (λ set from s _ _ q. left q (λ h. not-end 0 refl (ap bcIn h)) refl refl refl refl refl refl refl)
           refl
 
   refused : (x : Refusal) → verdictOn n link packet l ≡ Verdict.No x → Brings
   unfolding requestOf
   refused x v =
       inr (unserved n clock link bc errors packet l (judged (Verdict.No x) n l (requestEffect n clock link bc errors packet l))
-      (λ i. judged (v i) n l (requestEffect n clock link bc errors packet l)) (λ h. false≢true (sym (ap isRefused h))) refl refl refl refl refl)
+      (λ i. judged (v i) n l (requestEffect n clock link bc errors packet l)) (λ h. false≢true (sym (ap isRefused h))) refl refl refl refl refl refl refl)
 
   pub brings : isWrite n link bc packet ≡ true → Brings
   brings c = by (verdictOn n link packet l) refl
@@ -171,7 +172,7 @@ module _ (n : Node) (clock link bc : ℕ) (errors : Bool) (packet : List ℕ) (l
     -- the words joined before are there: the area has room for all that a state counts
     joined-room : (j : Joining) → n .writing ≡ Writing.File j → length (joined (l .further .area) (j .words) packet) ≤ 32768 → j .words + length packet ≤ 32768
     joined-room j stands short =
-        let fine = request-fine n link _ _ _ _ _ _ _ _ (arrives-fine n clock link bc errors packet l a) in
+        let fine = request-fine n link _ _ _ _ _ _ _ _ _ (arrives-fine n clock link bc errors packet l a) in
         let ok = ranges-tell n (fine .fits .state) .writing in
         let most = leb-true (j .words) 32768 (and-right (ltb (j .link) (n .given .ports)) (leb (j .words) 32768) (sym (ap (writingOk (n .given .ports)) stands) ∙ ok)) in
         let area = fine .room in

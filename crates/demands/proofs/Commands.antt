@@ -72,6 +72,9 @@ replyIn (Answer.Next s) r = r
 replyIn Answer.Waiting r = r
 replyIn (Answer.Erased count) r = r
 replyIn (Answer.Slow s) r = r
+replyIn (Answer.AskEvent s) r = r
+replyIn Answer.NoEvent r = r
+replyIn (Answer.Built words) r = r
 
 -- its BC, by which END is told from ABORT and ERROR, and its number of words
 abbrev pub bcIn : Answer → ℕ
@@ -83,7 +86,7 @@ wordsIn a = replyIn a (replied 0 0) .words
 pub not-end : {A : Type 0} (k : ℕ) → eqb k 3 ≡ false → k ≡ 3 → A
 not-end k h e = absurd (eqb-false k 3 h e)
 
--- a request that is refused, or answered other than END, and leaves flash, erasure, memories and Q-List
+-- a request that is refused, or answered other than END and without words, and leaves flash, erasure, memories, Q-List and what is known of events
 module _ (n : Node) (clock link bc : ℕ) (errors : Bool) (packet : List ℕ) (l : Lent) where
   pub record Unserved : Type 0 where
     pub answer : requestOf n clock link bc errors packet l .turn .answer ≡ Answer.Reply (zeroReply ZeroLength.End) → ⊥
@@ -92,11 +95,13 @@ module _ (n : Node) (clock link bc : ℕ) (errors : Bool) (packet : List ℕ) (l
     pub erasing : requestOf n clock link bc errors packet l .turn .node .erasing ≡ n .erasing
     pub listing : requestOf n clock link bc errors packet l .turn .node .listing ≡ n .listing
     pub list : requestOf n clock link bc errors packet l .after .further .list ≡ l .further .list
+    pub events : requestOf n clock link bc errors packet l .turn .node .events ≡ n .events
+    pub words : wordsIn (requestOf n clock link bc errors packet l .turn .answer) ≡ 0
 
   pub unserved : (o : Outcome) → requestOf n clock link bc errors packet l ≡ o → (o .turn .answer ≡ Answer.Reply (zeroReply ZeroLength.End) → ⊥)
       → o .after .flash ≡ l .flash → o .after .memories ≡ l .memories → o .turn .node .erasing ≡ n .erasing → o .turn .node .listing ≡ n .listing
-      → o .after .further .list ≡ l .further .list → Unserved
-  unserved o is a f m e g q =
+      → o .after .further .list ≡ l .further .list → o .turn .node .events ≡ n .events → wordsIn (o .turn .answer) ≡ 0 → Unserved
+  unserved o is a f m e g q k w =
       record {
         answer = λ h. a (ap (λ (x : Outcome). x .turn .answer) (sym is) ∙ h);
         flash = ap (λ (x : Outcome). x .after .flash) is ∙ f;
@@ -104,6 +109,8 @@ module _ (n : Node) (clock link bc : ℕ) (errors : Bool) (packet : List ℕ) (l
         erasing = ap (λ (x : Outcome). x .turn .node .erasing) is ∙ e;
         listing = ap (λ (x : Outcome). x .turn .node .listing) is ∙ g;
         list = ap (λ (x : Outcome). x .after .further .list) is ∙ q;
+        events = ap (λ (x : Outcome). x .turn .node .events) is ∙ k;
+        words = ap (λ (x : Outcome). wordsIn (x .turn .answer)) is ∙ w;
       }
 
 -- a command is the node's own, or is not served
@@ -169,7 +176,7 @@ module _ (n : Node) (clock link bc : ℕ) (errors : Bool) (packet : List ℕ) (l
       by Verdict.Fine v =
           ⊎-elim (λ r. inl (own-is v r))
           (⊎-elim
-          (λ r. inr (unserved n clock link bc errors packet l (applied n l (routed Route.Wrong n clock link packet l)) (λ i. judged (v i) n l (routed (r i) n clock link packet l)) (λ h. not-end 1 refl (ap bcIn h)) refl refl refl refl refl))
-          (λ r. inr (unserved n clock link bc errors packet l (applied n l (routed Route.Broken n clock link packet l)) (λ i. judged (v i) n l (routed (r i) n clock link packet l)) (λ h. not-end 1 refl (ap bcIn h)) refl refl refl refl refl)))
+          (λ r. inr (unserved n clock link bc errors packet l (applied n l (routed Route.Wrong n clock link packet l)) (λ i. judged (v i) n l (routed (r i) n clock link packet l)) (λ h. not-end 1 refl (ap bcIn h)) refl refl refl refl refl refl refl))
+          (λ r. inr (unserved n clock link bc errors packet l (applied n l (routed Route.Broken n clock link packet l)) (λ i. judged (v i) n l (routed (r i) n clock link packet l)) (λ h. not-end 1 refl (ap bcIn h)) refl refl refl refl refl refl refl)))
           command-route
-      by (Verdict.No x) v = inr (unserved n clock link bc errors packet l (judged (Verdict.No x) n l (requestEffect n clock link bc errors packet l)) (λ i. judged (v i) n l (requestEffect n clock link bc errors packet l)) (λ h. false≢true (sym (ap isRefused h))) refl refl refl refl refl)
+      by (Verdict.No x) v = inr (unserved n clock link bc errors packet l (judged (Verdict.No x) n l (requestEffect n clock link bc errors packet l)) (λ i. judged (v i) n l (requestEffect n clock link bc errors packet l)) (λ h. false≢true (sym (ap isRefused h))) refl refl refl refl refl refl refl)

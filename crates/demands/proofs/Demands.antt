@@ -19,6 +19,10 @@ use Rattle.demands.proofs.PacketsStore.{packets-store}
 use Rattle.demands.proofs.Captures.{data-is-acceptable}
 use Rattle.demands.proofs.Ends.{each-lowers-or-stores, always-ends, never-asked-twice, settled-in-time, dead-end-in-time, all-end-in-time}
 use Rattle.demands.proofs.ClosedRun.{closed-run}
+use Rattle.demands.proofs.Builds.{one-at-a-time}
+use Rattle.demands.proofs.BuildRuns.{event-is-its-fragments}
+use Rattle.demands.proofs.BuildEnds.{builds-end}
+use Rattle.demands.proofs.Built.{event-numbers, handed-out-once, build-errors}
 use Rattle.demands.proofs.Listing.{repetitions-conserved}
 use Rattle.demands.proofs.Turns.{writes-whole, turn-in-order, due-across-wrap}
 use Rattle.demands.proofs.Unread.{unlisted-unread}
@@ -56,6 +60,12 @@ demands =
       settled-in-time = settled-in-time;
       dead-end-in-time = dead-end-in-time;
       all-end-in-time = all-end-in-time;
+      event-is-its-fragments = event-is-its-fragments;
+      builds-end = builds-end;
+      one-at-a-time = one-at-a-time;
+      event-numbers = event-numbers;
+      handed-out-once = handed-out-once;
+      build-errors = build-errors;
       repetitions-conserved = repetitions-conserved;
       writes-whole = writes-whole;
       turn-in-order = turn-in-order;

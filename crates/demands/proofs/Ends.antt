@@ -2,7 +2,7 @@
 -- long that takes. Assumes nothing.
 use Prim.Native.Nat.{ℕ, zero, suc, _+_, _*_, _%_, _≤_, _<_}
 use mathlib.Core.Path.{_≡_, refl, sym, ap, _∙_, subst}
-use mathlib.Core.Bool.{Bool, true, false, _||_, false≢true}
+use mathlib.Core.Bool.{Bool, true, false, _&&_, _||_, false≢true}
 use mathlib.Core.List.{List, [], _∷_}
 use native.Mathlib.Omega.{arith}
 use lib.Dec.{eqb, ltb, leb}
@@ -24,11 +24,11 @@ use Rattle.node.specs.Slaves.{heard, silent, askedAt, errorIn}
 use Rattle.node.specs.declared.Answer.{Answer}
 use Rattle.node.specs.declared.Pending.{Pending}
 use Rattle.demands.specs.Machine.{Machine, logodwen}
-use Rattle.demands.specs.Events.{Event, Host, stepped, hosted, dropsGroup, Undropped, Awaited, asked, sentNext, answeredBy, silentBy, Heards, endedBy, heards}
+use Rattle.demands.specs.Events.{Event, Host, stepped, hosted, dropsGroup, Undropped, holdsEvent, Awaited, asked, sentNext, answeredBy, silentBy, Heards, endedBy, heards}
 use Rattle.demands.specs.Groups.{GroupRun, setAsked, begun, atLast, slaves, said, ComesBefore, Ascending}
 use Rattle.demands.specs.Ends.{pendingIn, unfinishedIn, yetToAskIn, builtIn, receivedIn, isAnswer, isTaken, isFollowed, clockOf, wordsOf, Steps, EachLowersOrStores, takenIn, HasReply, AlwaysEnds, NeverAskedTwice, ComesAt, polledBy, Ticking, Timed, settles, askedTick, SettledInTime, Silent, DeadEndInTime, AllEndInTime}
 use Rattle.demands.proofs.Slaves.{slaves-exactly}
-use Rattle.demands.proofs.Events.{Going, Quiet, becomes, storing, hearing, stored, erase-quiet, slow-quiet, request-quiet, stray-quiet, wait-quiet, reply-stored, reply-ends, late-ends, stored-goes, ended-goes, quiet-goes}
+use Rattle.demands.proofs.Events.{Going, Quiet, becomes, storing, hearing, stored, erase-quiet, slow-quiet, build-quiet, request-quiet, stray-quiet, wait-quiet, reply-stored, reply-ends, late-ends, stored-goes, ended-goes, quiet-goes}
 use Rattle.demands.proofs.Groups.{Begins, begins, silent-ends, stands, asked-in-order}
 
 -- a group of a link that is pending, whatever slave is being asked
@@ -81,9 +81,9 @@ module _ {link from set own : ℕ} {x : Awaited} {s : ℕ} {ss base front : List
       }
 
   -- a reply of the asked slave: the tests of `isFollowed` are those of a packet that is stored
-  module _ (clock slave bc : ℕ) (errors : Bool) (status address : ℕ) (words : List ℕ) where
+  module _ (clock slave bc : ℕ) (errors : Bool) (status address : ℕ) (words events : List ℕ) where
     abbrev reply : Event
-    reply = Event.Replied clock slave bc errors status address words
+    reply = Event.Replied clock slave bc errors status address words events
 
     abbrev hears′ : Heard
     hears′ = heard (isLate clock (x .at)) errors status address bc
@@ -149,37 +149,38 @@ steps-going : {link from set own : ℕ} {x : Awaited} {s : ℕ} {ss base front :
 steps-going k (Event.Requested clock l bc errors packet m y) d =
     quiet-steps k (Event.Requested clock l bc errors packet m y) _ refl (request-quiet k clock l bc errors packet m y d)
 steps-going {h = h} k (Event.Erased budget) d = quiet-steps k (Event.Erased budget) _ refl (erase-quiet h budget)
+steps-going {h = h} k (Event.Built clock events) d = quiet-steps k (Event.Built clock events) _ refl (build-quiet h clock events (is-pending k))
 steps-going {h = h} k (Event.Slowed clock list) d = quiet-steps k (Event.Slowed clock list) _ refl (slow-quiet h clock list)
-steps-going {link} {x = x} {s = s} {ss = ss} {w = w} {h = h} k (Event.Replied clock slave bc errors status address words) d = go (eqb s slave) refl (isFollowed e (pendingIn h)) refl
+steps-going {link} {x = x} {s = s} {ss = ss} {w = w} {h = h} k (Event.Replied clock slave bc errors status address words events) d = go (holdsEvent events && eqb s slave) refl (isFollowed e (pendingIn h)) refl
   where
     e : Event
-    e = Event.Replied clock slave bc errors status address words
+    e = Event.Replied clock slave bc errors status address words events
 
     hears″ : Heard
     hears″ = heard (isLate clock (x .at)) errors status address bc
 
-    asks : isTaken e (pendingIn h) ≡ eqb s slave
-    asks = ap (λ (p : Pending). isAsked p slave) (k .pending)
+    asks : isTaken e (pendingIn h) ≡ (holdsEvent events && eqb s slave)
+    asks = ap (λ (p : Pending). holdsEvent events && isAsked p slave) (k .pending)
 
-    go : (b : Bool) → eqb s slave ≡ b → (c : Bool) → isFollowed e (pendingIn h) ≡ c → Stepped link e h (stepped logodwen e h)
+    go : (b : Bool) → (holdsEvent events && eqb s slave) ≡ b → (c : Bool) → isFollowed e (pendingIn h) ≡ c → Stepped link e h (stepped logodwen e h)
     go true p true q =
-        rw (reply-stored k clock slave bc errors status address words p (sym (followed-is k clock slave bc errors status address words) ∙ q))
-        (stored-steps k clock slave bc errors status address words (asks ∙ p) q)
+        rw (reply-stored k clock slave bc errors status address words events p (sym (followed-is k clock slave bc errors status address words events) ∙ q))
+        (stored-steps k clock slave bc errors status address words events (asks ∙ p) q)
     go true p false q =
-        let f = sym (followed-is k clock slave bc errors status address words) ∙ q in
-        rw (reply-ends k clock slave bc errors status address words p f) (ended-steps ss k (errorIn hears″) hears″ words f e (asks ∙ p) q)
-    go false p c q = quiet-steps k e _ (asks ∙ p) (stray-quiet k clock slave bc errors status address words p)
-steps-going {link} {x = x} {ss = ss} {w = w} {h = h} k (Event.Polled clock) d = go (isLate clock (x .at)) refl
+        let f = sym (followed-is k clock slave bc errors status address words events) ∙ q in
+        rw (reply-ends k clock slave bc errors status address words events p f) (ended-steps ss k (errorIn hears″) hears″ words f e (asks ∙ p) q)
+    go false p c q = quiet-steps k e _ (asks ∙ p) (stray-quiet k clock slave bc errors status address words events p)
+steps-going {link} {x = x} {ss = ss} {w = w} {h = h} k (Event.Polled clock events) d = go (holdsEvent events && isLate clock (x .at)) refl
   where
     e : Event
-    e = Event.Polled clock
+    e = Event.Polled clock events
 
-    late : isTaken e (pendingIn h) ≡ isLate clock (x .at)
-    late = ap (λ (p : Pending). isLate clock (askedAt p)) (k .pending)
+    late : isTaken e (pendingIn h) ≡ (holdsEvent events && isLate clock (x .at))
+    late = ap (λ (p : Pending). holdsEvent events && isLate clock (askedAt p)) (k .pending)
 
-    go : (b : Bool) → isLate clock (x .at) ≡ b → Stepped link e h (stepped logodwen e h)
-    go true p = rw (late-ends k clock p) (ended-steps ss k false silent [] (silent-ends x w (length ss)) e (late ∙ p) refl)
-    go false p = quiet-steps k e _ (late ∙ p) (wait-quiet k clock p)
+    go : (b : Bool) → (holdsEvent events && isLate clock (x .at)) ≡ b → Stepped link e h (stepped logodwen e h)
+    go true p = rw (late-ends k clock events p) (ended-steps ss k false silent [] (silent-ends x w (length ss)) e (late ∙ p) refl)
+    go false p = quiet-steps k e _ (late ∙ p) (wait-quiet k clock events p)
 
 steps : {link : ℕ} {h : Host} → Pends link h → (e : Event) → dropsGroup link e ≡ false → Stepped link e h (stepped logodwen e h)
 steps k e d = steps-going (k .going) e d
@@ -243,8 +244,9 @@ lasts-on e es {link} {h} k st on l = go (isTaken e P) refl (isFollowed e P) refl
     -- only a late poll is taken where none answers, and it is no packet
     none : (e : Event) → isTaken e P ≡ true → isFollowed e P ≡ true → isAnswer e P ≡ false → ⊥
     none (Event.Requested clock link bc errors packet m x) a b c = false≢true a
-    none (Event.Replied clock slave bc errors status address words) a b c = false≢true (sym c ∙ a)
-    none (Event.Polled clock) a b c = false≢true b
+    none (Event.Replied clock slave bc errors status address words events) a b c = false≢true (sym c ∙ a)
+    none (Event.Polled clock events) a b c = false≢true b
+    none (Event.Built clock events) a b c = false≢true a
     none (Event.Erased budget) a b c = false≢true a
     none (Event.Slowed clock list) a b c = false≢true a
 
@@ -324,23 +326,30 @@ in-time tick at clock asked a b c d l = let e = leb-false 60 (elapsed clock aske
 poll-early : (e : Event) (tick at polled : ℕ) (p : Pending) → at ≤ tick → tick ≤ at + 119 → ComesAt tick e → askedAt p ≡ at % 4294967296 → isTaken e p ≡ false
     → polled ≤ at + 59 → polledBy polled tick e ≤ at + 59
 poll-early (Event.Requested clock link bc errors packet m x) tick at polled p a b c d f l = l
-poll-early (Event.Replied clock slave bc errors status address words) tick at polled p a b c d f l = l
-poll-early (Event.Polled clock) tick at polled p a b c d f l = in-time tick at clock (askedAt p) a b c d f
+poll-early (Event.Replied clock slave bc errors status address words events) tick at polled p a b c d f l = l
+poll-early (Event.Polled clock events) tick at polled p a b c d f l = go (holdsEvent events) f
+  where
+    go : (h : Bool) → (h && isLate clock (askedAt p)) ≡ false → pick h tick polled ≤ at + 59
+    go true f = in-time tick at clock (askedAt p) a b c d f
+    go false f = l
+poll-early (Event.Built clock events) tick at polled p a b c d f l = l
 poll-early (Event.Erased budget) tick at polled p a b c d f l = l
 poll-early (Event.Slowed clock list) tick at polled p a b c d f l = l
 
 poll-most : (e : Event) (tick polled : ℕ) → polled ≤ tick → polledBy polled tick e ≤ tick
 poll-most (Event.Requested clock link bc errors packet m x) tick polled l = l
-poll-most (Event.Replied clock slave bc errors status address words) tick polled l = l
-poll-most (Event.Polled clock) tick polled l = omega arith
+poll-most (Event.Replied clock slave bc errors status address words events) tick polled l = l
+poll-most (Event.Polled clock events) tick polled l = pick-case (λ (m : ℕ). m ≤ tick) (holdsEvent events) (λ _. omega arith) (λ _. l)
+poll-most (Event.Built clock events) tick polled l = l
 poll-most (Event.Erased budget) tick polled l = l
 poll-most (Event.Slowed clock list) tick polled l = l
 
 -- a call that is taken has a clock
 taken-clock : (e : Event) (tick : ℕ) (p : Pending) → isTaken e p ≡ true → ComesAt tick e → clockOf e ≡ tick % 4294967296
 taken-clock (Event.Requested clock link bc errors packet m x) tick p a c = c
-taken-clock (Event.Replied clock slave bc errors status address words) tick p a c = c
-taken-clock (Event.Polled clock) tick p a c = c
+taken-clock (Event.Replied clock slave bc errors status address words events) tick p a c = c
+taken-clock (Event.Polled clock events) tick p a c = c
+taken-clock (Event.Built clock events) tick p a c = c
 taken-clock (Event.Erased budget) tick p a c = absurd (false≢true a)
 taken-clock (Event.Slowed clock list) tick p a c = absurd (false≢true a)
 
@@ -395,10 +404,11 @@ heards-most [] x [] w = omega arith
 heards-most [] x (s ∷ ss) w = omega arith
 heards-most (e ∷ es) x [] w = omega arith
 heards-most (Event.Requested clock link bc errors request m y ∷ es) x (s ∷ ss) w = heards-most es x (s ∷ ss) w
+heards-most (Event.Built clock events ∷ es) x (s ∷ ss) w = heards-most es x (s ∷ ss) w
 heards-most (Event.Erased budget ∷ es) x (s ∷ ss) w = heards-most es x (s ∷ ss) w
 heards-most (Event.Slowed clock list ∷ es) x (s ∷ ss) w = heards-most es x (s ∷ ss) w
-heards-most (Event.Replied clock slave bc errors status address words ∷ es) x (s ∷ ss) w =
-    pick-case Fits (eqb s slave) {x = pick (isPart a w (length ss)) more next} {y = heards x (s ∷ ss) w es}
+heards-most (Event.Replied clock slave bc errors status address words events ∷ es) x (s ∷ ss) w =
+    pick-case Fits (holdsEvent events && eqb s slave) {x = pick (isPart a w (length ss)) more next} {y = heards x (s ∷ ss) w es}
     (λ _. pick-case Fits (isPart a w (length ss)) {x = more} {y = next} (λ _. heards-most es (sentNext clock a) (s ∷ ss) w)
     (λ _. ended-most (heards-most es (asked clock) ss (w + length (fragmentOf s a w (length ss))))))
     (λ _. heards-most es x (s ∷ ss) w)
@@ -414,8 +424,8 @@ heards-most (Event.Replied clock slave bc errors status address words ∷ es) x 
 
     next : Heards
     next = endedBy a (heards (asked clock) ss (w + length (fragmentOf s a w (length ss))) es)
-heards-most (Event.Polled clock ∷ es) x (s ∷ ss) w =
-    pick-case Fits (isLate clock (x .at)) {x = next} {y = heards x (s ∷ ss) w es}
+heards-most (Event.Polled clock events ∷ es) x (s ∷ ss) w =
+    pick-case Fits (holdsEvent events && isLate clock (x .at)) {x = next} {y = heards x (s ∷ ss) w es}
     (λ _. ended-most (heards-most es (asked clock) ss (w + length (fragmentOf s (silentBy x) w (length ss)))))
     (λ _. heards-most es x (s ∷ ss) w)
   where
@@ -429,6 +439,7 @@ asked-pending : (p : Pending) (s : ℕ) → isAsked p s ≡ true → isPending p
 asked-pending Pending.Nothing s e = e
 asked-pending (Pending.Slave a) s e = refl
 asked-pending (Pending.Group a g) s e = refl
+asked-pending (Pending.Build b) s e = refl
 
 module _ (r : GroupRun logodwen) where
   -- with nothing pending every slave has been heard, and the master has its reply

@@ -27,10 +27,10 @@ use Rattle.qlist.specs.Words.{recordsIn}
 use Rattle.node.specs.Effect.{ownOutcome, Did, changes, owns, Lent, lent, Outcome, applied, nodeAfter, Change, flashAfter, Further}
 use Rattle.node.specs.Files.{isErasing, toErase, eraseAt, eraseStartOf}
 use Rattle.node.specs.Own.{filesOf, ownOf}
-use Rattle.node.specs.Refusals.{replyVerdict, pollVerdict, eraseVerdict, slowVerdict}
+use Rattle.node.specs.Refusals.{replyVerdict, pollVerdict, eraseVerdict, slowVerdict, buildVerdict}
 use Rattle.node.specs.Slaves.{replyEffect, pollEffect}
 use Rattle.node.specs.Valid.{sizeOk, stateOk}
-use Rattle.node.specs.Calls.{judged, lentFlash, lentReply, lentList, requestOf, replyOf, pollOf, eraseEffect, eraseOf, slowEffect, slowOf}
+use Rattle.node.specs.Calls.{judged, lentFlash, lentReply, lentList, requestOf, replyOf, pollOf, eraseEffect, eraseOf, slowEffect, slowOf, buildOf, buildEffect, lentEvents}
 use Rattle.node.specs.declared.Answer.{Answer}
 use Rattle.node.specs.declared.Node.{Node}
 use Rattle.node.specs.declared.Verdict.{Verdict}
@@ -42,7 +42,7 @@ use Rattle.demands.specs.Machine.{Call, isStart, logodwen, turnOf, flash
 use Rattle.demands.specs.Requests.{end, Delivered, isCommand}
 use Rattle.demands.specs.Reached.{Lends16, stateAfter, Step}
 use Rattle.demands.specs.Flash.{budgetOf, countOf, Course, HasSet, Erases}
-use Rattle.demands.proofs.Taken.{verdictOn, requestEffect, request-answer, reply-answer, poll-answer}
+use Rattle.demands.proofs.Taken.{verdictOn, requestEffect, request-answer, reply-answer, poll-answer, build-answer}
 use Rattle.demands.proofs.Commands.{ended-own, delivered-own}
 use Rattle.demands.proofs.Sound.{Valid, step-valid, call-valid, given-size, some-unit, refused-same, refused-flash}
 use Rattle.demands.proofs.Follows.{began, erase-begins, erasure-follows}
@@ -98,13 +98,13 @@ module _ (n : Node) (flash : List ℕ) (erases : isErasing (n .erasing) ≡ true
       count Verdict.Fine = request-answer CountsNone (λ _. refl) (λ _. refl) n clock link bc errors packet (lent flash m x reply)
       count (Verdict.No r) = refl
 
-  reply-leaves : (clock slave bc : ℕ) (errors : Bool) (status address : ℕ) (words reply : List ℕ) → Leaves (Call.Reply clock slave bc errors status address words reply) n flash
+  reply-leaves : (clock slave bc : ℕ) (errors : Bool) (status address : ℕ) (words events reply : List ℕ) → Leaves (Call.Reply clock slave bc errors status address words events reply) n flash
   unfolding replyOf
-  reply-leaves clock slave bc errors status address words reply =
-      record { erasing = erasure-follows .reply n clock slave bc errors status address words reply; words = refl; count = count (replyVerdict n slave (length reply)) }
+  reply-leaves clock slave bc errors status address words events reply =
+      record { erasing = erasure-follows .reply n clock slave bc errors status address words events reply; words = refl; count = count (replyVerdict n slave (length events) (length reply)) }
     where
-      count : (v : Verdict) → countOf (judged v n (lentReply reply) (replyEffect n clock errors status address bc words reply) .turn .answer) ≡ 0
-      count Verdict.Fine = reply-answer CountsNone (λ _. refl) (λ _. refl) (λ _. refl) refl n clock errors status address bc words reply
+      count : (v : Verdict) → countOf (judged v n (lentReply events reply) (replyEffect n clock errors status address bc words events reply) .turn .answer) ≡ 0
+      count Verdict.Fine = reply-answer CountsNone (λ _. refl) (λ _. refl) (λ _. refl) refl (λ _. refl) refl (λ _. refl) n clock errors status address bc words events reply
       count (Verdict.No r) = refl
 
   slow-leaves : (clock : ℕ) (list : List ℕ) → Leaves (Call.Slow clock list) n flash
@@ -115,12 +115,20 @@ module _ (n : Node) (flash : List ℕ) (erases : isErasing (n .erasing) ≡ true
       count Verdict.Fine = refl
       count (Verdict.No r) = refl
 
-  poll-leaves : (clock : ℕ) (reply : List ℕ) → Leaves (Call.Poll clock reply) n flash
+  poll-leaves : (clock : ℕ) (events reply : List ℕ) → Leaves (Call.Poll clock events reply) n flash
   unfolding pollOf
-  poll-leaves clock reply = record { erasing = erasure-follows .poll n clock reply; words = refl; count = count (pollVerdict n (length reply)) }
+  poll-leaves clock events reply = record { erasing = erasure-follows .poll n clock events reply; words = refl; count = count (pollVerdict n (length events) (length reply)) }
     where
-      count : (v : Verdict) → countOf (judged v n (lentReply reply) (pollEffect n clock reply) .turn .answer) ≡ 0
-      count Verdict.Fine = poll-answer CountsNone (λ _. refl) (λ _. refl) (λ _. refl) refl n clock reply
+      count : (v : Verdict) → countOf (judged v n (lentReply events reply) (pollEffect n clock events reply) .turn .answer) ≡ 0
+      count Verdict.Fine = poll-answer CountsNone (λ _. refl) (λ _. refl) (λ _. refl) refl (λ _. refl) refl (λ _. refl) n clock events reply
+      count (Verdict.No r) = refl
+
+  build-leaves : (clock : ℕ) (events : List ℕ) → Leaves (Call.Build clock events) n flash
+  unfolding buildOf
+  build-leaves clock events = record { erasing = erasure-follows .build n clock events; words = refl; count = count (buildVerdict n (length events)) }
+    where
+      count : (v : Verdict) → countOf (judged v n (lentEvents events) (buildEffect n clock) .turn .answer) ≡ 0
+      count Verdict.Fine = build-answer CountsNone (λ _. refl) (λ _. refl) (λ _. refl) refl (λ _. refl) refl (λ _. refl) n clock
       count (Verdict.No r) = refl
 
 -- the erasure of a sector just begun
@@ -244,11 +252,13 @@ module _ (n : Node) (flash : List ℕ) (s : ℕ) (v : Valid n flash) (sector : i
   made-stage (Call.Request clock link bc errors packet memories x reply) m now given counted less q b stage =
       left-stage (Call.Request clock link bc errors packet memories x reply) m now given counted less b stage
       (request-leaves m now (ap isErasing (stage .has .going less)) clock link bc errors packet memories x reply)
-  made-stage (Call.Reply clock slave bc errors status address words reply) m now given counted less q b stage =
-      left-stage (Call.Reply clock slave bc errors status address words reply) m now given counted less b stage
-      (reply-leaves m now (ap isErasing (stage .has .going less)) clock slave bc errors status address words reply)
-  made-stage (Call.Poll clock reply) m now given counted less q b stage =
-      left-stage (Call.Poll clock reply) m now given counted less b stage (poll-leaves m now (ap isErasing (stage .has .going less)) clock reply)
+  made-stage (Call.Reply clock slave bc errors status address words events reply) m now given counted less q b stage =
+      left-stage (Call.Reply clock slave bc errors status address words events reply) m now given counted less b stage
+      (reply-leaves m now (ap isErasing (stage .has .going less)) clock slave bc errors status address words events reply)
+  made-stage (Call.Poll clock events reply) m now given counted less q b stage =
+      left-stage (Call.Poll clock events reply) m now given counted less b stage (poll-leaves m now (ap isErasing (stage .has .going less)) clock events reply)
+  made-stage (Call.Build clock events) m now given counted less q b stage =
+      left-stage (Call.Build clock events) m now given counted less b stage (build-leaves m now (ap isErasing (stage .has .going less)) clock events)
   made-stage (Call.Erase budget) m now given counted less q b stage =
       let k : min given size ≡ given = omega arith in
       let e = stage .has .words ∙ ap front k in
@@ -275,7 +285,7 @@ begun-valid n l s fit sector =
     let words : ℕ = n .given .«flash_words» in
     let some = subst (λ (x : ℕ). 0 < sizeOf (x / 16) s) (sym (fit .size)) (some-words (unitOf (l .flash)) s (some-unit n (l .flash) v) sector) in
     record {
-      ranges = record { given = r .given; mode = r .mode; masks = r .masks; erasing = and-both sector (lt-ltb 0 (sizeOf (words / 16) s) some); pending = r .pending; writing = r .writing; listing = r .listing };
+      ranges = record { given = r .given; mode = r .mode; masks = r .masks; erasing = and-both sector (lt-ltb 0 (sizeOf (words / 16) s) some); pending = r .pending; writing = r .writing; listing = r .listing; events = r .events };
       size = fit .size;
     }
 
@@ -289,7 +299,7 @@ erase-sets n clock link bc errors packet l s c h named m after given counted cou
     let third : b .sector ≡ s = found-same (sym (b .named) ∙ named) in
     let o = own .is ∙ ap (ownOutcome n l) (b .is ∙ ap (λ (x : ℕ). changes (Change.Begun x)) third) in
     let sector = erase-sector n (getD packet 1 0) s named in
-    course-stage (nodeAfter n (l .flash) (owns n l (changes (Change.Begun s)))) (l .flash) s (begun-valid n l s (request-fine n link _ _ _ _ _ _ _ _ (own .fine) .fits) sector) sector refl
+    course-stage (nodeAfter n (l .flash) (owns n l (changes (Change.Begun s)))) (l .flash) s (begun-valid n l s (request-fine n link _ _ _ _ _ _ _ _ _ (own .fine) .fits) sector) sector refl
     (subst (λ (x : Node). Course logodwen (sizeOf (unitOf (l .flash)) s) x (l .flash) m after given counted) (ap (λ (x : Outcome). x .turn .node) o) course) .has
   where
     sectorIn : Found → ℕ

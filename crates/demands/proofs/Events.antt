@@ -2,15 +2,15 @@
 -- asked, or the last one's ends and with it the group. By walking what refuses the call and what it does. Assumes nothing.
 use Prim.Native.Nat.{ℕ, suc, _+_, _*_, _≤_}
 use mathlib.Core.Path.{_≡_, refl, sym, ap, _∙_, subst}
-use mathlib.Core.Bool.{Bool, true, false, _&&_, _||_, not}
+use mathlib.Core.Bool.{Bool, true, false, _&&_, _||_, not, false≢true}
 use mathlib.Core.List.{List, [], _∷_, _++_, append-nil}
 use native.Mathlib.Omega.{arith}
 use lib.Dec.{eqb, leb, ltb}
 use lib.ListN.{length, length-append}
-use borrow.Author.Tests.{eq-eqb, eqb-true, leb-false, le-ltb, leb-true}
+use borrow.Author.Tests.{eqb-true, leb-false, le-ltb, leb-true, le-leb, not-false}
 use Rattle.base.specs.Pick.{pick}
 use Rattle.base.specs.Words.{part, laid}
-use Rattle.base.proofs.Pick.{yes, no, pick-case, and-left, and-right}
+use Rattle.base.proofs.Pick.{no, and-left, and-right}
 use Rattle.base.proofs.Laid.{laid-none}
 use Rattle.memory.specs.Segment.{Memories}
 use Rattle.group.specs.Time.{isLate}
@@ -23,28 +23,27 @@ use Rattle.group.specs.declared.Next.{Next}
 use Rattle.group.specs.declared.Tally.{Tally}
 use Rattle.group.proofs.Sets.{up-tells}
 use Rattle.group.proofs.Takes.{taken-fits}
-use Rattle.qlist.specs.Words.{recordsIn}
 use Rattle.node.specs.State.{turn}
-use Rattle.node.specs.Valid.{pendingOk, writingOk, stateOk, askOk, gatheringOk}
-use Rattle.node.specs.Refusals.{isPending, isAsked, requestVerdict, replyVerdict, pollVerdict, eraseVerdict, slowVerdict}
-use Rattle.node.specs.Route.{bcOf, asks, writes, drops, routeOf}
+use Rattle.node.specs.Valid.{pendingOk, stateOk, askOk, gatheringOk}
+use Rattle.node.specs.Refusals.{isPending, isAsked, replyCause, eventsCause, slaveCause, stateCause, unaskedCause, replyVerdict, pollVerdict}
+use Rattle.node.specs.Route.{bcOf, asks}
 use Rattle.node.specs.Settings.{statusIn}
-use Rattle.node.specs.Effect.{Effect, only, Further, Lent, lent, Outcome, nodeAfter, Join, writingAfter}
+use Rattle.node.specs.Effect.{Effect, only, Further, lent, Outcome, nodeAfter}
 use Rattle.node.specs.Slaves.{ask, received, nothingReceived, gathering, heard, silent, goesOn, awaits, hears, askedAt, withAmswire, errorIn, replyEffect, pollEffect}
-use Rattle.node.specs.Calls.{judged, lentReply, lentFlash, lentList, pendingWithout, routed, requestOf, replyOf, pollOf, eraseEffect, eraseOf, slowEffect, slowOf}
+use Rattle.node.specs.Calls.{judged, lentReply, replyOf, pollOf}
 use Rattle.node.specs.declared.Answer.{Answer}
 use Rattle.node.specs.declared.Ask.{Ask}
 use Rattle.node.specs.declared.Gathering.{Gathering}
 use Rattle.node.specs.declared.Node.{Node}
 use Rattle.node.specs.declared.Pending.{Pending}
-use Rattle.node.specs.declared.Refusal.{Refusal}
-use Rattle.node.specs.declared.Route.{Route}
+use Rattle.node.specs.declared.Turn.{Turn}
 use Rattle.node.specs.declared.Verdict.{Verdict}
-use Rattle.node.proofs.Ranges.{ranges-tell, ranges-told, slow-listing, Gathered, gathered-tells, gathers-pending}
-use Rattle.node.proofs.Verdicts.{erase-fine, request-fine}
+use Rattle.node.proofs.Ranges.{ranges-tell, ranges-told, Gathered, gathered-tells, gathers-pending}
+use Rattle.node.proofs.Verdicts.{fine-tells}
+use Rattle.node.proofs.Verdicts.{reply-fine as reply-fine-tells, poll-fine as poll-fine-tells}
 use Rattle.demands.specs.Machine.{logodwen}
-use Rattle.demands.specs.Events.{Event, Host, host, stepped, dropsGroup, Awaited, asked, sentNext}
-use Rattle.demands.proofs.Sound.{step-valid}
+use Rattle.demands.specs.Events.{Event, Host, host, stepped, dropsGroup, holdsEvent, Awaited, asked, sentNext}
+use Rattle.demands.proofs.Busy.{Left, erase-left, slow-left, build-left, request-left}
 use Rattle.demands.proofs.Stored.{laid-longer, stored-part, stored-more, stored-under}
 
 -- a group in progress: slave s awaited so for a link, those of ss to follow, w words built at the front of the buffer; and what was stored of its
@@ -66,121 +65,35 @@ pub record Quiet (h h′ : Host) : Type 0 where
   pub status : statusIn (h′ .turn .node) ≡ statusIn (h .turn .node)
   pub asked : h′ .asked ≡ h .asked
 
--- an erase step
+-- a call that leaves what is pending, and the buffer
+quiet-left : (h : Host) {t : Turn} {flash buffer : List ℕ} → Left (h .turn .node) t → buffer ≡ h .buffer → Quiet h (host (h .asked) t flash buffer)
+quiet-left h l e =
+    record {
+      pending = l .pending;
+      ok = l .ok;
+      buffer = e;
+      status = l .status;
+      asked = ap (λ (ss : List ℕ). h .asked ++ ss) (l .nobody) ∙ append-nil (h .asked);
+    }
+
 pub erase-quiet : (h : Host) (budget : ℕ) → Quiet h (stepped logodwen (Event.Erased budget) h)
-unfolding eraseOf
-erase-quiet h budget = go (eraseVerdict n (length flash)) refl
-  where
-    n : Node
-    n = h .turn .node
+erase-quiet h budget = quiet-left h (erase-left (h .turn .node) budget (h .flash)) refl
 
-    flash : List ℕ
-    flash = h .flash
-
-    kept : eraseVerdict n (length flash) ≡ Verdict.Fine → stateOk n ≡ true → stateOk (nodeAfter n flash (eraseEffect n budget flash)) ≡ true
-    kept e v =
-        ranges-told (nodeAfter n flash (eraseEffect n budget flash))
-        (step-valid n flash budget (record { ranges = ranges-tell n v; size = erase-fine n (length flash) e .size }) .ranges)
-
-    go : (v : Verdict) → eraseVerdict n (length flash) ≡ v
-        → let o : Outcome = judged v n (lentFlash flash) (eraseEffect n budget flash) in
-        Quiet h (host (h .asked) (o .turn) (o .after .flash) (h .buffer))
-    go Verdict.Fine e = record { pending = refl; ok = kept e; buffer = refl; status = refl; asked = append-nil (h .asked) }
-    go (Verdict.No r) e = record { pending = refl; ok = λ v. v; buffer = refl; status = refl; asked = append-nil (h .asked) }
-
--- a slow-control step
 pub slow-quiet : (h : Host) (clock : ℕ) (list : List ℕ) → Quiet h (stepped logodwen (Event.Slowed clock list) h)
-unfolding slowOf
-slow-quiet h clock list = go (slowVerdict n (recordsIn list))
-  where
-    n : Node
-    n = h .turn .node
+slow-quiet h clock list = quiet-left h (slow-left (h .turn .node) clock list) refl
 
-    kept : stateOk n ≡ true → stateOk (nodeAfter n [] (slowEffect n clock list)) ≡ true
-    kept v =
-        let r = ranges-tell n v in
-        ranges-told (nodeAfter n [] (slowEffect n clock list))
-        (record {
-          given = r .given;
-          mode = r .mode;
-          masks = r .masks;
-          erasing = r .erasing;
-          pending = r .pending;
-          writing = r .writing;
-          listing = slow-listing (n .listing) (r .listing);
-        })
+pub build-quiet : (h : Host) (clock : ℕ) (events : List ℕ) → isPending (h .turn .node .pending) ≡ true → Quiet h (stepped logodwen (Event.Built clock events) h)
+build-quiet h clock events p = quiet-left h (build-left (h .turn .node) clock events p .left) refl
 
-    go : (v : Verdict) → Quiet h (host (h .asked) (judged v n (lentList list) (slowEffect n clock list) .turn) (h .flash) (h .buffer))
-    go Verdict.Fine = record { pending = refl; ok = kept; buffer = refl; status = refl; asked = append-nil (h .asked) }
-    go (Verdict.No r) = record { pending = refl; ok = λ v. v; buffer = refl; status = refl; asked = append-nil (h .asked) }
-
--- a request that does not drop the group is refused, or has 0 words
+-- a request that does not drop the group
 pub request-quiet : {link from set own : ℕ} {x : Awaited} {s : ℕ} {ss base front : List ℕ} {w : ℕ} {t : Tally} {h : Host} → Going link from set own x s ss base front w t h
     → (clock l bc : ℕ) (errors : Bool) (packet : List ℕ) (m : Memories) (y : Further) → dropsGroup link (Event.Requested clock l bc errors packet m y) ≡ false
     → Quiet h (stepped logodwen (Event.Requested clock l bc errors packet m y) h)
-unfolding requestOf routeOf stateOk
-request-quiet {link = link} {h = h} k clock l bc errors packet m x d = go verdict refl
-  where
-    n : Node
-    n = h .turn .node
-
-    L : Lent
-    L = lent (h .flash) m x (h .buffer)
-
-    verdict : Verdict
-    verdict = requestVerdict n l (length packet) (length (h .flash)) (length (m .pm)) (length (m .dm)) (length (m .io)) (length (x .area)) (recordsIn (x .list)) (length (h .buffer))
-
-    empty : verdict ≡ Verdict.Fine → eqb (length packet) 0 ≡ true
-    empty e =
-        let busy = request-fine n l (length packet) (length (h .flash)) (length (m .pm)) (length (m .dm)) (length (m .io)) (length (x .area)) (recordsIn (x .list)) (length (h .buffer)) e .free in
-        let free : leb 1 (length packet) ≡ false = ap (λ (x : Pending). isPending x && leb 1 (length packet)) (sym (k .pending)) ∙ busy in
-        eq-eqb (length packet) 0 (omega (arith, leb-false 1 (length packet) free))
-
-    after : Verdict → Route → Host
-    after v r = let o : Outcome = judged v n L (routed r n clock l packet L) in host (h .asked) (o .turn) (o .after .flash) (o .after .reply)
-
-    -- another link's write is dropped, and the group stays
-    dropped : asks (n .pending) l ≡ false → Quiet h (after Verdict.Fine Route.Dropped)
-    dropped e =
-        let same : n .pending ≡ pendingWithout (n .pending) l = no _ e refl in
-        record {
-          pending = sym same;
-          ok = λ v.
-              let r = ranges-tell n v in
-              ranges-told (after Verdict.Fine Route.Dropped .turn .node)
-              (record {
-                given = r .given;
-                mode = r .mode;
-                masks = r .masks;
-                erasing = r .erasing;
-                pending = subst (λ (p : Pending). pendingOk (n .given .ports) p ≡ true) same (r .pending);
-                writing = pick-case (λ (j : Join). writingOk (n .given .ports) (writingAfter j (n .writing)) ≡ true) (writes (n .writing) l) (λ _. refl) (λ _. r .writing);
-                listing = r .listing;
-              });
-          buffer = refl;
-          status = refl;
-          asked = append-nil (h .asked);
-        }
-
-    and-one : (t : Bool) → (t && true) ≡ false → t ≡ false
-    and-one true e = e
-    and-one false e = refl
-
-    by : (t : Bool) → drops n l bc ≡ t → eqb (length packet) 0 ≡ true → (eqb (length packet) 0 && (eqb link l && eqb (bcOf bc) 2)) ≡ false
-        → Quiet h (after Verdict.Fine (pick t Route.Dropped Route.Unserved))
-    by true e z f =
-        let two = and-right (asks (n .pending) l || writes (n .writing) l) (eqb (bcOf bc) 2) e in
-        dropped (ap (λ (p : Pending). asks p l) (k .pending) ∙ and-one (eqb link l) ((λ i. sym z i && (eqb link l && sym two i)) ∙ f))
-    by false e z f = record { pending = refl; ok = λ v. v; buffer = refl; status = refl; asked = append-nil (h .asked) }
-
-    at-errors : (x : Bool) (rest : Route) → eqb (length packet) 0 ≡ true → (not x && (eqb (length packet) 0 && (eqb link l && eqb (bcOf bc) 2))) ≡ false
-        → Quiet h (after Verdict.Fine (pick x Route.Wrong (pick (eqb (length packet) 0) (pick (drops n l bc) Route.Dropped Route.Unserved) rest)))
-    at-errors true rest z f = record { pending = refl; ok = λ v. v; buffer = refl; status = refl; asked = append-nil (h .asked) }
-    at-errors false rest z f = rw z (by (drops n l bc) refl z f)
-
-    go : (v : Verdict) → verdict ≡ v → Quiet h (after v (routeOf n l bc errors packet))
-    go Verdict.Fine e = at-errors errors _ (empty e) d
-    go (Verdict.No r) e = record { pending = refl; ok = λ v. v; buffer = refl; status = refl; asked = append-nil (h .asked) }
+request-quiet {h = h} k clock l bc errors packet m x d =
+    let q =
+    request-left (h .turn .node) clock l bc errors packet (lent (h .flash) m x (h .buffer)) (ap isPending (k .pending))
+    (ap (λ (p : Pending). not errors && (eqb (length packet) 0 && (asks p l && eqb (bcOf bc) 2))) (k .pending) ∙ d) in
+    quiet-left h (q .left) (q .reply)
 
 -- a reply or a poll as it is taken
 abbrev pub becomes : Host → Effect → Host
@@ -250,96 +163,128 @@ module _ {link from set own : ℕ} {x : Awaited} {s : ℕ} {ss base front : List
         (pick (partBy y (length (x .earlier)) (length words) w (length above′)) (awaits asks′ group clock y words (h .buffer))
         (goesOn n asks′ group clock (taken (assembly (h .buffer) (built w t)) (length above′) s (packet y words earlier (x .kept))) (nextOf above′)))
 
-    heard-by : (errors : Bool) (y : Heard) (words : List ℕ)
-        → withAmswire errors (hears (Pending.Group asks′ group) n clock y words (h .buffer)) ≡ heardBy errors y words ss (x .earlier)
-    heard-by errors y words = λ i. heardBy errors y words (k .rest i) (earlier-stands i)
+    heard-by : (errors : Bool) (y : Heard) (words events : List ℕ)
+        → withAmswire errors (hears (Pending.Group asks′ group) n clock y words events (h .buffer)) ≡ heardBy errors y words ss (x .earlier)
+    heard-by errors y words events = λ i. heardBy errors y words (k .rest i) (earlier-stands i)
 
-    module _ (slave bc : ℕ) (errors : Bool) (status address : ℕ) (words : List ℕ) where
+    module _ (slave bc : ℕ) (errors : Bool) (status address : ℕ) (words events : List ℕ) where
       abbrev reply : Event
-      reply = Event.Replied clock slave bc errors status address words
+      reply = Event.Replied clock slave bc errors status address words events
 
       abbrev hears′ : Heard
       hears′ = heard (isLate clock (x .at)) errors status address bc
 
       -- the asked slave's reply is taken
-      reply-fine : eqb s slave ≡ true → replyVerdict n slave (length (h .buffer)) ≡ Verdict.Fine
+      reply-fine : (holdsEvent events && eqb s slave) ≡ true → replyVerdict n slave (length events) (length (h .buffer)) ≡ Verdict.Fine
       unfolding replyVerdict
-      reply-fine e =
+      reply-fine b =
+          let e = and-right (holdsEvent events) (eqb s slave) b in
+          let large = leb-true 12288 (length events) (and-left (holdsEvent events) (eqb s slave) b) in
           let q : s ≡ slave = eqb-true s slave e in
-          sym (no _ (le-ltb (length (h .buffer)) 12288 space) (no _ (le-ltb 23 slave (omega (arith, q, slave-most))) (no _ (ap not (k .ok))
-          (no _ (ap not (ap (λ (y : Pending). isAsked y slave) (k .pending) ∙ e)) refl))))
+          sym (no _ (le-ltb (length (h .buffer)) 12288 space) (no _ (le-ltb (length events) 12288 large) (no _ (le-ltb 23 slave (omega (arith, q, slave-most))) (no _ (ap not (k .ok))
+          (no _ (ap not (ap (λ (y : Pending). isAsked y slave) (k .pending) ∙ e)) refl)))))
 
-      reply-heard : eqb s slave ≡ true → stepped logodwen reply h ≡ becomes h (heardBy (errorIn hears′) hears′ words ss (x .earlier))
+      reply-heard : (holdsEvent events && eqb s slave) ≡ true → stepped logodwen reply h ≡ becomes h (heardBy (errorIn hears′) hears′ words ss (x .earlier))
       unfolding replyOf replyEffect
       reply-heard e =
-          ap (λ (v : Verdict). let o : Outcome = judged v n (lentReply (h .buffer)) (replyEffect n clock errors status address bc words (h .buffer)) in host (h .asked) (o .turn) (h .flash) (o .after .reply)) (reply-fine e)
-          ∙ ap (λ (p : Pending). becomes h (withAmswire (errorIn (heard (isLate clock (askedAt p)) errors status address bc)) (hears p n clock (heard (isLate clock (askedAt p)) errors status address bc) words (h .buffer)))) (k .pending)
-          ∙ ap (becomes h) (heard-by (errorIn hears′) hears′ words)
+          ap (λ (v : Verdict). let o : Outcome = judged v n (lentReply events (h .buffer)) (replyEffect n clock errors status address bc words events (h .buffer)) in host (h .asked) (o .turn) (h .flash) (o .after .reply)) (reply-fine e)
+          ∙ ap (λ (p : Pending). becomes h (withAmswire (errorIn (heard (isLate clock (askedAt p)) errors status address bc)) (hears p n clock (heard (isLate clock (askedAt p)) errors status address bc) words events (h .buffer)))) (k .pending)
+          ∙ ap (becomes h) (heard-by (errorIn hears′) hears′ words events)
 
       -- it is stored, or it ends what the slave has to say
-      pub reply-stored : eqb s slave ≡ true → isPart (packet hears′ words (x .earlier) (x .kept)) w (length ss) ≡ true
+      pub reply-stored : (holdsEvent events && eqb s slave) ≡ true → isPart (packet hears′ words (x .earlier) (x .kept)) w (length ss) ≡ true
           → stepped logodwen reply h ≡ becomes h (storing (errorIn hears′) hears′ words)
       reply-stored e f =
           reply-heard e
           ∙ ap (λ (b : Bool). becomes h (withAmswire (errorIn hears′) (pick b (awaits asks′ group clock hears′ words (h .buffer)) (goesOn n asks′ group clock (taken (assembly (h .buffer) (built w t)) (length ss) s (packet hears′ words (x .earlier) (x .kept))) (nextOf ss))))) f
 
-      pub reply-ends : eqb s slave ≡ true → isPart (packet hears′ words (x .earlier) (x .kept)) w (length ss) ≡ false
+      pub reply-ends : (holdsEvent events && eqb s slave) ≡ true → isPart (packet hears′ words (x .earlier) (x .kept)) w (length ss) ≡ false
           → stepped logodwen reply h ≡ becomes h (hearing (errorIn hears′) hears′ words)
       reply-ends e f =
           reply-heard e
           ∙ ap (λ (b : Bool). becomes h (withAmswire (errorIn hears′) (pick b (awaits asks′ group clock hears′ words (h .buffer)) (goesOn n asks′ group clock (taken (assembly (h .buffer) (built w t)) (length ss) s (packet hears′ words (x .earlier) (x .kept))) (nextOf ss))))) f
 
-      -- any other slave's is refused
-      pub stray-quiet : eqb s slave ≡ false → Quiet h (stepped logodwen reply h)
-      unfolding replyOf replyVerdict
-      stray-quiet e =
-          let v : replyVerdict n slave (length (h .buffer)) ≡ pick (ltb 23 slave) (Verdict.No Refusal.Number) (Verdict.No Refusal.Unasked) =
-          sym (no _ (le-ltb (length (h .buffer)) 12288 space) (ap (pick (ltb 23 slave) (Verdict.No Refusal.Number))
-          (no _ (ap not (k .ok)) (yes _ (ap not (ap (λ (y : Pending). isAsked y slave) (k .pending) ∙ e)) refl)))) in
-          rw v (go (ltb 23 slave))
+      reply-asked : replyVerdict n slave (length events) (length (h .buffer)) ≡ Verdict.Fine → eqb s slave ≡ true
+      unfolding replyVerdict
+      reply-asked f =
+          ap (λ (y : Pending). isAsked y slave) (sym (k .pending))
+          ∙ not-false (isAsked (n .pending) slave)
+          (fine-tells (replyCause (length (h .buffer)) ∷ eventsCause (length events) ∷ slaveCause slave ∷ stateCause n ∷ unaskedCause n slave ∷ []) f .1 .1 .1 .1 .0)
+
+      -- any other slave's is refused, and one that is lent too short an event area
+      pub stray-quiet : (holdsEvent events && eqb s slave) ≡ false → Quiet h (stepped logodwen reply h)
+      unfolding replyOf
+      stray-quiet e = go (replyVerdict n slave (length events) (length (h .buffer))) refl
         where
-          go : (b : Bool) → let o : Outcome = judged (pick b (Verdict.No Refusal.Number) (Verdict.No Refusal.Unasked)) n (lentReply (h .buffer)) (replyEffect n clock errors status address bc words (h .buffer)) in
+          go : (v : Verdict) → replyVerdict n slave (length events) (length (h .buffer)) ≡ v
+              → let o : Outcome = judged v n (lentReply events (h .buffer)) (replyEffect n clock errors status address bc words events (h .buffer)) in
               Quiet h (host (h .asked) (o .turn) (h .flash) (o .after .reply))
-          go true = record { pending = refl; ok = λ v. v; buffer = refl; status = refl; asked = append-nil (h .asked) }
-          go false = record { pending = refl; ok = λ v. v; buffer = refl; status = refl; asked = append-nil (h .asked) }
+          go Verdict.Fine f =
+              let large = le-leb 12288 (length events) (reply-fine-tells n slave (length events) (length (h .buffer)) f .holds) in
+              absurd (false≢true (sym e ∙ (λ i. large i && reply-asked f i)))
+          go (Verdict.No r) f = record { pending = refl; ok = λ v. v; buffer = refl; status = refl; asked = append-nil (h .asked) }
 
     -- a poll
-    poll-fine : pollVerdict n (length (h .buffer)) ≡ Verdict.Fine
-    unfolding pollVerdict
-    poll-fine =
-        sym (no _ (le-ltb (length (h .buffer)) 12288 space) (no _ (ap not (k .ok)) (no _ (ap not (ap isPending (k .pending))) refl)))
+    module _ (events : List ℕ) where
+      poll-fine : holdsEvent events ≡ true → pollVerdict n (length events) (length (h .buffer)) ≡ Verdict.Fine
+      unfolding pollVerdict
+      poll-fine b =
+          sym (no _ (le-ltb (length (h .buffer)) 12288 space) (no _ (le-ltb (length events) 12288 (leb-true 12288 (length events) b))
+          (no _ (ap not (k .ok)) (no _ (ap not (ap isPending (k .pending))) refl))))
 
-    polled : stepped logodwen (Event.Polled clock) h
-        ≡ becomes h
-        (pick (isLate clock (x .at)) (hears (Pending.Group asks′ group) n clock silent [] (h .buffer)) (only Answer.Waiting (Pending.Group asks′ group) (h .buffer)))
-    unfolding pollOf pollEffect
-    polled =
-        ap (λ (v : Verdict). let o : Outcome = judged v n (lentReply (h .buffer)) (pollEffect n clock (h .buffer)) in host (h .asked) (o .turn) (h .flash) (o .after .reply)) poll-fine
-        ∙ ap (λ (p : Pending). becomes h (pick (isLate clock (askedAt p)) (hears p n clock silent [] (h .buffer)) (only Answer.Waiting p (h .buffer)))) (k .pending)
+      polled : holdsEvent events ≡ true
+          → stepped logodwen (Event.Polled clock events) h
+          ≡ becomes h
+          (pick (isLate clock (x .at)) (hears (Pending.Group asks′ group) n clock silent [] events (h .buffer)) (only Answer.Waiting (Pending.Group asks′ group) (h .buffer)))
+      unfolding pollOf pollEffect
+      polled b =
+          ap (λ (v : Verdict). let o : Outcome = judged v n (lentReply events (h .buffer)) (pollEffect n clock events (h .buffer)) in host (h .asked) (o .turn) (h .flash) (o .after .reply)) (poll-fine b)
+          ∙ ap (λ (p : Pending). becomes h (pick (isLate clock (askedAt p)) (hears p n clock silent [] events (h .buffer)) (only Answer.Waiting p (h .buffer)))) (k .pending)
 
-    -- before the timeout nothing is heard
-    pub wait-quiet : isLate clock (x .at) ≡ false → Quiet h (stepped logodwen (Event.Polled clock) h)
-    unfolding stateOk
-    wait-quiet e =
-        rw (polled, e)
-        (record { pending = sym (k .pending); ok = λ v. ap (λ (p : Pending). stateOk (nodeAfter n [] (only Answer.Waiting p (h .buffer)))) (sym (k .pending)) ∙ v; buffer = refl; status = refl; asked = append-nil (h .asked) })
+      -- before the timeout nothing is heard, nor where the event area is too short
+      early : holdsEvent events ≡ true → isLate clock (x .at) ≡ false → Quiet h (stepped logodwen (Event.Polled clock events) h)
+      unfolding stateOk
+      early b e =
+          rw (polled b, e)
+          (record { pending = sym (k .pending); ok = λ v. ap (λ (p : Pending). stateOk (nodeAfter n [] (only Answer.Waiting p (h .buffer)))) (sym (k .pending)) ∙ v; buffer = refl; status = refl; asked = append-nil (h .asked) })
+
+      short : holdsEvent events ≡ false → Quiet h (stepped logodwen (Event.Polled clock events) h)
+      unfolding pollOf
+      short b = go (pollVerdict n (length events) (length (h .buffer))) refl
+        where
+          go : (v : Verdict) → pollVerdict n (length events) (length (h .buffer)) ≡ v
+              → let o : Outcome = judged v n (lentReply events (h .buffer)) (pollEffect n clock events (h .buffer)) in
+              Quiet h (host (h .asked) (o .turn) (h .flash) (o .after .reply))
+          go Verdict.Fine f =
+              let large = poll-fine-tells n (length events) (length (h .buffer)) f .holds in
+              absurd (omega (arith, large, leb-false 12288 (length events) b))
+          go (Verdict.No r) f = record { pending = refl; ok = λ v. v; buffer = refl; status = refl; asked = append-nil (h .asked) }
+
+      pub wait-quiet : (holdsEvent events && isLate clock (x .at)) ≡ false → Quiet h (stepped logodwen (Event.Polled clock events) h)
+      wait-quiet e = go (holdsEvent events) refl e
+        where
+          go : (b : Bool) → holdsEvent events ≡ b → (b && isLate clock (x .at)) ≡ false → Quiet h (stepped logodwen (Event.Polled clock events) h)
+          go true b f = early b f
+          go false b f = short b
 
     -- from then on it is one, which ends what the slave has to say
     counts-none : (m : Assembly) (y : Next) → goesOn n asks′ group clock m y ≡ withAmswire false (goesOn n asks′ group clock m y)
     counts-none m Next.Nobody = refl
     counts-none m (Next.Slave s′) = refl
 
-    hears-none : hears (Pending.Group asks′ group) n clock silent [] (h .buffer) ≡ hearing false silent []
+    hears-none : (events : List ℕ) → hears (Pending.Group asks′ group) n clock silent [] events (h .buffer) ≡ hearing false silent []
     unfolding partBy
-    hears-none =
+    hears-none events =
         (λ i. goesOn n asks′ group clock (taken (assembly (h .buffer) (built w t)) (length (k .rest i)) s (packet silent [] (earlier-stands i) (x .kept))) (nextOf (k .rest i)))
         ∙ counts-none (taken (assembly (h .buffer) (built w t)) (length ss) s (packet silent [] (x .earlier) (x .kept))) (nextOf ss)
 
-    pub late-ends : isLate clock (x .at) ≡ true → stepped logodwen (Event.Polled clock) h ≡ becomes h (hearing false silent [])
-    late-ends e =
-        polled
-        ∙ ap (λ (b : Bool). becomes h (pick b (hears (Pending.Group asks′ group) n clock silent [] (h .buffer)) (only Answer.Waiting (Pending.Group asks′ group) (h .buffer)))) e
-        ∙ ap (becomes h) hears-none
+    pub late-ends : (events : List ℕ) → (holdsEvent events && isLate clock (x .at)) ≡ true
+        → stepped logodwen (Event.Polled clock events) h ≡ becomes h (hearing false silent [])
+    late-ends events e =
+        polled events (and-left (holdsEvent events) (isLate clock (x .at)) e)
+        ∙ ap (λ (b : Bool). becomes h (pick b (hears (Pending.Group asks′ group) n clock silent [] events (h .buffer)) (only Answer.Waiting (Pending.Group asks′ group) (h .buffer))))
+        (and-right (holdsEvent events) (isLate clock (x .at)) e)
+        ∙ ap (becomes h) (hears-none events)
 
     -- what is pending after either stays in its ranges
     module _ (errors : Bool) (y : Heard) (words : List ℕ) where
@@ -351,7 +296,7 @@ module _ {link from set own : ℕ} {x : Awaited} {s : ℕ} {ss base front : List
 
       pending-by : pendingOk (n .given .ports) (heardBy errors y words ss (x .earlier) .pending) ≡ true
       pending-by =
-          ap (λ (e : Effect). pendingOk (n .given .ports) (e .pending)) (sym (heard-by errors y words))
+          ap (λ (e : Effect). pendingOk (n .given .ports) (e .pending)) (sym (heard-by errors y words []))
           ∙ gathers-pending (n .given .ports) n clock y words (h .buffer) space asks′ group group-ok
 
       -- stored, the slave is awaited anew
@@ -370,6 +315,7 @@ module _ {link from set own : ℕ} {x : Awaited} {s : ℕ} {ss base front : List
                   erasing = v .erasing;
                   writing = v .writing;
                   listing = v .listing;
+                  events = v .events;
                   pending =
                       subst
                       (λ (b : Bool). pendingOk (n .given .ports) (pick b (awaits asks′ group clock y words (h .buffer)) (goesOn n asks′ group clock (taken (assembly (h .buffer) (built w t)) (length ss) s said) (nextOf ss)) .pending) ≡ true)
@@ -417,6 +363,7 @@ ended-goes {link} {from} {set} {own} {x} {s} {s′} {ss} {base} {front} {w} {t} 
             erasing = v .erasing;
             writing = v .writing;
             listing = v .listing;
+            events = v .events;
             pending =
                 subst
                 (λ (b : Bool). pendingOk (n .given .ports) (pick b (awaits (asks′ k) (group k) clock y words (h .buffer)) (goesOn n (asks′ k) (group k) clock (taken (assembly (h .buffer) (built w t)) (suc (length ss)) s a) (Next.Slave s′)) .pending) ≡ true)

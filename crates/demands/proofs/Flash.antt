@@ -103,8 +103,9 @@ one-sector (Call.Request clock link bc errors packet m x reply) n flash = by (ve
     by : (v : Verdict) → Within (requestSite n flash link bc packet x) flash (judged v n (lent flash m x reply) (requestEffect n clock link bc errors packet (lent flash m x reply)) .after .flash)
     by Verdict.Fine = why-within n link bc packet (lent flash m x reply) (requestEffect n clock link bc errors packet (lent flash m x reply) .change) (request-why n link bc packet (lent flash m x reply) clock errors .0)
     by (Verdict.No r) = within-none (requestSite n flash link bc packet x) flash
-one-sector (Call.Reply clock slave bc errors status address words reply) n flash = refl
-one-sector (Call.Poll clock reply) n flash = refl
+one-sector (Call.Reply clock slave bc errors status address words events reply) n flash = refl
+one-sector (Call.Poll clock events reply) n flash = refl
+one-sector (Call.Build clock events) n flash = refl
 one-sector (Call.Erase budget) n flash = by (eraseVerdict n (length flash)) refl
   where
     by : (v : Verdict) → eraseVerdict n (length flash) ≡ v → Within (erasingSite (n .erasing)) flash (judged v n (lentFlash flash) (eraseEffect n budget flash) .after .flash)
@@ -162,8 +163,9 @@ no-bit-rises (Call.Request clock link bc errors packet m x reply) n flash i k h 
     by : (v : Verdict) → Falls flash (judged v n (lent flash m x reply) (requestEffect n clock link bc errors packet (lent flash m x reply)) .after .flash) i k
     by Verdict.Fine = why-falls (requestEffect n clock link bc errors packet (lent flash m x reply) .change) n link bc packet (lent flash m x reply) (request-why n link bc packet (lent flash m x reply) clock errors .0) i k h
     by (Verdict.No r) = λ e. e
-no-bit-rises (Call.Reply clock slave bc errors status address words reply) n flash i k h o = λ e. e
-no-bit-rises (Call.Poll clock reply) n flash i k h o = λ e. e
+no-bit-rises (Call.Reply clock slave bc errors status address words events reply) n flash i k h o = λ e. e
+no-bit-rises (Call.Poll clock events reply) n flash i k h o = λ e. e
+no-bit-rises (Call.Build clock events) n flash i k h o = λ e. e
 no-bit-rises (Call.Erase budget) n flash i k h o = by (eraseVerdict n (length flash)) refl
   where
     by : (v : Verdict) → eraseVerdict n (length flash) ≡ v → Falls flash (judged v n (lentFlash flash) (eraseEffect n budget flash) .after .flash) i k

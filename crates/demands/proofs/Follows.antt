@@ -13,15 +13,15 @@ use Rattle.flash.specs.declared.Erasing.{Erasing}
 use Rattle.flash.specs.declared.Found.{Found}
 use Rattle.group.specs.declared.ZeroLength.{ZeroLength}
 use Rattle.qlist.specs.Words.{recordsIn}
-use Rattle.node.specs.Refusals.{replyVerdict, pollVerdict, eraseVerdict, slowVerdict, startVerdict}
+use Rattle.node.specs.Refusals.{replyVerdict, pollVerdict, eraseVerdict, slowVerdict, startVerdict, buildVerdict}
 use Rattle.node.specs.Effect.{Change, erasingNext, Lent, Outcome, ownOutcome, Did, says, changes}
 use Rattle.node.specs.Files.{isErasing, toErase, eraseAt, eraseStartOf}
 use Rattle.node.specs.Own.{filesOf, ownOf}
 use Rattle.node.specs.Slaves.{replyEffect, pollEffect}
-use Rattle.node.specs.Calls.{judged, given, startBy, startOf, requestOf, replyOf, pollOf, eraseOf, eraseEffect, slowOf, slowEffect, lentReply, lentFlash, lentList}
+use Rattle.node.specs.Calls.{judged, given, startBy, startOf, requestOf, replyOf, pollOf, eraseOf, eraseEffect, slowOf, slowEffect, lentReply, lentFlash, lentList, buildOf, buildEffect, lentEvents}
 use Rattle.node.specs.declared.Node.{Node}
 use Rattle.node.specs.declared.Verdict.{Verdict}
-use Rattle.node.proofs.Why.{Why, request-why, reply-quiet, poll-quiet, erase-sector}
+use Rattle.node.proofs.Why.{Why, request-why, reply-quiet, poll-quiet, erase-sector, build-quiet}
 use Rattle.demands.specs.Machine.{logodwen, isRefused}
 use Rattle.demands.specs.Requests.{end, isCommand}
 use Rattle.demands.specs.Flash.{Begins, GoesOn, ErasureFollows}
@@ -122,20 +122,28 @@ follows-start kind ports subdetector program version tests clock flash = by (sta
     by Verdict.Fine = refl
     by (Verdict.No r) = refl
 
-follows-reply : (n : Node) (clock slave bc : ℕ) (errors : Bool) (status address : ℕ) (words reply : List ℕ) → replyOf n clock slave bc errors status address words reply .turn .node .erasing ≡ n .erasing
+follows-reply : (n : Node) (clock slave bc : ℕ) (errors : Bool) (status address : ℕ) (words events reply : List ℕ) → replyOf n clock slave bc errors status address words events reply .turn .node .erasing ≡ n .erasing
 unfolding replyOf
-follows-reply n clock slave bc errors status address words reply = by (replyVerdict n slave (length reply))
+follows-reply n clock slave bc errors status address words events reply = by (replyVerdict n slave (length events) (length reply))
   where
-    by : (v : Verdict) → judged v n (lentReply reply) (replyEffect n clock errors status address bc words reply) .turn .node .erasing ≡ n .erasing
-    by Verdict.Fine = ap (λ (c : Change). erasingNext c (n .erasing) (unitOf [])) (reply-quiet n clock errors status address bc words reply .change)
+    by : (v : Verdict) → judged v n (lentReply events reply) (replyEffect n clock errors status address bc words events reply) .turn .node .erasing ≡ n .erasing
+    by Verdict.Fine = ap (λ (c : Change). erasingNext c (n .erasing) (unitOf [])) (reply-quiet n clock errors status address bc words events reply .change)
     by (Verdict.No r) = refl
 
-follows-poll : (n : Node) (clock : ℕ) (reply : List ℕ) → pollOf n clock reply .turn .node .erasing ≡ n .erasing
+follows-poll : (n : Node) (clock : ℕ) (events reply : List ℕ) → pollOf n clock events reply .turn .node .erasing ≡ n .erasing
 unfolding pollOf
-follows-poll n clock reply = by (pollVerdict n (length reply))
+follows-poll n clock events reply = by (pollVerdict n (length events) (length reply))
   where
-    by : (v : Verdict) → judged v n (lentReply reply) (pollEffect n clock reply) .turn .node .erasing ≡ n .erasing
-    by Verdict.Fine = ap (λ (c : Change). erasingNext c (n .erasing) (unitOf [])) (poll-quiet n clock reply .change)
+    by : (v : Verdict) → judged v n (lentReply events reply) (pollEffect n clock events reply) .turn .node .erasing ≡ n .erasing
+    by Verdict.Fine = ap (λ (c : Change). erasingNext c (n .erasing) (unitOf [])) (poll-quiet n clock events reply .change)
+    by (Verdict.No r) = refl
+
+follows-build : (n : Node) (clock : ℕ) (events : List ℕ) → buildOf n clock events .turn .node .erasing ≡ n .erasing
+unfolding buildOf
+follows-build n clock events = by (buildVerdict n (length events))
+  where
+    by : (v : Verdict) → judged v n (lentEvents events) (buildEffect n clock) .turn .node .erasing ≡ n .erasing
+    by Verdict.Fine = ap (λ (c : Change). erasingNext c (n .erasing) (unitOf [])) (build-quiet n clock .change)
     by (Verdict.No r) = refl
 
 follows-erase : (n : Node) (budget : ℕ) (flash : List ℕ) → isRefused (eraseOf n budget flash .turn .answer) ≡ false → GoesOn n budget flash (eraseOf n budget flash)
@@ -155,4 +163,4 @@ follows-slow n clock list = by (slowVerdict n (recordsIn list))
     by (Verdict.No r) = refl
 
 pub erasure-follows : ErasureFollows logodwen
-erasure-follows = record { start = follows-start; request = follows-request; reply = follows-reply; poll = follows-poll; erase = follows-erase; slow = follows-slow }
+erasure-follows = record { start = follows-start; request = follows-request; reply = follows-reply; poll = follows-poll; build = follows-build; erase = follows-erase; slow = follows-slow }

@@ -48,11 +48,11 @@ use Rattle.node.specs.declared.Verdict.{Verdict}
 use Rattle.node.proofs.Ranges.{ranges-tell, ranges-told, request-pending}
 use Rattle.node.proofs.Verdicts.{RequestFine, request-fine}
 use Rattle.demands.specs.Machine.{logodwen}
-use Rattle.demands.specs.Events.{Event, Host, host, stepped, hosted, Undropped, Awaited, asked, sentNext, silentBy, Heards, endedBy, heards}
+use Rattle.demands.specs.Events.{Event, Host, host, stepped, hosted, Undropped, holdsEvent, Awaited, asked, sentNext, silentBy, Heards, endedBy, heards}
 use Rattle.demands.specs.Groups.{setAsked, GroupRun, packetsStored, begun, atLast, slaves, said, underWay, fragments, Sends, GroupIsItsFragments, AskedInOrder, EachAskedOnce, FragmentsStand, NothingPastTheWords}
 use Rattle.demands.proofs.Slaves.{slaves-exactly}
 use Rattle.demands.proofs.Stored.{laid-longer, laid-apart, packets-longer}
-use Rattle.demands.proofs.Events.{Going, becomes, stored, fresh, hearing, erase-quiet, slow-quiet, request-quiet, stray-quiet, wait-quiet, reply-stored, reply-ends, late-ends, taken-is, stored-goes, ended-goes, quiet-goes}
+use Rattle.demands.proofs.Events.{Going, becomes, stored, fresh, hearing, erase-quiet, slow-quiet, build-quiet, request-quiet, stray-quiet, wait-quiet, reply-stored, reply-ends, late-ends, taken-is, stored-goes, ended-goes, quiet-goes}
 use Rattle.demands.proofs.Taken.{verdictOn}
 
 -- a group that has ended
@@ -178,12 +178,15 @@ ran (Event.Requested clock l bc errors packet m y ∷ es) k u =
 ran (Event.Erased budget ∷ es) {h = h} k u =
     let q = erase-quiet h budget in
     rw (hosted-goes k (Event.Erased budget) es) (ran-from (q .asked) (ran es (quiet-goes k q) (u .1)))
+ran (Event.Built clock events ∷ es) {h = h} k u =
+    let q = build-quiet h clock events (ap isPending (k .pending)) in
+    rw (hosted-goes k (Event.Built clock events) es) (ran-from (q .asked) (ran es (quiet-goes k q) (u .1)))
 ran (Event.Slowed clock list ∷ es) {h = h} k u =
     let q = slow-quiet h clock list in
     rw (hosted-goes k (Event.Slowed clock list) es) (ran-from (q .asked) (ran es (quiet-goes k q) (u .1)))
-ran (Event.Replied clock slave bc errors status address words ∷ es) {link} {from} {set} {own} {x} {s} {ss} {base} {front} {w} {t} {h} k u =
-    rw (hosted-goes k (Event.Replied clock slave bc errors status address words) es)
-    (go (eqb s slave) refl (isPart said′ w (length ss)) refl (λ s′ ss′ base′ front′ w′ t′ h′ k′. ran es k′ (u .1))
+ran (Event.Replied clock slave bc errors status address words events ∷ es) {link} {from} {set} {own} {x} {s} {ss} {base} {front} {w} {t} {h} k u =
+    rw (hosted-goes k (Event.Replied clock slave bc errors status address words events) es)
+    (go (holdsEvent events && eqb s slave) refl (isPart said′ w (length ss)) refl (λ s′ ss′ base′ front′ w′ t′ h′ k′. ran es k′ (u .1))
     (λ s′ ss′ base′ front′ w′ t′ h′ k′. ran es k′ (u .1)) (λ s′ ss′ base′ front′ w′ t′ h′ k′. ran es k′ (u .1)))
   where
     hears′ : Heard
@@ -192,33 +195,33 @@ ran (Event.Replied clock slave bc errors status address words ∷ es) {link} {fr
     said′ : SlaveAnswer
     said′ = packet hears′ words (x .earlier) (x .kept)
 
-    go : (b : Bool) → eqb s slave ≡ b → (c : Bool) → isPart said′ w (length ss) ≡ c
+    go : (b : Bool) → (holdsEvent events && eqb s slave) ≡ b → (c : Bool) → isPart said′ w (length ss) ≡ c
         → After link from set own (asked clock) es → After link from set own (sentNext clock said′) es → After link from set own x es
         → Ran own base front w t s ss
         (pick b
         (pick c (heards (sentNext clock said′) (s ∷ ss) w es)
         (endedBy said′ (heards (asked clock) ss (w + length (fragmentOf s said′ w (length ss))) es)))
         (heards x (s ∷ ss) w es))
-        (h .asked) (hosted logodwen es (stepped logodwen (Event.Replied clock slave bc errors status address words) h))
+        (h .asked) (hosted logodwen es (stepped logodwen (Event.Replied clock slave bc errors status address words events) h))
     go true e true f next more same =
-        rw (reply-stored k clock slave bc errors status address words e f)
+        rw (reply-stored k clock slave bc errors status address words events e f)
         (ran-from (append-nil (h .asked)) (more s ss base front w t _ (stored-goes k clock (errorIn hears′) hears′ words f)))
     go true e false f next more same =
-        rw (reply-ends k clock slave bc errors status address words e f) (ran-ended ss k clock (errorIn hears′) hears′ words f es next)
+        rw (reply-ends k clock slave bc errors status address words events e f) (ran-ended ss k clock (errorIn hears′) hears′ words f es next)
     go false e c f next more same =
-        let q = stray-quiet k clock slave bc errors status address words e in ran-from (q .asked) (same s ss base front w t _ (quiet-goes k q))
-ran (Event.Polled clock ∷ es) {link} {from} {set} {own} {x} {s} {ss} {base} {front} {w} {t} {h} k u =
-    rw (hosted-goes k (Event.Polled clock) es)
-    (go (isLate clock (x .at)) refl (λ s′ ss′ base′ front′ w′ t′ h′ k′. ran es k′ (u .1)) (λ s′ ss′ base′ front′ w′ t′ h′ k′. ran es k′ (u .1)))
+        let q = stray-quiet k clock slave bc errors status address words events e in ran-from (q .asked) (same s ss base front w t _ (quiet-goes k q))
+ran (Event.Polled clock events ∷ es) {link} {from} {set} {own} {x} {s} {ss} {base} {front} {w} {t} {h} k u =
+    rw (hosted-goes k (Event.Polled clock events) es)
+    (go (holdsEvent events && isLate clock (x .at)) refl (λ s′ ss′ base′ front′ w′ t′ h′ k′. ran es k′ (u .1)) (λ s′ ss′ base′ front′ w′ t′ h′ k′. ran es k′ (u .1)))
   where
-    go : (b : Bool) → isLate clock (x .at) ≡ b → After link from set own (asked clock) es → After link from set own x es
+    go : (b : Bool) → (holdsEvent events && isLate clock (x .at)) ≡ b → After link from set own (asked clock) es → After link from set own x es
         → Ran own base front w t s ss
         (pick b
         (endedBy (silentBy x) (heards (asked clock) ss (w + length (fragmentOf s (silentBy x) w (length ss))) es))
         (heards x (s ∷ ss) w es))
-        (h .asked) (hosted logodwen es (stepped logodwen (Event.Polled clock) h))
-    go true e next same = rw (late-ends k clock e) (ran-ended ss k clock false silent [] (silent-ends x w (length ss)) es next)
-    go false e next same = let q = wait-quiet k clock e in ran-from (q .asked) (same s ss base front w t _ (quiet-goes k q))
+        (h .asked) (hosted logodwen es (stepped logodwen (Event.Polled clock events) h))
+    go true e next same = rw (late-ends k clock events e) (ran-ended ss k clock false silent [] (silent-ends x w (length ss)) es next)
+    go false e next same = let q = wait-quiet k clock events e in ran-from (q .asked) (same s ss base front w t _ (quiet-goes k q))
 
 -- a request to a group that is answered by asking: what it is, and that it begins a group with nothing built
 module _ (r : GroupRun logodwen) where
@@ -327,7 +330,7 @@ module _ (r : GroupRun logodwen) where
       after : Verdict → Route → Host
       after v x = let o : Outcome = judged v n l (does x) in host [] (o .turn) (o .after .flash) (o .after .reply)
 
-      taken′ : RequestFine n (r .link) (length (r .packet)) (length (l .flash)) (length (l .further .area)) (recordsIn (l .further .list)) (length (l .reply)) → (x : Route) → Found x → pendingOk (n .given .ports) (does x .pending) ≡ true
+      taken′ : RequestFine n (r .link) (length (r .packet)) (length (l .flash)) (length (l .further .area)) (recordsIn (l .further .list)) (length (l .further .events)) (length (l .reply)) → (x : Route) → Found x → pendingOk (n .given .ports) (does x .pending) ≡ true
           → Begins (after Verdict.Fine x)
       taken′ fine x f p =
           let v = ranges-tell n (fine .fits .state) in
@@ -352,6 +355,7 @@ module _ (r : GroupRun logodwen) where
                     pending = q;
                     writing = v .writing;
                     listing = v .listing;
+                    events = v .events;
                   });
               long = fine .buffer;
               words = refl;
@@ -364,7 +368,7 @@ module _ (r : GroupRun logodwen) where
       go : (v : Verdict) → verdict ≡ v → judged v n l (does (routeOf n (r .link) (r .bc) (r .errors) (r .packet))) .turn .answer ≡ Answer.Ask (r .asking)
           → Begins (after v (routeOf n (r .link) (r .bc) (r .errors) (r .packet)))
       go Verdict.Fine e a =
-          let fine = request-fine n (r .link) (length (r .packet)) (length (l .flash)) (length (l .memories .pm)) (length (l .memories .dm)) (length (l .memories .io)) (length (l .further .area)) (recordsIn (l .further .list)) (length (l .reply)) e in
+          let fine = request-fine n (r .link) (length (r .packet)) (length (l .flash)) (length (l .memories .pm)) (length (l .memories .dm)) (length (l .memories .io)) (length (l .further .area)) (recordsIn (l .further .list)) (length (l .further .events)) (length (l .reply)) e in
           let v = ranges-tell n (fine .fits .state) in
           taken′ fine (routeOf n (r .link) (r .bc) (r .errors) (r .packet)) (route-found a)
           (request-pending n (r .clock) (r .link) (r .bc) (r .errors) (r .packet) l (r .words) (fine .below) (v .masks) (v .pending))

@@ -18,20 +18,20 @@ use Rattle.qlist.specs.Commands.{Changed, changed, countIn, isWrite, allOwn, ca
 use Rattle.qlist.specs.Laws.{total, brings}
 use Rattle.qlist.specs.declared.Listed.{Listed}
 use Rattle.qlist.proofs.Conserved.{step-conserves, close-conserves, clear-conserves, write-conserves}
-use Rattle.node.specs.Refusals.{replyVerdict, pollVerdict, eraseVerdict, slowVerdict, startVerdict}
-use Rattle.node.specs.Effect.{Lent, lent, further, Outcome, Did, ownOutcome, Relist, listingAfter, listAfter}
+use Rattle.node.specs.Refusals.{replyVerdict, pollVerdict, eraseVerdict, slowVerdict, startVerdict, buildVerdict}
+use Rattle.node.specs.Effect.{Lent, lent, further, Outcome, Did, ownOutcome, Relist, listingAfter, listAfter, Occur}
 use Rattle.node.specs.Route.{bcOf}
 use Rattle.node.specs.Files.{isErasing, placedFor, writeAt, fileWriteOf, joined}
 use Rattle.node.specs.Lists.{changesList, listWriteOf, listDeleteOf}
 use Rattle.node.specs.Own.{listsOf, ownOf}
 use Rattle.node.specs.Slaves.{replyEffect, pollEffect}
-use Rattle.node.specs.Calls.{judged, routed, lentReply, lentFlash, lentList, given, startBy, startOf, requestOf, replyOf, pollOf, eraseEffect, eraseOf, slowEffect, slowOf}
+use Rattle.node.specs.Calls.{judged, routed, lentReply, lentFlash, lentList, given, startBy, startOf, requestOf, replyOf, pollOf, eraseEffect, eraseOf, slowEffect, slowOf, buildOf, buildEffect, lentEvents}
 use Rattle.node.specs.declared.Answer.{Answer}
 use Rattle.node.specs.declared.Given.{Given}
 use Rattle.node.specs.declared.Node.{Node}
 use Rattle.node.specs.declared.Verdict.{Verdict}
 use Rattle.node.proofs.Routes.{Command, Whole, route-case}
-use Rattle.node.proofs.Why.{Relists, Relisted, own-reason, reply-quiet, poll-quiet}
+use Rattle.node.proofs.Why.{Relists, Relisted, own-reason, reply-quiet, poll-quiet, build-quiet}
 use Rattle.node.proofs.Verdicts.{request-fine}
 use Rattle.demands.specs.Machine.{logodwen, Call, isRefused, turnOf}
 use Rattle.demands.specs.Requests.{end, isCommand}
@@ -56,8 +56,11 @@ end-is (Answer.Next s) h = absurd (false≢true h)
 end-is Answer.Waiting h = absurd (false≢true h)
 end-is (Answer.Erased count) h = absurd (false≢true h)
 end-is (Answer.Slow s) h = absurd (false≢true h)
+end-is (Answer.AskEvent s) h = absurd (false≢true h)
+end-is Answer.NoEvent h = absurd (false≢true h)
+end-is (Answer.Built words) h = absurd (false≢true h)
 
-not-end : (a : Answer) → (a ≡ end → ⊥) → isEnd a ≡ false
+pub not-end : (a : Answer) → (a ≡ end → ⊥) → isEnd a ≡ false
 not-end a h = by (isEnd a) refl
   where
     by : (t : Bool) → isEnd a ≡ t → isEnd a ≡ false
@@ -77,14 +80,17 @@ can-room listed lent segment h =
     (and-left (leb (listed + countIn segment) lent) (allOwn (countIn segment) 0 segment)
     (and-right (isWrite segment) (leb (listed + countIn segment) lent && allOwn (countIn segment) 0 segment) h))
 
--- a file that is written leaves the list
-pub file-kept : (n : Node) (flash file : List ℕ) → fileWriteOf n flash file .list ≡ Relist.Kept
+-- a file that is written leaves the list and what is known of events
+abbrev FileKeeps : Did → Type 0
+FileKeeps d = (d .list ≡ Relist.Kept) × (d .event ≡ Occur.Kept)
+
+pub file-kept : (n : Node) (flash file : List ℕ) → FileKeeps (fileWriteOf n flash file)
 unfolding fileWriteOf
-file-kept n flash file = pick-case (λ (d : Did). d .list ≡ Relist.Kept) (isErasing (n .erasing)) (λ _. refl) (λ _. at (placedFor n flash file))
+file-kept n flash file = pick-case FileKeeps (isErasing (n .erasing)) (λ _. (refl, refl)) (λ _. at (placedFor n flash file))
   where
-    at : (f : Found) → writeAt file f .list ≡ Relist.Kept
-    at Found.Nothing = refl
-    at (Found.At s) = refl
+    at : (f : Found) → FileKeeps (writeAt file f)
+    at Found.Nothing = (refl, refl)
+    at (Found.At s) = (refl, refl)
 
 -- one request
 module _ (n : Node) (clock link bc : ℕ) (errors : Bool) (packet : List ℕ) (l : Lent) where
@@ -174,7 +180,7 @@ module _ (n : Node) (clock link bc : ℕ) (errors : Bool) (packet : List ℕ) (l
   left = (refl, refl)
 
   own-left : isCommand 0x5C bc packet ≡ false → isCommand 0x5B bc packet ≡ false → (id : ℕ) → Whole n link bc → Command packet id → Left (ownOf id n clock link packet l .list)
-  own-left p q id w c = by (ownOf id n clock link packet l .list) (own-reason n link bc packet l clock id w c .1 .1)
+  own-left p q id w c = by (ownOf id n clock link packet l .list) (own-reason n link bc packet l clock id w c .1 .1 .0)
     where
       by : (x : Relist) → Relists x n clock packet list → Left x
       by Relist.Kept r = left
@@ -184,7 +190,7 @@ module _ (n : Node) (clock link bc : ℕ) (errors : Bool) (packet : List ℕ) (l
   request-left : isCommand 0x5C bc packet ≡ false → isCommand 0x5B bc packet ≡ false → Left (requestEffect n clock link bc errors packet l .list)
   request-left p q =
       route-case (λ r. Left (routed r n clock link packet l .list)) n link bc errors packet left left (λ _ _. left) (λ _ _. left) (λ _ _. left)
-      (λ from at j. left) (λ at w. subst Left (sym (file-kept n (l .flash) (joined (l .further .area) at packet))) left) (own-left p q) (λ s h. left) (λ set from s named e. left)
+      (λ from at j. left) (λ at w. subst Left (sym (file-kept n (l .flash) (joined (l .further .area) at packet) .0)) left) (own-left p q) (λ s h. left) (λ set from s named e. left)
 
   other-conserves : isCommand 0x5C bc packet ≡ false → isCommand 0x5B bc packet ≡ false → Conserves false false asked
   unfolding requestOf
@@ -204,7 +210,7 @@ module _ (n : Node) (clock link bc : ℕ) (errors : Bool) (packet : List ℕ) (l
       by true false e f =
           ⊎-elim (λ own. subst (Conserves true false) (sym (own .is)) write-conserves-own) (unserved-conserves true false) (own-or-not n clock link bc errors packet l 0x5C e)
       by false true e f =
-          ⊎-elim (λ own. subst (Conserves false true) (sym (own .is)) (delete-conserves-own (request-fine n link _ _ _ _ _ _ _ _ (own .fine) .listed)))
+          ⊎-elim (λ own. subst (Conserves false true) (sym (own .is)) (delete-conserves-own (request-fine n link _ _ _ _ _ _ _ _ _ (own .fine) .listed)))
           (unserved-conserves false true) (own-or-not n clock link bc errors packet l 0x5B f)
       by false false e f = other-conserves e f
 
@@ -226,7 +232,7 @@ start-holds kind ports subdetector program version tests clock flash list h = by
 
 made-holds : (c : Call) (flash : List ℕ) (n : Node) (list : List ℕ) (t : Tally) → Holds n list t
     → Holds (stateAfter logodwen (lending list c) n flash) (listOf logodwen c n flash list) (talliedBy logodwen c n flash list t)
-unfolding replyOf pollOf eraseOf slowOf
+unfolding replyOf pollOf buildOf eraseOf slowOf
 made-holds (Call.Start kind ports subdetector program version tests clock) flash n list t h = by (isRefused (startOf kind ports subdetector program version tests clock flash .answer)) refl
   where
     by : (b : Bool) → isRefused (startOf kind ports subdetector program version tests clock flash .answer) ≡ b
@@ -234,17 +240,22 @@ made-holds (Call.Start kind ports subdetector program version tests clock) flash
     by true e = h
     by false e = start-holds kind ports subdetector program version tests clock flash list e
 made-holds (Call.Request clock link bc errors packet m x reply) flash n list t h =
-    let c = request-conserves n clock link bc errors packet (lent flash m (further (x .area) list) reply) in
+    let c = request-conserves n clock link bc errors packet (lent flash m (further (x .area) list (x .events)) reply) in
     omega arith
-made-holds (Call.Reply clock slave bc errors status address words reply) flash n list t h = by (replyVerdict n slave (length reply))
+made-holds (Call.Reply clock slave bc errors status address words events reply) flash n list t h = by (replyVerdict n slave (length events) (length reply))
   where
-    by : (v : Verdict) → Holds (judged v n (lentReply reply) (replyEffect n clock errors status address bc words reply) .turn .node) list t
-    by Verdict.Fine = subst (λ (x : Relist). total (listingAfter x (n .listing) .entries) list + t .handed + t .cleared ≡ t .written) (sym (reply-quiet n clock errors status address bc words reply .list)) h
+    by : (v : Verdict) → Holds (judged v n (lentReply events reply) (replyEffect n clock errors status address bc words events reply) .turn .node) list t
+    by Verdict.Fine = subst (λ (x : Relist). total (listingAfter x (n .listing) .entries) list + t .handed + t .cleared ≡ t .written) (sym (reply-quiet n clock errors status address bc words events reply .list)) h
     by (Verdict.No r) = h
-made-holds (Call.Poll clock reply) flash n list t h = by (pollVerdict n (length reply))
+made-holds (Call.Poll clock events reply) flash n list t h = by (pollVerdict n (length events) (length reply))
   where
-    by : (v : Verdict) → Holds (judged v n (lentReply reply) (pollEffect n clock reply) .turn .node) list t
-    by Verdict.Fine = subst (λ (x : Relist). total (listingAfter x (n .listing) .entries) list + t .handed + t .cleared ≡ t .written) (sym (poll-quiet n clock reply .list)) h
+    by : (v : Verdict) → Holds (judged v n (lentReply events reply) (pollEffect n clock events reply) .turn .node) list t
+    by Verdict.Fine = subst (λ (x : Relist). total (listingAfter x (n .listing) .entries) list + t .handed + t .cleared ≡ t .written) (sym (poll-quiet n clock events reply .list)) h
+    by (Verdict.No r) = h
+made-holds (Call.Build clock events) flash n list t h = by (buildVerdict n (length events))
+  where
+    by : (v : Verdict) → Holds (judged v n (lentEvents events) (buildEffect n clock) .turn .node) list t
+    by Verdict.Fine = subst (λ (x : Relist). total (listingAfter x (n .listing) .entries) list + t .handed + t .cleared ≡ t .written) (sym (build-quiet n clock .list)) h
     by (Verdict.No r) = h
 made-holds (Call.Erase budget) flash n list t h = by (eraseVerdict n (length flash))
   where
@@ -264,11 +275,12 @@ refused-list : (c : Call) (flash : List ℕ) (n : Node) (list : List ℕ) → is
 unfolding requestOf slowOf
 refused-list (Call.Start kind ports subdetector program version tests clock) flash n list h = refl
 refused-list (Call.Request clock link bc errors packet m x reply) flash n list h =
-    let l : Lent = lent flash m (further (x .area) list) reply in
+    let l : Lent = lent flash m (further (x .area) list (x .events)) reply in
     ap (λ (y : Lent). y .further .list)
     (judged-unchanged (verdictOn n link packet l) n l (requestEffect n clock link bc errors packet l) (request-taken n clock link bc errors packet l) h .1)
-refused-list (Call.Reply clock slave bc errors status address words reply) flash n list h = refl
-refused-list (Call.Poll clock reply) flash n list h = refl
+refused-list (Call.Reply clock slave bc errors status address words events reply) flash n list h = refl
+refused-list (Call.Poll clock events reply) flash n list h = refl
+refused-list (Call.Build clock events) flash n list h = refl
 refused-list (Call.Erase budget) flash n list h = refl
 refused-list (Call.Slow clock other) flash n list h =
     ap (λ (y : Lent). y .further .list) (judged-unchanged (slowVerdict n (recordsIn list)) n (lentList list) (slowEffect n clock list) refl h .1)

@@ -26,6 +26,9 @@ reply-case P (Answer.Next slave) h k = k
 reply-case P Answer.Waiting h k = k
 reply-case P (Answer.Erased count) h k = k
 reply-case P (Answer.Slow slow) h k = k
+reply-case P (Answer.AskEvent s) h k = k
+reply-case P Answer.NoEvent h k = k
+reply-case P (Answer.Built words) h k = k
 
 module _ (P : Node → List ℕ → Type 0) where
   abbrev pub Keeps : Type 0

@@ -21,7 +21,8 @@ use Rattle.node.specs.Settings.{statusIn as ownStatus, statusOf, pingOf, modeRe
 use Rattle.node.specs.Files.{isErasing, namedBy, seen, readBy, readAt, readOf, placedFor, writeAt, fileWriteOf, joined, testAt, testOf, toErase, eraseAt, eraseStartOf, setTo, attributeBy, attributeAt, attributeSetOf, summaryOf}
 use Rattle.node.specs.Memories.{dataRoom, memoryReadOf}
 use Rattle.node.specs.Lists.{relisted, listReadOf, listDeleteOf, listWriteOf}
-use Rattle.node.specs.Own.{settingsOf, memoriesOf, filesOf, listsOf, onFiles, onMemories, onList, ownOf}
+use Rattle.node.specs.Events.{eventReadOf, numberReadOf, resetOf}
+use Rattle.node.specs.Own.{settingsOf, memoriesOf, filesOf, listsOf, onFiles, onMemories, onList, onEvents, ownOf}
 use Rattle.node.specs.Calls.{judged, routed, requestOf}
 use Rattle.node.specs.declared.Node.{Node}
 use Rattle.node.specs.declared.Verdict.{Verdict}
@@ -105,7 +106,7 @@ module _ (n : Node) (clock link : ℕ) (packet : List ℕ) (l : Lent) where
       pick-case Keeps (eqb (length packet) 3) (λ _. pick-case Keeps (readable memory (length words) (getD packet 1 0) (getD packet 2 0) dataRoom) (λ _. refl) (λ _. refl)) (λ _. refl)
 
   settings-keeps : (id : ℕ) → Keeps (settingsOf id n clock link packet)
-  unfolding settingsOf statusOf pingOf modeReadOf modeWriteOf maskReadOf maskWriteOf
+  unfolding settingsOf statusOf pingOf modeReadOf modeWriteOf maskReadOf maskWriteOf numberReadOf resetOf
   settings-keeps id =
       pick-case Keeps (eqb id 0x0C) (λ _. pick-case Keeps (eqb (length packet) 1) (λ _. refl) (λ _. refl))
       (λ _. pick-case Keeps (eqb id 0x0D) (λ _. pick-case Keeps (leb (length packet) 8001) (λ _. refl) (λ _. refl))
@@ -113,7 +114,13 @@ module _ (n : Node) (clock link : ℕ) (packet : List ℕ) (l : Lent) where
       (λ _. pick-case Keeps (eqb id 0x52) (λ _. pick-case Keeps (eqb (length packet) 2) (λ _. pick-case Keeps (leb (getD packet 1 0) 3) (λ _. refl) (λ _. refl)) (λ _. refl))
       (λ _. pick-case Keeps (eqb id 0x17) (λ _. pick-case Keeps (eqb (n .given .kind) 2) (λ _. pick-case Keeps (eqb (length packet) 1) (λ _. refl) (λ _. refl)) (λ _. refl))
       (λ _. pick-case Keeps (eqb id 0x57) (λ _. pick-case Keeps (eqb (n .given .kind) 2) (λ _. pick-case Keeps (eqb (length packet) 3) (λ _. pick-case Keeps (ltb (getD packet 1 0) 4096) (λ _. refl) (λ _. refl)) (λ _. refl)) (λ _. refl))
-      (λ _. refl))))))
+      (λ _. pick-case Keeps (eqb id 0x02) (λ _. pick-case Keeps (eqb (length packet) 1) (λ _. refl) (λ _. refl))
+      (λ _. pick-case Keeps (eqb id 0x42) (λ _. pick-case Keeps (eqb (length packet) 1) (λ _. refl) (λ _. refl))
+      (λ _. refl))))))))
+
+  event-keeps : Keeps (eventReadOf n (l .further .events) packet)
+  unfolding eventReadOf
+  event-keeps = pick-case Keeps (eqb (length packet) 1) (λ _. pick-case Keeps (eqb (n .events .unread) 0) (λ _. refl) (λ _. refl)) (λ _. refl)
 
   list-keeps : (x : Listed) (words : List ℕ) → Keeps (relisted x words)
   list-keeps (Listed.Entries g) words = refl
@@ -143,7 +150,7 @@ module _ (n : Node) (clock link : ℕ) (packet : List ℕ) (l : Lent) where
       (λ _. pick-case Keeps (eqb id 0x5B) (λ _. let r = deleteIn (n .listing) (drop 1 packet) (l .further .list) in list-keeps (r .listed) (r .words))
       (λ _. pick-case Keeps (eqb id 0x5C) (λ _. let r = writeIn (n .listing) clock (drop 1 packet) (l .further .list) in list-keeps (r .listed) (r .words))
       (λ _. refl))))
-      (λ _. settings-keeps id)))
+      (λ _. pick-case Keeps (onEvents id) (λ _. event-keeps) (λ _. settings-keeps id))))
 
 -- so no other request does
 pub memories-left : (n : Node) (clock link bc : ℕ) (errors : Bool) (packet : List ℕ) (l : Lent)

@@ -17,13 +17,13 @@ use Rattle.memory.specs.Segment.{Memories}
 use Rattle.report.specs.Status.{counted}
 use Rattle.qlist.specs.Words.{recordsIn}
 use Rattle.node.specs.State.{node, turn, counts, joining, withWriting}
-use Rattle.node.specs.Refusals.{replyVerdict, pollVerdict, eraseVerdict, slowVerdict}
+use Rattle.node.specs.Refusals.{replyVerdict, pollVerdict, eraseVerdict, slowVerdict, buildVerdict}
 use Rattle.node.specs.Route.{bcOf, asks, writes, firstPacket, laterPacket, routeOf}
-use Rattle.node.specs.Effect.{Further, further, Lent, lent, Outcome, applied, owns, ownOutcome, directoryAfter, erasingNext, masksAfter, modeAfter, Join, writingAfter, areaAfter, listingAfter}
+use Rattle.node.specs.Effect.{Further, further, Lent, lent, Outcome, applied, owns, ownOutcome, directoryAfter, erasingNext, masksAfter, modeAfter, Join, writingAfter, areaAfter, listingAfter, knownAfter}
 use Rattle.node.specs.Files.{fileWriteOf, joined}
 use Rattle.node.specs.Own.{filesOf, ownOf}
 use Rattle.node.specs.Slaves.{replyEffect, pollEffect}
-use Rattle.node.specs.Calls.{judged, lentReply, lentFlash, lentList, ends, routed, requestOf, replyOf, pollOf, eraseOf, eraseEffect, slowOf, slowEffect}
+use Rattle.node.specs.Calls.{judged, lentReply, lentFlash, lentList, ends, routed, requestOf, replyOf, pollOf, eraseOf, eraseEffect, slowOf, slowEffect, buildOf, buildEffect, lentEvents}
 use Rattle.node.specs.declared.Answer.{Answer}
 use Rattle.node.specs.declared.Joining.{Joining}
 use Rattle.node.specs.declared.Node.{Node}
@@ -32,7 +32,7 @@ use Rattle.node.specs.declared.Turn.{Turn}
 use Rattle.node.specs.declared.Verdict.{Verdict}
 use Rattle.node.specs.declared.Writing.{Writing}
 use Rattle.node.proofs.Routes.{Sized, Joins, Later, route-case}
-use Rattle.node.proofs.Why.{reply-quiet, poll-quiet}
+use Rattle.node.proofs.Why.{reply-quiet, poll-quiet, build-quiet}
 use Rattle.node.proofs.Verdicts.{request-fine}
 use Rattle.demands.specs.Machine.{logodwen, Call, isRefused}
 use Rattle.demands.specs.Requests.{Arrives, isCommand}
@@ -47,7 +47,7 @@ module _ (n : Node) (clock link bc : ℕ) (packet : List ℕ) (l : Lent) (taken 
   fine = judged-fine (verdictOn n link packet l) n l (requestEffect n clock link bc false packet l) taken
 
   area-room : 32768 ≤ length (l .further .area)
-  area-room = request-fine n link _ _ _ _ _ _ _ _ fine .room
+  area-room = request-fine n link _ _ _ _ _ _ _ _ _ fine .room
 
   comes : {r : Route} → r ≡ routeOf n link bc false packet → requestOf n clock link bc false packet l ≡ applied n l (routed r n clock link packet l)
   unfolding requestOf
@@ -88,8 +88,8 @@ record Stands (link : ℕ) (n : Node) (flash : List ℕ) (n′ : Node) (flash′
 
 sent-stands : {link : ℕ} {n : Node} {flash area : List ℕ} → n .writing ≡ Writing.Nothing → {n′ : Node} {flash′ area′ sent : List ℕ}
     → Sent logodwen link n flash area n′ flash′ area′ sent → Stands link n flash n′ flash′ area′ sent
-sent-stands {link} {n} {flash} {area} free (Sent.First clock bc words m list reply after b short is taken) =
-    let l : Lent = lent flash m (further area list) reply in
+sent-stands {link} {n} {flash} {area} free (Sent.First clock bc words m list events reply after b short is taken) =
+    let l : Lent = lent flash m (further area list events) reply in
     let o = sym is ∙ first-is n clock link bc words l (ap (λ (x : Outcome). isRefused (x .turn .answer)) is ∙ taken) free b short in
     record {
       node = ap (λ (x : Outcome). x .turn .node) o ∙ ap (λ (k : ℕ). withWriting n (Writing.File (joining link k))) (zero-add (length words));
@@ -98,9 +98,9 @@ sent-stands {link} {n} {flash} {area} free (Sent.First clock bc words m list rep
           ap (λ (x : Outcome). take (length words) (x .after .further .area)) o
           ∙ take-laid area 0 words (length words) (zero-add (length words)) (omega arith);
     }
-sent-stands {link} {n} {flash} {area} free (Sent.Then {n′ = n′} {flash′ = flash′} {area′ = area′} {sent = sent} before clock bc words m list reply after b least most short is answered) =
+sent-stands {link} {n} {flash} {area} free (Sent.Then {n′ = n′} {flash′ = flash′} {area′ = area′} {sent = sent} before clock bc words m list events reply after b least most short is answered) =
     let s = sent-stands free before in
-    let l : Lent = lent flash′ m (further area′ list) reply in
+    let l : Lent = lent flash′ m (further area′ list events) reply in
     let stands = ap (λ (x : Node). x .writing) (s .node) in
     let taken = ap (λ (x : Outcome). isRefused (x .turn .answer)) is ∙ answered in
     let o = sym is ∙ between-is n′ clock link bc words l taken (joining link (length sent)) stands refl least most short b in
@@ -125,7 +125,7 @@ unfolding fileWriteOf
 written-turn n w flash file l at last free same =
     let d = fileWriteOf n flash file in
     λ i. turn (node (masksAfter (d .setup) (n .masks)) (directoryAfter (d .change) (n .directory) (n .erasing) (same i)) (n .given) (modeAfter (d .setup) (n .mode))
-    (counts (counted false (n .counts .amswire)) (counted (d .fault) (n .counts .flash))) (erasingNext (d .change) (n .erasing) (unitOf (same i))) (n .pending) (sym free i) (listingAfter (d .list) (n .listing))) (Answer.Reply (d .reply))
+    (counts (counted false (n .counts .amswire)) (counted (d .fault) (n .counts .flash))) (erasingNext (d .change) (n .erasing) (unitOf (same i))) (n .pending) (sym free i) (listingAfter (d .list) (n .listing)) (knownAfter (d .event) (n .events))) (Answer.Reply (d .reply))
 
 written-flash : (n : Node) (w : Writing) (flash file : List ℕ) (m : Memories) (x : Further) (reply : List ℕ) (at : ℕ) (last : List ℕ)
     → let l : Lent = lent flash m x reply in
@@ -140,7 +140,7 @@ last-writes link n flash area file free d =
     let s = sent-stands free (d .before) in
     let k : ℕ = length (d .sent) in
     let w : Writing = Writing.File (joining link k) in
-    let x : Further = further (d .area′) (d .list) in
+    let x : Further = further (d .area′) (d .list) (d .events) in
     let room : k + length (d .last) ≤ 32768 = omega (arith, d .short, ap length (d .joined), length-append (d .sent) (d .last)) in
     let o = last-is (d .node) (d .clock) link (d .bc) (d .last) (lent (d .flash′) (d .memories) x (d .reply)) (d .taken) (joining link k) (ap (λ (v : Node). v .writing) (s .node)) refl (d .least) (d .most) room (d .ends) in
     let comes-to : Node → List ℕ → List ℕ → Outcome = λ v f g. applied v (lent f (d .memories) x (d .reply)) (ends k (d .last) (owns v (lent f (d .memories) x (d .reply)) (fileWriteOf v f g))) in
@@ -229,18 +229,23 @@ module _ (n : Node) (clock link bc : ℕ) (packet : List ℕ) (m : Memories) (x 
       by (Verdict.No r) = kept
 
 pub left-alone : LeftAlone logodwen
-unfolding replyOf pollOf eraseOf slowOf
+unfolding replyOf pollOf buildOf eraseOf slowOf
 left-alone (Call.Start kind ports subdetector program version tests clock) n flash j stands away = absurd (false≢true (sym away))
 left-alone (Call.Request clock link bc errors packet m x reply) n flash j stands away = request-left n clock link bc packet m x reply flash j stands errors away
-left-alone (Call.Reply clock slave bc errors status address words reply) n flash j stands away = (by (replyVerdict n slave (length reply)), tt)
+left-alone (Call.Reply clock slave bc errors status address words events reply) n flash j stands away = (by (replyVerdict n slave (length events) (length reply)), tt)
   where
-    by : (v : Verdict) → judged v n (lentReply reply) (replyEffect n clock errors status address bc words reply) .turn .node .writing ≡ Writing.File j
-    by Verdict.Fine = ap (λ (k : Join). writingAfter k (n .writing)) (reply-quiet n clock errors status address bc words reply .join) ∙ stands
+    by : (v : Verdict) → judged v n (lentReply events reply) (replyEffect n clock errors status address bc words events reply) .turn .node .writing ≡ Writing.File j
+    by Verdict.Fine = ap (λ (k : Join). writingAfter k (n .writing)) (reply-quiet n clock errors status address bc words events reply .join) ∙ stands
     by (Verdict.No r) = stands
-left-alone (Call.Poll clock reply) n flash j stands away = (by (pollVerdict n (length reply)), tt)
+left-alone (Call.Poll clock events reply) n flash j stands away = (by (pollVerdict n (length events) (length reply)), tt)
   where
-    by : (v : Verdict) → judged v n (lentReply reply) (pollEffect n clock reply) .turn .node .writing ≡ Writing.File j
-    by Verdict.Fine = ap (λ (k : Join). writingAfter k (n .writing)) (poll-quiet n clock reply .join) ∙ stands
+    by : (v : Verdict) → judged v n (lentReply events reply) (pollEffect n clock events reply) .turn .node .writing ≡ Writing.File j
+    by Verdict.Fine = ap (λ (k : Join). writingAfter k (n .writing)) (poll-quiet n clock events reply .join) ∙ stands
+    by (Verdict.No r) = stands
+left-alone (Call.Build clock events) n flash j stands away = (by (buildVerdict n (length events)), tt)
+  where
+    by : (v : Verdict) → judged v n (lentEvents events) (buildEffect n clock) .turn .node .writing ≡ Writing.File j
+    by Verdict.Fine = ap (λ (k : Join). writingAfter k (n .writing)) (build-quiet n clock .join) ∙ stands
     by (Verdict.No r) = stands
 left-alone (Call.Erase budget) n flash j stands away = (by (eraseVerdict n (length flash)), tt)
   where

@@ -68,9 +68,10 @@ call-spared (Call.Start kind ports subdetector program version tests clock) n fl
 call-spared (Call.Request clock link bc errors packet m x reply) n flash s name p o e =
     ⊎-elim (λ q. o (ap erasingSite (sym q) ∙ e)) (λ b. p .erase (b .command, b .named ∙ sym (ap erasingSite (b .begun)) ∙ e) (b .answer))
     (erasure-follows .request n clock link bc errors packet (lent flash m x reply))
-call-spared (Call.Reply clock slave bc errors status address words reply) n flash s name p o e =
-    o (ap erasingSite (sym (erasure-follows .reply n clock slave bc errors status address words reply)) ∙ e)
-call-spared (Call.Poll clock reply) n flash s name p o e = o (ap erasingSite (sym (erasure-follows .poll n clock reply)) ∙ e)
+call-spared (Call.Reply clock slave bc errors status address words events reply) n flash s name p o e =
+    o (ap erasingSite (sym (erasure-follows .reply n clock slave bc errors status address words events reply)) ∙ e)
+call-spared (Call.Poll clock events reply) n flash s name p o e = o (ap erasingSite (sym (erasure-follows .poll n clock events reply)) ∙ e)
+call-spared (Call.Build clock events) n flash s name p o e = o (ap erasingSite (sym (erasure-follows .build n clock events)) ∙ e)
 call-spared (Call.Erase budget) n flash s name p o e = by (isRefused (eraseOf n budget flash .turn .answer)) refl
   where
     by : (t : Bool) → isRefused (eraseOf n budget flash .turn .answer) ≡ t → ⊥
@@ -101,8 +102,9 @@ call-held (Call.Request clock link bc errors packet m x reply) n flash s file so
     attribute : (t : Bool) → (isCommand 0x48 bc packet && eqb (nameOf (getD packet 1 0)) (fileName file)) ≡ t → Held s file (flashOf logodwen (Call.Request clock link bc errors packet m x reply) n flash)
     attribute true a = subst (Held s file) (sym (same (and-left (isCommand 0x48 bc packet) (eqb (nameOf (getD packet 1 0)) (fileName file)) a) a)) h
     attribute false a = by a (verdictOn n link packet (lent flash m x reply))
-call-held (Call.Reply clock slave bc errors status address words reply) n flash s file sound o p h = h
-call-held (Call.Poll clock reply) n flash s file sound o p h = h
+call-held (Call.Reply clock slave bc errors status address words events reply) n flash s file sound o p h = h
+call-held (Call.Poll clock events reply) n flash s file sound o p h = h
+call-held (Call.Build clock events) n flash s file sound o p h = h
 call-held (Call.Erase budget) n flash s file sound o p h = by (eraseVerdict n (length flash))
   where
     by : (v : Verdict) → Held s file (judged v n (lentFlash flash) (eraseEffect n budget flash) .after .flash)

@@ -15,12 +15,17 @@ use Rattle.flash.specs.declared.Erasing.{Erasing}
 use Rattle.group.specs.Slaves.{above}
 use Rattle.qlist.specs.Words.{recordsIn}
 use Rattle.qlist.specs.declared.Listing.{Listing}
+use Rattle.building.specs.Valid.{tallyOk, buildingOk}
+use Rattle.building.specs.Build.{leftIn}
+use Rattle.building.specs.declared.Building.{Building}
+use Rattle.group.specs.declared.Tally.{Tally}
+use Rattle.group.specs.declared.ZeroLength.{ZeroLength}
 use Rattle.node.specs.State.{refusalNumber, turn}
 use Rattle.node.specs.Valid.{sizeOk, kindOk, portsOk, masksOk, erasingOk, askOk, gatheringOk, pendingOk, writingOk, listingOk, stateOk}
-use Rattle.node.specs.Refusals.{firstOf, isPending, isAsked, requestVerdict, replyVerdict, pollVerdict, eraseVerdict, slowVerdict, startVerdict}
-use Rattle.node.specs.Refusals.{Cause as Test, cause as test, flashCause as flashTest, replyCause as replyTest, memoryCause as memoryTest, areaCause as areaTest, listCause as listTest, linkCause as linkTest, slaveCause as slaveTest, stateCause as stateTest, busyCause as busyTest, pollCause as pollTest, unaskedCause as unaskedTest}
+use Rattle.node.specs.Refusals.{firstOf, isPending, isAsked, requestVerdict, replyVerdict, pollVerdict, eraseVerdict, slowVerdict, startVerdict, buildVerdict}
+use Rattle.node.specs.Refusals.{Cause as Test, cause as test, flashCause as flashTest, replyCause as replyTest, memoryCause as memoryTest, areaCause as areaTest, listCause as listTest, linkCause as linkTest, slaveCause as slaveTest, stateCause as stateTest, busyCause as busyTest, pollCause as pollTest, unaskedCause as unaskedTest, eventsCause as eventsTest, buildingCause as buildingTest}
 use Rattle.node.specs.Effect.{Effect, Lent, lent}
-use Rattle.node.specs.Calls.{judged, lentReply, lentFlash, lentList, given, nobody, startBy, startOf, requestOf, replyOf, pollOf, eraseEffect, eraseOf, slowEffect, slowOf}
+use Rattle.node.specs.Calls.{judged, lentReply, lentFlash, lentList, given, nobody, startBy, startOf, requestOf, replyOf, pollOf, eraseEffect, eraseOf, slowEffect, slowOf, buildOf, buildEffect, lentEvents}
 use Rattle.node.specs.Slaves.{replyEffect, pollEffect}
 use Rattle.node.specs.declared.Answer.{Answer}
 use Rattle.node.specs.declared.Ask.{Ask}
@@ -32,12 +37,12 @@ use Rattle.node.specs.declared.Refusal.{Refusal}
 use Rattle.node.specs.declared.Verdict.{Verdict}
 use Rattle.node.specs.declared.Writing.{Writing}
 use Rattle.node.proofs.Ranges.{and-both, mask-below, ranges-told}
-use Rattle.node.proofs.Verdicts.{request-fine, reply-fine, poll-fine, erase-fine, slow-fine}
+use Rattle.node.proofs.Verdicts.{request-fine, reply-fine, poll-fine, erase-fine, slow-fine, build-fine}
 use Rattle.demands.specs.Machine.{logodwen, Call, turnOf, isRefused}
 use Rattle.demands.specs.Reached.{Reached}
-use Rattle.demands.specs.Refusals.{numberOf, Cause, FirstOf, FlashSize, ErasingIn, AskIn, GatheringIn, PendingIn, WritingIn, ListingIn, IsState, IsPending, IsAsked, startCauses, requestCauses, replyCauses, pollCauses, eraseCauses, slowCauses, Exactly, Unchanged, RefusedExactly, NeverRefusedBy5, ZerosRefused}
+use Rattle.demands.specs.Refusals.{numberOf, Cause, FirstOf, FlashSize, ErasingIn, AskIn, GatheringIn, PendingIn, WritingIn, ListingIn, IsState, IsPending, IsAsked, startCauses, requestCauses, replyCauses, pollCauses, eraseCauses, slowCauses, Exactly, Unchanged, RefusedExactly, NeverRefusedBy5, ZerosRefused, TallyIn, BuildingIn, buildCauses}
 use Rattle.demands.proofs.Tests.{Tells, leb-tells, ltb-tells, eqb-tells, yes-tells, no-tells, and-tells, or-tells, not-tells, same-tells}
-use Rattle.demands.proofs.Taken.{verdictOn, requestEffect, request-taken, reply-taken, poll-taken, judged-unchanged}
+use Rattle.demands.proofs.Taken.{verdictOn, requestEffect, request-taken, reply-taken, poll-taken, judged-unchanged, build-taken}
 use Rattle.demands.proofs.Sound.{reached-sound}
 
 -- the tests of a state
@@ -74,10 +79,43 @@ gathering-tells slave g =
     (and-tells (and-tells (and-tells (eqb-tells (g .set / 2 ^ slave % 2) 1) (ltb-tells (g .set) 16777216)) (leb-tells (g .built .words + 5 * (length (above (g .set) slave) + 1) + 2) 12288)) (or-tells (eqb-tells (g .from) 1) (eqb-tells (g .from) 2)))
     (and-tells (leb-tells (g .built .words + g .received .words + 5 * length (above (g .set) slave) + 2) 12288) (or-tells (ltb-tells 0 (g .received .words)) (eqb-tells (g .received .«rx_status») 0))))
 
+tally-tells : (t : Tally) → Tells (tallyOk t) (TallyIn t)
+tally-tells Tally.Nothing = yes-tells
+tally-tells (Tally.Zero ZeroLength.Next) = yes-tells
+tally-tells (Tally.Zero ZeroLength.Abort) = no-tells
+tally-tells (Tally.Zero ZeroLength.Error) = no-tells
+tally-tells (Tally.Zero ZeroLength.End) = no-tells
+tally-tells Tally.Whole = yes-tells
+tally-tells Tally.Mixed = yes-tells
+
+building-tells : (b : Building) → Tells (buildingOk b) (BuildingIn b)
+unfolding buildingOk
+building-tells b =
+    same-tells
+    (λ x. record {
+      member = x .0;
+      short = x .1 .0;
+      most = x .1 .1 .0;
+      asks = (x .1 .1 .1 .0, x .1 .1 .1 .1 .0);
+      tally = x .1 .1 .1 .1 .1 .0 .0;
+      out = x .1 .1 .1 .1 .1 .0 .1;
+      room = x .1 .1 .1 .1 .1 .1 .0;
+      stored = x .1 .1 .1 .1 .1 .1 .1 .0;
+      fresh = x .1 .1 .1 .1 .1 .1 .1 .1;
+    })
+    (λ x. (x .member, (x .short, (x .most, (x .asks .0, (x .asks .1, ((x .tally, x .out), (x .room, (x .stored, x .fresh)))))))))
+    (and-tells (eqb-tells (b .set / 2 ^ b .slave % 2) 1) (and-tells (ltb-tells (b .set) 16777216) (and-tells (leb-tells (b .slave) 23)
+    (and-tells (leb-tells 1 (b .asks)) (and-tells (leb-tells (b .asks) 3)
+    (and-tells (and-tells (tally-tells (b .gathered .built .tally)) (ltb-tells (b .gathered .«left_out») 16777216))
+    (and-tells (leb-tells (b .gathered .built .words + 5 * (leftIn b + 1) + 5) 12288)
+    (and-tells (leb-tells (b .gathered .built .words + b .received .words + 5 * leftIn b + 5) 12288)
+    (or-tells (ltb-tells 0 (b .received .words)) (eqb-tells (b .received .«rx_status») 0))))))))))
+
 pending-tells : (ports : ℕ) (p : Pending) → Tells (pendingOk ports p) (PendingIn ports p)
 pending-tells ports Pending.Nothing = yes-tells
 pending-tells ports (Pending.Slave a) = ask-tells ports a
 pending-tells ports (Pending.Group a g) = and-tells (ask-tells ports a) (gathering-tells (a .slave) g)
+pending-tells ports (Pending.Build b) = building-tells b
 
 writing-tells : (ports : ℕ) (w : Writing) → Tells (writingOk ports w) (WritingIn ports w)
 writing-tells ports Writing.Nothing = yes-tells
@@ -105,33 +143,36 @@ state-tells n =
     let g : Given = n .given in
     same-tells
     (λ x. record {
-      kind = x .0 .0 .0 .0 .0 .0 .0 .0 .0;
-      ports = x .0 .0 .0 .0 .0 .0 .0 .0 .1;
-      subdetector = x .0 .0 .0 .0 .0 .0 .0 .1;
-      size = x .0 .0 .0 .0 .0 .0 .1;
-      mode = x .0 .0 .0 .0 .0 .1;
-      masks = x .0 .0 .0 .0 .1;
-      erasing = x .0 .0 .0 .1;
-      pending = x .0 .0 .1;
-      writing = x .0 .1;
-      listing = x .1;
+      kind = x .0 .0 .0 .0 .0 .0 .0 .0 .0 .0;
+      ports = x .0 .0 .0 .0 .0 .0 .0 .0 .0 .1;
+      subdetector = x .0 .0 .0 .0 .0 .0 .0 .0 .1;
+      size = x .0 .0 .0 .0 .0 .0 .0 .1;
+      mode = x .0 .0 .0 .0 .0 .0 .1;
+      masks = x .0 .0 .0 .0 .0 .1;
+      erasing = x .0 .0 .0 .0 .1;
+      pending = x .0 .0 .0 .1;
+      writing = x .0 .0 .1;
+      listing = x .0 .1;
+      events = x .1;
     })
-    (λ x. (((((((((x .kind, x .ports), x .subdetector), x .size), x .mode), x .masks), x .erasing), x .pending), x .writing), x .listing))
-    (and-tells (and-tells (and-tells (and-tells (and-tells (and-tells
+    (λ x. ((((((((((x .kind, x .ports), x .subdetector), x .size), x .mode), x .masks), x .erasing), x .pending), x .writing), x .listing), x .events))
+    (and-tells (and-tells (and-tells (and-tells (and-tells (and-tells (and-tells
     (and-tells (and-tells (and-tells (kind-tells (g .kind)) (ports-tells (g .ports))) (leb-tells (g .subdetector) 7)) (size-tells (g .«flash_words»)))
     (leb-tells (n .mode) 3)) (masks-tells (n .masks))) (erasing-tells (g .«flash_words») (n .erasing))) (pending-tells (g .ports) (n .pending)))
-    (writing-tells (g .ports) (n .writing))) (listing-tells (n .listing)))
+    (writing-tells (g .ports) (n .writing))) (listing-tells (n .listing))) (leb-tells (n .events .unread) 12288))
 
 -- the tests of the other causes
 busy-tells : (p : Pending) → Tells (isPending p) (IsPending p)
 busy-tells Pending.Nothing = no-tells
 busy-tells (Pending.Slave a) = yes-tells
 busy-tells (Pending.Group a g) = yes-tells
+busy-tells (Pending.Build b) = yes-tells
 
 asked-tells : (p : Pending) (slave : ℕ) → Tells (isAsked p slave) (IsAsked p slave)
 asked-tells Pending.Nothing slave = no-tells
 asked-tells (Pending.Slave a) slave = eqb-tells (a .slave) slave
 asked-tells (Pending.Group a g) slave = eqb-tells (a .slave) slave
+asked-tells (Pending.Build b) slave = eqb-tells (b .slave) slave
 
 flash-tells : (n : Node) (flash : ℕ) → Tells (not (sizeOk flash) || not (eqb flash (n .given .«flash_words»))) ((FlashSize flash → ⊥) ⊎ (flash ≡ n .given .«flash_words» → ⊥))
 flash-tells n flash = or-tells (not-tells (size-tells flash)) (not-tells (eqb-tells flash (n .given .«flash_words»)))
@@ -184,6 +225,9 @@ done-number (Answer.Next s) h = refl
 done-number Answer.Waiting h = refl
 done-number (Answer.Erased count) h = refl
 done-number (Answer.Slow s) h = refl
+done-number (Answer.AskEvent s) h = refl
+done-number Answer.NoEvent h = refl
+done-number (Answer.Built words) h = refl
 
 judged-number : (v : Verdict) (n : Node) (l : Lent) (e : Effect) → isRefused (e .answer) ≡ false → numberOf (judged v n l e .turn .answer) ≡ verdictNumber v
 judged-number Verdict.Fine n l e h = done-number (e .answer) h
@@ -197,7 +241,7 @@ exactly : (tests : List Test) (causes : List Cause) (n : Node) (l : Lent) (e : E
 exactly tests causes n l e t d =
     (numbered (judged (firstOf tests) n l e .turn .answer) tests causes (judged-number (firstOf tests) n l e t) d, judged-unchanged (firstOf tests) n l e t)
 
--- the six calls
+-- the seven calls
 start-exactly : (kind ports subdetector program version tests clock : ℕ) (flash : List ℕ)
     → Exactly (startCauses kind ports subdetector flash) (startOf kind ports subdetector program version tests clock flash .answer)
     × (isRefused (startOf kind ports subdetector program version tests clock flash .answer) ≡ true → startOf kind ports subdetector program version tests clock flash .node ≡ nobody)
@@ -233,7 +277,7 @@ request-exactly n clock link bc errors packet l =
     let dm = length (l .memories .dm) in
     let io = length (l .memories .io) in
     exactly
-    (flashTest n (length (l .flash)) ∷ replyTest (length (l .reply)) ∷ memoryTest pm dm io ∷ areaTest (length (l .further .area)) ∷ listTest n (recordsIn (l .further .list)) ∷ linkTest n link ∷ stateTest n ∷ busyTest n (length packet) ∷ [])
+    (flashTest n (length (l .flash)) ∷ replyTest (length (l .reply)) ∷ memoryTest pm dm io ∷ areaTest (length (l .further .area)) ∷ listTest n (recordsIn (l .further .list)) ∷ eventsTest (length (l .further .events)) ∷ linkTest n link ∷ stateTest n ∷ busyTest n (length packet) ∷ [])
     (requestCauses n link packet l) n l (requestEffect n clock link bc errors packet l) (request-taken n clock link bc errors packet l) (
       (refl, flash-tells n (length (l .flash))),
       (
@@ -245,12 +289,15 @@ request-exactly n clock link bc errors packet l =
             (
               (refl, list-tells n (recordsIn (l .further .list))),
               (
-                (refl, link-tells (n .given .ports) link),
+                (refl, ltb-tells (length (l .further .events)) 12288),
                 (
-                  (refl, not-tells (state-tells n)),
+                  (refl, link-tells (n .given .ports) link),
                   (
-                    (refl, and-tells (busy-tells (n .pending)) (leb-tells 1 (length packet))),
-                    tt,
+                    (refl, not-tells (state-tells n)),
+                    (
+                      (refl, and-tells (busy-tells (n .pending)) (leb-tells 1 (length packet))),
+                      tt,
+                    ),
                   ),
                 ),
               ),
@@ -260,19 +307,25 @@ request-exactly n clock link bc errors packet l =
       ),
     )
 
-reply-exactly : (n : Node) (clock slave bc : ℕ) (errors : Bool) (status address : ℕ) (words reply : List ℕ)
-    → Exactly (replyCauses n slave reply) (replyOf n clock slave bc errors status address words reply .turn .answer) × Unchanged (replyOf n clock slave bc errors status address words reply) n (lentReply reply)
+reply-exactly : (n : Node) (clock slave bc : ℕ) (errors : Bool) (status address : ℕ) (words events reply : List ℕ)
+    → Exactly (replyCauses n slave events reply) (replyOf n clock slave bc errors status address words events reply .turn .answer) × Unchanged (replyOf n clock slave bc errors status address words events reply) n (lentReply events reply)
 unfolding replyOf replyVerdict
-reply-exactly n clock slave bc errors status address words reply =
-    exactly (replyTest (length reply) ∷ slaveTest slave ∷ stateTest n ∷ unaskedTest n slave ∷ []) (replyCauses n slave reply) n (lentReply reply)
-    (replyEffect n clock errors status address bc words reply) (reply-taken n clock errors status address bc words reply)
-    ((refl, ltb-tells (length reply) 12288), ((refl, ltb-tells 23 slave), ((refl, not-tells (state-tells n)), ((refl, not-tells (asked-tells (n .pending) slave)), tt))))
+reply-exactly n clock slave bc errors status address words events reply =
+    exactly (replyTest (length reply) ∷ eventsTest (length events) ∷ slaveTest slave ∷ stateTest n ∷ unaskedTest n slave ∷ []) (replyCauses n slave events reply) n (lentReply events reply)
+    (replyEffect n clock errors status address bc words events reply) (reply-taken n clock errors status address bc words events reply)
+    ((refl, ltb-tells (length reply) 12288), ((refl, ltb-tells (length events) 12288), ((refl, ltb-tells 23 slave), ((refl, not-tells (state-tells n)), ((refl, not-tells (asked-tells (n .pending) slave)), tt)))))
 
-poll-exactly : (n : Node) (clock : ℕ) (reply : List ℕ) → Exactly (pollCauses n reply) (pollOf n clock reply .turn .answer) × Unchanged (pollOf n clock reply) n (lentReply reply)
+poll-exactly : (n : Node) (clock : ℕ) (events reply : List ℕ) → Exactly (pollCauses n events reply) (pollOf n clock events reply .turn .answer) × Unchanged (pollOf n clock events reply) n (lentReply events reply)
 unfolding pollOf pollVerdict
-poll-exactly n clock reply =
-    exactly (replyTest (length reply) ∷ stateTest n ∷ pollTest n ∷ []) (pollCauses n reply) n (lentReply reply) (pollEffect n clock reply) (poll-taken n clock reply)
-    ((refl, ltb-tells (length reply) 12288), ((refl, not-tells (state-tells n)), ((refl, not-tells (busy-tells (n .pending))), tt)))
+poll-exactly n clock events reply =
+    exactly (replyTest (length reply) ∷ eventsTest (length events) ∷ stateTest n ∷ pollTest n ∷ []) (pollCauses n events reply) n (lentReply events reply) (pollEffect n clock events reply) (poll-taken n clock events reply)
+    ((refl, ltb-tells (length reply) 12288), ((refl, ltb-tells (length events) 12288), ((refl, not-tells (state-tells n)), ((refl, not-tells (busy-tells (n .pending))), tt))))
+
+build-exactly : (n : Node) (clock : ℕ) (events : List ℕ) → Exactly (buildCauses n events) (buildOf n clock events .turn .answer) × Unchanged (buildOf n clock events) n (lentEvents events)
+unfolding buildOf buildVerdict
+build-exactly n clock events =
+    exactly (eventsTest (length events) ∷ stateTest n ∷ buildingTest n ∷ []) (buildCauses n events) n (lentEvents events) (buildEffect n clock) (build-taken n clock)
+    ((refl, ltb-tells (length events) 12288), ((refl, not-tells (state-tells n)), ((refl, busy-tells (n .pending)), tt)))
 
 erase-exactly : (n : Node) (budget : ℕ) (flash : List ℕ) → Exactly (eraseCauses n flash) (eraseOf n budget flash .turn .answer) × Unchanged (eraseOf n budget flash) n (lentFlash flash)
 unfolding eraseOf eraseVerdict
@@ -287,7 +340,7 @@ slow-exactly n clock list =
     ((refl, list-tells n (recordsIn list)), ((refl, not-tells (state-tells n)), tt))
 
 pub refused-exactly : RefusedExactly logodwen
-refused-exactly = record { start = start-exactly; request = request-exactly; reply = reply-exactly; poll = poll-exactly; erase = erase-exactly; slow = slow-exactly }
+refused-exactly = record { start = start-exactly; request = request-exactly; reply = reply-exactly; poll = poll-exactly; build = build-exactly; erase = erase-exactly; slow = slow-exactly }
 
 -- a number that is none's whose cause holds is not answered
 abbrev None : List Cause → ℕ → Type 0
@@ -306,12 +359,14 @@ not-5 : (n : Node) → IsState n → (c : Call) (flash : List ℕ) → numberOf 
 not-5 n s (Call.Start kind ports subdetector program version tests clock) flash h =
     first-none (startCauses kind ports subdetector flash) 5 (other 1 refl, (other 4 refl, eqb-false 0 5 refl)) (start-exactly kind ports subdetector program version tests clock flash .0 5 .0 h)
 not-5 n s (Call.Request clock link bc errors packet m x reply) flash h =
-    first-none (requestCauses n link packet (lent flash m x reply)) 5 (other 1 refl, (other 2 refl, (other 3 refl, (other 8 refl, (other 9 refl, (other 4 refl, (λ e k. k s, (other 6 refl, eqb-false 0 5 refl))))))))
+    first-none (requestCauses n link packet (lent flash m x reply)) 5 (other 1 refl, (other 2 refl, (other 3 refl, (other 8 refl, (other 9 refl, (other 11 refl, (other 4 refl, (λ e k. k s, (other 6 refl, eqb-false 0 5 refl)))))))))
     (request-exactly n clock link bc errors packet (lent flash m x reply) .0 5 .0 h)
-not-5 n s (Call.Reply clock slave bc errors status address words reply) flash h =
-    first-none (replyCauses n slave reply) 5 (other 2 refl, (other 4 refl, (λ e k. k s, (other 7 refl, eqb-false 0 5 refl)))) (reply-exactly n clock slave bc errors status address words reply .0 5 .0 h)
-not-5 n s (Call.Poll clock reply) flash h =
-    first-none (pollCauses n reply) 5 (other 2 refl, (λ e k. k s, (other 7 refl, eqb-false 0 5 refl))) (poll-exactly n clock reply .0 5 .0 h)
+not-5 n s (Call.Reply clock slave bc errors status address words events reply) flash h =
+    first-none (replyCauses n slave events reply) 5 (other 2 refl, (other 11 refl, (other 4 refl, (λ e k. k s, (other 7 refl, eqb-false 0 5 refl))))) (reply-exactly n clock slave bc errors status address words events reply .0 5 .0 h)
+not-5 n s (Call.Poll clock events reply) flash h =
+    first-none (pollCauses n events reply) 5 (other 2 refl, (other 11 refl, (λ e k. k s, (other 7 refl, eqb-false 0 5 refl)))) (poll-exactly n clock events reply .0 5 .0 h)
+not-5 n s (Call.Build clock events) flash h =
+    first-none (buildCauses n events) 5 (other 11 refl, (λ e k. k s, (other 6 refl, eqb-false 0 5 refl))) (build-exactly n clock events .0 5 .0 h)
 not-5 n s (Call.Erase budget) flash h =
     first-none (eraseCauses n flash) 5 (other 1 refl, (λ e k. k s, eqb-false 0 5 refl)) (erase-exactly n budget flash .0 5 .0 h)
 not-5 n s (Call.Slow clock list) flash h =
@@ -333,16 +388,18 @@ refused Verdict.Fine n l e h = absurd (h refl)
 refused (Verdict.No r) n l e h = refl
 
 pub zeros-refused : ZerosRefused logodwen
-unfolding requestOf replyOf pollOf eraseOf slowOf
+unfolding requestOf replyOf pollOf buildOf eraseOf slowOf
 zeros-refused (Call.Start kind ports subdetector program version tests clock) t flash = absurd (false≢true (sym t))
 zeros-refused (Call.Request clock link bc errors packet m x reply) t flash =
     refused (verdictOn nobody link packet (lent flash m x reply)) nobody (lent flash m x reply) (requestEffect nobody clock link bc errors packet (lent flash m x reply))
-    (λ e. zeros-state (request-fine nobody link _ _ _ _ _ _ _ _ e .fits .state))
-zeros-refused (Call.Reply clock slave bc errors status address words reply) t flash =
-    refused (replyVerdict nobody slave (length reply)) nobody (lentReply reply) (replyEffect nobody clock errors status address bc words reply)
-    (λ e. zeros-state (reply-fine nobody slave (length reply) e .state))
-zeros-refused (Call.Poll clock reply) t flash =
-    refused (pollVerdict nobody (length reply)) nobody (lentReply reply) (pollEffect nobody clock reply) (λ e. zeros-state (poll-fine nobody (length reply) e .state))
+    (λ e. zeros-state (request-fine nobody link _ _ _ _ _ _ _ _ _ e .fits .state))
+zeros-refused (Call.Reply clock slave bc errors status address words events reply) t flash =
+    refused (replyVerdict nobody slave (length events) (length reply)) nobody (lentReply events reply) (replyEffect nobody clock errors status address bc words events reply)
+    (λ e. zeros-state (reply-fine nobody slave (length events) (length reply) e .state))
+zeros-refused (Call.Poll clock events reply) t flash =
+    refused (pollVerdict nobody (length events) (length reply)) nobody (lentReply events reply) (pollEffect nobody clock events reply) (λ e. zeros-state (poll-fine nobody (length events) (length reply) e .state))
+zeros-refused (Call.Build clock events) t flash =
+    refused (buildVerdict nobody (length events)) nobody (lentEvents events) (buildEffect nobody clock) (λ e. zeros-state (build-fine nobody (length events) e .state))
 zeros-refused (Call.Erase budget) t flash =
     refused (eraseVerdict nobody (length flash)) nobody (lentFlash flash) (eraseEffect nobody budget flash) (λ e. zeros-state (erase-fine nobody (length flash) e .state))
 zeros-refused (Call.Slow clock list) t flash =

@@ -1,15 +1,18 @@
 -- A statement that gives the result as an equation settles it, and so does one that gives it as a record together with what is left in
 -- the lent words: two results equal to one value are equal. Assumes nothing.
+use mathlib.Core.List.{[]}
 use mathlib.Core.Path.{refl, sym, ap, _∙_}
 use Rattle.memory.specs.Command.{Read, Written, Performed}
 use Rattle.memory.specs.Load.{Loaded}
 use Rattle.group.specs.Fragment.{Assembly}
 use Rattle.group.specs.Ending.{Sent}
+use Rattle.event.specs.Taken.{Placed, Taking}
+use Rattle.building.specs.Build.{Moved}
 use Rattle.qlist.specs.Words.{Stepped, Closed, Cleared}
 use Rattle.qlist.specs.Commands.{Changed, Read as ToldRead}
 use Rattle.node.specs.Effect.{Outcome}
 use Rattle.series.specs.Requests.{Came}
-use Rattle.demands.specs.Settled.{BaseSettled, FcsSettled, ImageSettled, FlashSettled, MemorySettled, GroupSettled, ReportSettled, QlistSettled, CaptureSettled, NodeSettled, SeriesSettled, Settled}
+use Rattle.demands.specs.Settled.{BaseSettled, FcsSettled, ImageSettled, FlashSettled, MemorySettled, GroupSettled, EventSettled, BuildingSettled, ReportSettled, QlistSettled, CaptureSettled, NodeSettled, SeriesSettled, Settled}
 
 pub base-settled : BaseSettled
 base-settled =
@@ -126,6 +129,36 @@ group-settled =
       slaves-slaves-above = λ κs given x y v w p q. (p ∙ sym q, refl);
     }
 
+pub event-settled : EventSettled
+event-settled =
+    record {
+      ending-has-data = λ κs given x y v w p q. (p ∙ sym q, refl);
+      ending-error-in = λ κs given x y v w p q. (p ∙ sym q, refl);
+      ending-finish = λ κs given x y v w p q. (ap (λ (o : Sent). o .reply) (p ∙ sym q), λ i. ((p ∙ sym q) i .buffer, v .1));
+      judge-first-said = λ κs given x y v w p q. (p ∙ sym q, refl);
+      judge-in-all = λ κs given x y v w p q. (p ∙ sym q, refl);
+      judge-later-said = λ κs given x y v w p q. (p ∙ sym q, refl);
+      fragment-tallied-in = λ κs given x y v w p q. (p ∙ sym q, refl);
+      fragment-is-whole-in = λ κs given x y v w p q. (p ∙ sym q, refl);
+      fragment-left-out = λ κs given x y v w p q. (p ∙ sym q, refl);
+      fragment-lay-first = λ κs given x y v w p q. (ap (λ (o : Placed). o .words) (p ∙ sym q), λ i. ((p ∙ sym q) i .run, v .1));
+      fragment-gathered-with = λ κs given x y v w p q. (p ∙ sym q, refl);
+      fragment-take-first = λ κs given x y v w p q. (ap (λ (o : Taking). o .gathered) (p ∙ sym q), λ i. (v .0, ((p ∙ sym q) i .rest, v .1 .1)));
+      fragment-lay-later = λ κs given x y v w p q. (ap (λ (o : Placed). o .words) (p ∙ sym q), λ i. ((p ∙ sym q) i .run, v .1));
+      fragment-take-answer = λ κs given x y v w p q. (ap (λ (o : Taking). o .gathered) (p ∙ sym q), λ i. (v .0, ((p ∙ sym q) i .rest, v .1 .1)));
+    }
+
+pub building-settled : BuildingSettled
+building-settled =
+    record {
+      begin = λ κs given x y v w p q. (p ∙ sym q, refl);
+      asks-again = λ κs given x y v w p q. (p ∙ sym q, refl);
+      ask-again = λ κs given x y v w p q. (p ∙ sym q, refl);
+      await-next = λ κs given x y v w p q. (p ∙ sym q, refl);
+      hear = λ κs given x y v w p q. (ap (λ (o : Moved). o .progress) (p ∙ sym q), λ i. (v .0, (v .1 .0, (v .1 .1 .0, (v .1 .1 .1 .0, (v .1 .1 .1 .1 .0, (v .1 .1 .1 .1 .1 .0, ((p ∙ sym q) i .events, v .1 .1 .1 .1 .1 .1 .1))))))));
+      valid-building-ok = λ κs given x y v w p q. (p ∙ sym q, refl);
+    }
+
 pub report-settled : ReportSettled
 report-settled =
     record {
@@ -166,9 +199,10 @@ pub node-settled : NodeSettled
 node-settled =
     record {
       start = λ κs given x y v w p q. (p ∙ sym q, refl);
-      request = λ κs given x y v w p q. (ap (λ (o : Outcome). o .turn) (p ∙ sym q), λ i. (v .0, (v .1 .0, (v .1 .1 .0, (v .1 .1 .1 .0, (v .1 .1 .1 .1 .0, (v .1 .1 .1 .1 .1 .0, ((p ∙ sym q) i .after .flash, ((p ∙ sym q) i .after .memories .pm, ((p ∙ sym q) i .after .memories .dm, ((p ∙ sym q) i .after .memories .io, ((p ∙ sym q) i .after .further .area, ((p ∙ sym q) i .after .further .list, ((p ∙ sym q) i .after .reply, v .1 .1 .1 .1 .1 .1 .1 .1 .1 .1 .1 .1 .1))))))))))))));
-      reply = λ κs given x y v w p q. (ap (λ (o : Outcome). o .turn) (p ∙ sym q), λ i. (v .0, (v .1 .0, (v .1 .1 .0, (v .1 .1 .1 .0, (v .1 .1 .1 .1 .0, (v .1 .1 .1 .1 .1 .0, (v .1 .1 .1 .1 .1 .1 .0, (v .1 .1 .1 .1 .1 .1 .1 .0, ((p ∙ sym q) i .after .reply, v .1 .1 .1 .1 .1 .1 .1 .1 .1))))))))));
-      poll = λ κs given x y v w p q. (ap (λ (o : Outcome). o .turn) (p ∙ sym q), λ i. (v .0, (v .1 .0, ((p ∙ sym q) i .after .reply, v .1 .1 .1))));
+      request = λ κs given x y v w p q. (ap (λ (o : Outcome). o .turn) (p ∙ sym q), λ i. (v .0, (v .1 .0, (v .1 .1 .0, (v .1 .1 .1 .0, (v .1 .1 .1 .1 .0, (v .1 .1 .1 .1 .1 .0, ((p ∙ sym q) i .after .flash, ((p ∙ sym q) i .after .memories .pm, ((p ∙ sym q) i .after .memories .dm, ((p ∙ sym q) i .after .memories .io, ((p ∙ sym q) i .after .further .area, ((p ∙ sym q) i .after .further .list, (v .1 .1 .1 .1 .1 .1 .1 .1 .1 .1 .1 .1 .0, ((p ∙ sym q) i .after .reply, v .1 .1 .1 .1 .1 .1 .1 .1 .1 .1 .1 .1 .1 .1)))))))))))))));
+      reply = λ κs given x y v w p q. (ap (λ (o : Outcome). o .turn) (p ∙ sym q), λ i. (v .0, (v .1 .0, (v .1 .1 .0, (v .1 .1 .1 .0, (v .1 .1 .1 .1 .0, (v .1 .1 .1 .1 .1 .0, (v .1 .1 .1 .1 .1 .1 .0, (v .1 .1 .1 .1 .1 .1 .1 .0, ((p ∙ sym q) i .after .further .events, ((p ∙ sym q) i .after .reply, v .1 .1 .1 .1 .1 .1 .1 .1 .1 .1)))))))))));
+      poll = λ κs given x y v w p q. (ap (λ (o : Outcome). o .turn) (p ∙ sym q), λ i. (v .0, (v .1 .0, ((p ∙ sym q) i .after .further .events, ((p ∙ sym q) i .after .reply, v .1 .1 .1 .1)))));
+      build = λ κs given x y v w p q. (ap (λ (o : Outcome). o .turn) (p ∙ sym q), refl);
       erase = λ κs given x y v w p q. (ap (λ (o : Outcome). o .turn) (p ∙ sym q), λ i. (v .0, (v .1 .0, ((p ∙ sym q) i .after .flash, v .1 .1 .1))));
       slow = λ κs given x y v w p q. (ap (λ (o : Outcome). o .turn) (p ∙ sym q), λ i. (v .0, (v .1 .0, ((p ∙ sym q) i .after .further .list, v .1 .1 .1))));
       refusals-refusal-number = λ κs given x y v w p q. (p ∙ sym q, refl);
@@ -177,6 +211,7 @@ node-settled =
       refusals-request-verdict = λ κs given x y v w p q. (p ∙ sym q, refl);
       refusals-reply-verdict = λ κs given x y v w p q. (p ∙ sym q, refl);
       refusals-poll-verdict = λ κs given x y v w p q. (p ∙ sym q, refl);
+      refusals-build-verdict = λ κs given x y v w p q. (p ∙ sym q, refl);
       refusals-erase-verdict = λ κs given x y v w p q. (p ∙ sym q, refl);
       refusals-slow-verdict = λ κs given x y v w p q. (p ∙ sym q, refl);
       refusals-start-verdict = λ κs given x y v w p q. (p ∙ sym q, refl);
@@ -201,6 +236,11 @@ node-settled =
       valid-kind-ok = λ κs given x y v w p q. (p ∙ sym q, refl);
       valid-ports-ok = λ κs given x y v w p q. (p ∙ sym q, refl);
       valid-state-ok = λ κs given x y v w p q. (p ∙ sym q, refl);
+      eventing-next-number = λ κs given x y v w p q. (p ∙ sym q, refl);
+      eventing-all-read = λ κs given x y v w p q. (p ∙ sym q, refl);
+      eventing-hand-out = λ κs given x y v w p q. (p ∙ sym q, refl);
+      eventing-raise = λ κs given x y v w p q. (ap (λ (o : Outcome). o .turn) (p [] [] [] ∙ sym (q [] [] [])), refl);
+      eventing-take-build = λ κs given x y v w p q. (ap (λ (o : Outcome). o .turn) (p [] ∙ sym (q [])), refl);
     }
 
 pub series-settled : SeriesSettled
@@ -208,7 +248,7 @@ series-settled =
     record {
       fits = λ κs given x y v w p q. (p ∙ sym q, refl);
       is-left = λ κs given x y v w p q. (p ∙ sym q, refl);
-      requests = λ κs given x y v w p q. (ap (λ (c : Came). c .series) (p ∙ sym q), λ i. (v .0, (v .1 .0, (v .1 .1 .0, ((p ∙ sym q) i .after .flash, ((p ∙ sym q) i .after .memories .pm, ((p ∙ sym q) i .after .memories .dm, ((p ∙ sym q) i .after .memories .io, ((p ∙ sym q) i .after .further .area, ((p ∙ sym q) i .after .further .list, ((p ∙ sym q) i .after .reply, v .1 .1 .1 .1 .1 .1 .1 .1 .1 .1)))))))))));
+      requests = λ κs given x y v w p q. (ap (λ (c : Came). c .series) (p ∙ sym q), λ i. (v .0, (v .1 .0, (v .1 .1 .0, ((p ∙ sym q) i .after .flash, ((p ∙ sym q) i .after .memories .pm, ((p ∙ sym q) i .after .memories .dm, ((p ∙ sym q) i .after .memories .io, ((p ∙ sym q) i .after .further .area, ((p ∙ sym q) i .after .further .list, (v .1 .1 .1 .1 .1 .1 .1 .1 .1 .0, ((p ∙ sym q) i .after .reply, v .1 .1 .1 .1 .1 .1 .1 .1 .1 .1 .1))))))))))));
     }
 
 pub settled : Settled
@@ -220,6 +260,8 @@ settled =
       flash = flash-settled;
       memory = memory-settled;
       group = group-settled;
+      event = event-settled;
+      building = building-settled;
       report = report-settled;
       qlist = qlist-settled;
       capture = capture-settled;

@@ -211,8 +211,9 @@ call-single (Call.Request clock link bc errors packet m x reply) n flash sound h
         why-single (requestEffect n clock link bc errors packet (lent flash m x reply) .change) n link bc packet (lent flash m x reply) (sound .fresh .summary)
         (request-why n link bc packet (lent flash m x reply) clock errors .0) h
     by (Verdict.No r) = h
-call-single (Call.Reply clock slave bc errors status address words reply) n flash sound h = h
-call-single (Call.Poll clock reply) n flash sound h = h
+call-single (Call.Reply clock slave bc errors status address words events reply) n flash sound h = h
+call-single (Call.Poll clock events reply) n flash sound h = h
+call-single (Call.Build clock events) n flash sound h = h
 call-single (Call.Erase budget) n flash sound h = by (eraseVerdict n (length flash))
   where
     by : (v : Verdict) → Single (judged v n (lentFlash flash) (eraseEffect n budget flash) .after .flash)

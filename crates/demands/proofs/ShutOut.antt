@@ -1,6 +1,6 @@
 -- Each wrong node fails: the refusing one where ours takes a call, the others on the closed run, on a blank flash that is written to, on a flash
 -- of zeros of which a sector is erased, or with a group of one slave that answers in packets. Assumes nothing.
-use Prim.Native.Nat.{ℕ, zero, suc, _+_, _*_, _≤_, _<_}
+use Prim.Native.Nat.{ℕ, zero, suc, min, _+_, _*_, _%_, _≤_, _<_}
 use mathlib.Core.Path.{_≡_, refl, sym, ap, _∙_, subst}
 use mathlib.Core.Logic.{_⊎_, inl, inr, ⊎-elim}
 use mathlib.Core.Bool.{Bool, true, false, false≢true}
@@ -43,26 +43,33 @@ use Rattle.group.specs.Whole.{fragmentsOf, kindsOf, joined, assembled, dataRepl
 use Rattle.group.specs.declared.Kind.{Kind}
 use Rattle.group.specs.declared.Reply.{Reply}
 use Rattle.group.specs.declared.Tally.{Tally}
+use Rattle.event.specs.Said.{saidOf}
+use Rattle.event.specs.Taken.{placed, takenIn as takenInto}
+use Rattle.event.specs.Ending.{eventEnd}
+use Rattle.building.specs.Build.{begun as buildBegun, asksAgain as askedAgain, hearsIn}
+use Rattle.building.specs.Valid.{buildingOk}
 use Rattle.qlist.specs.Entry.{advancedOf, toldOf, isOwn}
 use Rattle.qlist.specs.Words.{listing, entryIn, putIn, stepIn, closeFrom}
 use Rattle.qlist.specs.Commands.{isWrite, allOwn, broughtBy, addFrom, canWrite, writeIn, deleteIn}
 use Rattle.qlist.specs.Laws.{total, brings}
-use Rattle.node.specs.State.{refusalNumber, turn, joining, withPending, withWriting, withListing}
+use Rattle.node.specs.State.{refusalNumber, turn, joining, known, withPending, withWriting, withListing}
 use Rattle.node.specs.Valid.{masksOk, stateOk}
-use Rattle.node.specs.Refusals.{startVerdict, requestVerdict, eraseVerdict, replyVerdict, slowVerdict, isPending}
+use Rattle.node.specs.Refusals.{startVerdict, requestVerdict, eraseVerdict, replyVerdict, pollVerdict, buildVerdict, slowVerdict, isPending}
 use Rattle.node.specs.Route.{asking, writes, groupFrom, addressed, routeOf}
 use Rattle.node.specs.Files.{namedBy, readOf, fileWriteOf, loadOf, toErase, eraseStartOf}
 use Rattle.node.specs.Settings.{statusIn as ownStatusIn, modeReadOf}
 use Rattle.node.specs.Lists.{listWriteOf, listDeleteOf}
+use Rattle.node.specs.Events.{eventReadOf}
 use Rattle.node.specs.Own.{settingsOf, filesOf, listsOf, ownOf}
-use Rattle.node.specs.Calls.{routed, startOf, requestOf, eraseOf, replyOf, pollOf, slowOf}
+use Rattle.node.specs.Calls.{judged, routed, lentEvents, startOf, requestOf, eraseOf, replyOf, pollOf, buildEffect, buildOf, slowOf}
 use Rattle.node.specs.Effect.{Lent, Outcome, outcome, applied, lent, further}
-use Rattle.node.specs.Slaves.{ask, received, nothingReceived, gathering, askedAt, replyEffect}
+use Rattle.node.specs.Slaves.{ask, received, nothingReceived, gathering, askedAt, replyEffect, pollEffect}
 use Rattle.node.specs.declared.Answer.{Answer}
 use Rattle.node.specs.declared.Node.{Node}
 use Rattle.node.specs.declared.Pending.{Pending}
 use Rattle.node.specs.declared.Refusal.{Refusal}
 use Rattle.node.specs.declared.Turn.{Turn}
+use Rattle.node.specs.declared.Verdict.{Verdict}
 use Rattle.node.specs.declared.Writing.{Writing}
 use Rattle.node.proofs.Directories.{some-words}
 use Rattle.series.specs.Packets.{fitFrom, packetsFrom, fits, packetsIn}
@@ -73,20 +80,24 @@ use Rattle.demands.specs.Reached.{stateAfter, Step, Reached, NoStaleReco
 use Rattle.demands.specs.Refusals.{numberOf, RefusedExactly}
 use Rattle.demands.specs.Anchors.{blank, file}
 use Rattle.demands.specs.Files.{fileName, Unused, Takes, IsFile, Writes, ReadsBack, NeverCorrupted, Shared, SeveralAbort, Single, StaysSingle, FlashFollows}
+use Rattle.demands.specs.Built.{Sight, sightOf, Held, Seen, seen, seenBy, Watched, EventNumbers, HandsOut, HandedOutOnce, BuildErrors}
+use Rattle.demands.specs.Builds.{OneAtATime}
 use Rattle.demands.specs.Packets.{Sent, AnyDivision, LeftAlone}
 use Rattle.demands.specs.Events.{Event, Host, host, stepped, hosted, Undropped, asked, heards}
 use Rattle.demands.specs.Groups.{isGroup, StartsFull, GroupRun, packetsStored, begun as groupBegun, atLast, slaves, said, Ascending, GroupIsItsFragments, PacketsStore}
 use Rattle.demands.specs.Ends.{pendingIn, unfinishedIn, isTaken, takenIn, Ticking, Timed, askedTick, EachLowersOrStores, AlwaysEnds, NeverAskedTwice, SettledInTime}
 use Rattle.demands.specs.ClosedRun.{with, started, written, ClosedRun}
 use Rattle.demands.specs.Listing.{handsOut, ListStep, Listed, RepetitionsConserved, TurnInOrder, writesOne, DueAcrossWrap}
-use Rattle.demands.specs.ShutOut.{refusing, unstarted, disorderly, aborting, constant, idle, lying, denying, judging, hoarding, mixing, empty, sealing, hurrying, counting, insisting, waitsOn, patient, losing, skipping, greater, quitting, eager, loader, hasty, boasting, dropping, rogue, scanning, remembering, measuring, overlooking, choosing, doubling, ShutOut}
+use Rattle.demands.specs.ShutOut.{refusing, unstarted, disorderly, aborting, constant, idle, lying, denying, judging, hoarding, mixing, empty, sealing, hurrying, counting, insisting, waitsOn, patient, losing, skipping, greater, quitting, eager, loader, hasty, boasting, dropping, rogue, scanning, remembering, measuring, overlooking, choosing, doubling, ShutOut, numbering, repeating, forgiving, impatient}
 use Rattle.demands.specs.Series.{OneByOne, Whole, countIn, ListRefused}
 use Rattle.demands.specs.Flash.{countOf, Course, HasSet, ErasureFollows, Erases}
+use Rattle.demands.proofs.BuildShutOut.{forgets, hides, begs}
 use Rattle.demands.proofs.Refusals.{refused-exactly}
 use Rattle.demands.proofs.Held.{named-blank}
 use Rattle.demands.proofs.Slaves.{up, slaves-up}
 use Rattle.demands.proofs.ClosedRun.{closed-run}
 use Rattle.demands.proofs.NoStaleRecord.{no-stale-record}
+use Rattle.demands.proofs.Taken.{build-taken}
 use Rattle.demands.proofs.Commands.{bcIn, wordsIn}
 
 -- no refusal has the number 0
@@ -101,6 +112,7 @@ not-done Refusal.Unasked e = omega arith
 not-done Refusal.AreaSize e = omega arith
 not-done Refusal.ListSize e = omega arith
 not-done Refusal.Overrun e = omega arith
+not-done Refusal.EventsSize e = omega arith
 
 -- an erase-progress call that ours takes
 taken : eraseOf (started logodwen .node) 0 blank .turn .answer ≡ Answer.Erased 0
@@ -154,7 +166,7 @@ first M e = Reached.First 2 4 0 0 0 0 0 blank (ap (λ (x : Turn). isRefused (x .
 
 first-write : (M : Machine) → started M ≡ started logodwen → isRefused (written M .turn .answer) ≡ false → Writes M → written M .turn .answer ≡ end
 first-write M e t w =
-    w (started M .node) blank (first M e) (ap (λ (x : Turn). x .node .erasing) e ∙ not-erasing) 0 0 3 false (0x452E ∷ file) (memories [] [] []) (further (replicate 32768 0) []) (replicate 12288 0) refl
+    w (started M .node) blank (first M e) (ap (λ (x : Turn). x .node .erasing) e ∙ not-erasing) 0 0 3 false (0x452E ∷ file) (memories [] [] []) (further (replicate 32768 0) [] (replicate 12288 0)) (replicate 12288 0) refl
     (record { taken = t; clean = refl; least = leb-true 1 6 refl; most = leb-true 6 8192 refl; free = λ _. ap (λ (x : Turn). writes (x .node .writing) 0) e ∙ not-writing })
     file-valid (blank-unused (fileName file)) 3 blank-takes
 
@@ -173,7 +185,7 @@ words-16 (suc (suc (suc (suc (suc (suc i)))))) = ltb-true 0 65536 refl
 -- a blank flash does not have the file laid in a sector
 changes-nothing : ReadsBack idle → ⊥
 changes-nothing w =
-    let o = w (started idle .node) blank (first idle refl) 0 0 3 false (0x452E ∷ file) (memories [] [] []) (further (replicate 32768 0) []) (replicate 12288 0) words-16 refl (closed-run .writes) in
+    let o = w (started idle .node) blank (first idle refl) 0 0 3 false (0x452E ∷ file) (memories [] [] []) (further (replicate 32768 0) [] (replicate 12288 0)) (replicate 12288 0) words-16 refl (closed-run .writes) in
     let at : ℕ = sectorStart (unitOf blank) (o .sector) in
     let size : length blank ≡ 32768 = length-replicate {A = ℕ} 32768 0xFFFF in
     let fits = sector-fits (unitOf blank) (o .sector) in
@@ -193,7 +205,7 @@ word-16 (suc i) = ltb-true 0 65536 refl
 stores-nothing : ReadsBack lying → ⊥
 unfolding laid headerOk fileEnd masksOk stateOk startVerdict requestVerdict addressed routeOf fileWriteOf filesOf ownOf startOf requestOf
 stores-nothing w =
-    no-file (w (started lying .node) blank (first lying refl) 0 0 3 false (0x452E ∷ []) (memories [] [] []) (further (replicate 32768 0) []) (replicate 12288 0) word-16 refl refl .valid)
+    no-file (w (started lying .node) blank (first lying refl) 0 0 3 false (0x452E ∷ []) (memories [] [] []) (further (replicate 32768 0) [] (replicate 12288 0)) (replicate 12288 0) word-16 refl refl .valid)
   where
     no-file : End.Invalid ≡ End.At 0 → ⊥
     no-file e = let z : _≡_ {A = ℕ} 0 1 = cc in omega arith
@@ -211,24 +223,27 @@ true-directory n flash r = by r
         pick-case (Fresh f) (isRefused (startOf kind ports subdetector program version tests clock f .answer)) (λ _. k)
         (λ h. no-stale-record _ f (Reached.First kind ports subdetector program version tests clock f h))
     made (Call.Request clock link bc errors packet memory x reply) m f k = k
-    made (Call.Reply clock slave bc errors status address words reply) m f k = k
-    made (Call.Poll clock reply) m f k = k
+    made (Call.Reply clock slave bc errors status address words events reply) m f k = k
+    made (Call.Poll clock events reply) m f k = k
+    made (Call.Build clock events) m f k = k
     made (Call.Erase budget) m f k = k
     made (Call.Slow clock list) m f k = k
 
     stray : (c : Call) (m : Node) (f other : List ℕ) → isRefused (turnOf idle c m other .answer) ≡ true → Fresh f m → Fresh f (stateAfter idle c m other)
     stray (Call.Start kind ports subdetector program version tests clock) m f other h k = subst (Fresh f) (yes _ h refl) k
     stray (Call.Request clock link bc errors packet memory x reply) m f other h k = k
-    stray (Call.Reply clock slave bc errors status address words reply) m f other h k = k
-    stray (Call.Poll clock reply) m f other h k = k
+    stray (Call.Reply clock slave bc errors status address words events reply) m f other h k = k
+    stray (Call.Poll clock events reply) m f other h k = k
+    stray (Call.Build clock events) m f other h k = k
     stray (Call.Erase budget) m f other h k = k
     stray (Call.Slow clock list) m f other h k = k
 
     kept : (c : Call) (m : Node) (f : List ℕ) (other : Node) → Fresh f m → Fresh (flashOf idle c other f) m
     kept (Call.Start kind ports subdetector program version tests clock) m f other k = k
     kept (Call.Request clock link bc errors packet memory x reply) m f other k = k
-    kept (Call.Reply clock slave bc errors status address words reply) m f other k = k
-    kept (Call.Poll clock reply) m f other k = k
+    kept (Call.Reply clock slave bc errors status address words events reply) m f other k = k
+    kept (Call.Poll clock events reply) m f other k = k
+    kept (Call.Build clock events) m f other k = k
     kept (Call.Erase budget) m f other k = k
     kept (Call.Slow clock list) m f other k = k
 
@@ -297,7 +312,7 @@ drops-erasure : Erases dropping → ⊥
 unfolding zeros zeroed packet modeRead begun laid headerOk fileEnd isSector bySector sectorOf isEmpty statusOf statusIn fourthWord entryOf entryFor entriesFrom directoryOf entered firstFrom masksOk stateOk startVerdict requestVerdict addressed routeOf sectorAt eraseStartOf filesOf ownOf startOf requestOf
 drops-erasure w =
     not-erased (w .sets zeroed 0 0 3 false packet (with zeros) 3 refl refl third _ _ _ _
-    (Course.Then Course.Begun some-size (Step.Made (Call.Request 0 0 3 false modeRead (memories [] [] []) (further (replicate 32768 0) []) (replicate 12288 0)) mode-16) refl) .going some-size)
+    (Course.Then Course.Begun some-size (Step.Made (Call.Request 0 0 3 false modeRead (memories [] [] []) (further (replicate 32768 0) [] (replicate 12288 0)) (replicate 12288 0)) mode-16) refl) .going some-size)
   where
     not-erased : {p : Progress} → Erasing.Nothing ≡ Erasing.Sector p → ⊥
     not-erased e = let z : _≡_ {A = ℕ} 0 1 = cc in omega arith
@@ -322,7 +337,7 @@ judges-first w = eqb-false 2 0 refl (ap bcIn (w .first (started logodwen .node) 
 joins-header : AnyDivision hoarding → ⊥
 unfolding masksOk stateOk startVerdict requestVerdict routeOf startOf requestOf
 joins-header w =
-    eqb-false 1 0 refl (ap (λ (n : Node). joinedIn (n .writing)) (w .stands 0 (started logodwen .node) blank (replicate 32768 0) refl _ _ _ _ (Sent.First 0 2 [] (memories [] [] []) [] (replicate 12288 0) _ refl (leb-true 0 8191 refl) refl refl) .0))
+    eqb-false 1 0 refl (ap (λ (n : Node). joinedIn (n .writing)) (w .stands 0 (started logodwen .node) blank (replicate 32768 0) refl _ _ _ _ (Sent.First 0 2 [] (memories [] [] []) [] (replicate 12288 0) (replicate 12288 0) _ refl (leb-true 0 8191 refl) refl refl) .0))
 
 standing : Node
 standing = withWriting (started logodwen .node) (Writing.File (joining 0 0))
@@ -331,12 +346,16 @@ mixes-links : LeftAlone mixing → ⊥
 unfolding standing masksOk stateOk startVerdict requestVerdict routeOf startOf requestOf
 mixes-links w =
     eqb-false 1 0 refl
-    (ap joinedIn (w (Call.Request 0 1 0 false (0 ∷ []) (memories [] [] []) (further (replicate 32768 0) []) (replicate 12288 0)) standing blank (joining 0 0) refl refl .0))
+    (ap joinedIn (w (Call.Request 0 1 0 false (0 ∷ []) (memories [] [] []) (further (replicate 32768 0) [] (replicate 12288 0)) (replicate 12288 0)) standing blank (joining 0 0) refl refl .0))
 
 -- mask 0 after the start of a CDDC
 starts-empty : StartsFull empty → ⊥
 unfolding startVerdict startOf
 starts-empty w = eqb-false 0 0xFFFFFF refl (w 2 4 0 0 0 0 0 blank refl 0)
+
+-- an event area of zeros
+abbrev room : List ℕ
+room = replicate 12288 0
 
 -- a group of slave 23 alone, asked at clock 0
 groupPacket : List ℕ
@@ -421,7 +440,7 @@ module _ (M : Machine) (same : M .request (started logodwen .node) 0 0 3 false g
 
 -- a reply whole with its second packet: where its fragment has its status word, 8017, the FCS stands
 wholeReply : List Event
-wholeReply = Event.Replied 1 23 2 false 0 0 (0 ∷ []) ∷ Event.Replied 2 23 1 false 0 0 (fcsOf (0 ∷ []) ∷ []) ∷ []
+wholeReply = Event.Replied 1 23 2 false 0 0 (0 ∷ []) room ∷ Event.Replied 2 23 1 false 0 0 (fcsOf (0 ∷ []) ∷ []) room ∷ []
 
 whole-kept : Undropped 0 wholeReply
 unfolding Undropped wholeReply
@@ -459,11 +478,12 @@ seals-twice w =
 -- a packet stored at clock 1, of a slave asked at 0
 hurries : PacketsStore hurrying → ⊥
 unfolding waiting laid isLate slavesFrom partBy masksOk stateOk startVerdict replyVerdict replyEffect startOf replyOf
-hurries w = eqb-false 0 1 refl (ap askedAt (w waiting 1 23 2 false 0 0 (0 ∷ []) (replicate 12288 0) 23 refl .1 .now))
+hurries w = ⊎-elim (λ x. eqb-false 0 1 refl (ap askedAt (x .now))) (λ x. eqb-false 0 1 refl (ap askedAt (x .now)))
+    (w waiting 1 23 2 false 0 0 (0 ∷ []) room (replicate 12288 0) 23 refl .1)
 
 -- a second packet of two words that comes too late: one word was received
 lateReply : List Event
-lateReply = Event.Replied 1 23 2 false 0 0 (0 ∷ []) ∷ Event.Replied 61 23 1 false 0 0 (0 ∷ 0 ∷ []) ∷ []
+lateReply = Event.Replied 1 23 2 false 0 0 (0 ∷ []) room ∷ Event.Replied 61 23 1 false 0 0 (0 ∷ 0 ∷ []) room ∷ []
 
 late-kept : Undropped 0 lateReply
 unfolding Undropped lateReply
@@ -498,7 +518,7 @@ counts-late w =
 
 -- an answer with receive errors: slave 23 is asked twice
 withErrors : List Event
-withErrors = Event.Replied 1 23 3 true 0 0 (0 ∷ []) ∷ []
+withErrors = Event.Replied 1 23 3 true 0 0 (0 ∷ []) room ∷ []
 
 errors-kept : Undropped 0 withErrors
 unfolding Undropped withErrors
@@ -518,11 +538,11 @@ asks-again w =
 
 -- a first packet, and then polls at 61, however many: what is pending stays
 firstPacket : Event
-firstPacket = Event.Replied 1 23 2 false 0 0 (0 ∷ [])
+firstPacket = Event.Replied 1 23 2 false 0 0 (0 ∷ []) room
 
 latePolls : ℕ → List Event
 latePolls zero = []
-latePolls (suc n) = Event.Polled 61 ∷ latePolls n
+latePolls (suc n) = Event.Polled 61 room ∷ latePolls n
 
 awaitsMore : Pending
 awaitsMore = Pending.Group (ask 0 23 1) (gathering 0x800000 2 (built 0 Tally.Nothing) (received 1 0))
@@ -537,13 +557,13 @@ unfolding Undropped firstPacket
 packet-kept n = (refl, polls-kept n)
 
 module _ (h : Host) (e : pendingIn h ≡ awaitsMore) where
-  stays : pendingIn (stepped patient (Event.Polled 61) h) ≡ awaitsMore
+  stays : pendingIn (stepped patient (Event.Polled 61 room) h) ≡ awaitsMore
   unfolding awaitsMore
-  stays = ap (λ (p : Pending). waitsOn p (h .turn .node) (h .buffer) (pollOf (h .turn .node) 61 (h .buffer)) .turn .node .pending) e ∙ e
+  stays = ap (λ (p : Pending). waitsOn p (h .turn .node) room (h .buffer) (pollOf (h .turn .node) 61 room (h .buffer)) .turn .node .pending) e ∙ e
 
-  late-taken : isTaken (Event.Polled 61) (pendingIn h) ≡ true
+  late-taken : isTaken (Event.Polled 61 room) (pendingIn h) ≡ true
   unfolding awaitsMore isLate
-  late-taken = ap (isTaken (Event.Polled 61)) e
+  late-taken = ap (isTaken (Event.Polled 61 room)) e
 
   more-pending : isPending (pendingIn h) ≡ true
   unfolding awaitsMore
@@ -553,15 +573,15 @@ stays-on : (n : ℕ) (h : Host) → pendingIn h ≡ awaitsMore → pendingIn (ho
 unfolding hosted latePolls
 stays-on zero h e = e
 stays-on (suc n) h e =
-    ap (λ (b : Bool). pendingIn (pick b (hosted patient (latePolls n) (stepped patient (Event.Polled 61) h)) h)) (more-pending h e)
-    ∙ stays-on n (stepped patient (Event.Polled 61) h) (stays h e)
+    ap (λ (b : Bool). pendingIn (pick b (hosted patient (latePolls n) (stepped patient (Event.Polled 61 room) h)) h)) (more-pending h e)
+    ∙ stays-on n (stepped patient (Event.Polled 61 room) h) (stays h e)
 
 all-taken : (n : ℕ) (h : Host) → pendingIn h ≡ awaitsMore → takenIn patient (latePolls n) h ≡ n
 unfolding takenIn latePolls
 all-taken zero h e = refl
 all-taken (suc n) h e =
-    let next = all-taken n (stepped patient (Event.Polled 61) h) (stays h e) in
-    (λ i. pick (more-pending h e i) (pick (late-taken h e i) 1 0 + takenIn patient (latePolls n) (stepped patient (Event.Polled 61) h)) 0) ∙ omega (arith, next)
+    let next = all-taken n (stepped patient (Event.Polled 61 room) h) (stays h e) in
+    (λ i. pick (more-pending h e i) (pick (late-taken h e i) 1 0 + takenIn patient (latePolls n) (stepped patient (Event.Polled 61 room) h)) 0) ∙ omega (arith, next)
 
 -- the packet is stored and counts as one
 packet-stored : pendingIn (stepped patient firstPacket asked-host) ≡ awaitsMore
@@ -593,7 +613,7 @@ waits-on : EachLowersOrStores patient → ⊥
 waits-on w =
     let h : Host = atLast (waiting-run 0) in
     let e = stays-pending 0 in
-    let st = w (waiting-run 0) (more-pending h e) (Event.Polled 61) refl in
+    let st = w (waiting-run 0) (more-pending h e) (Event.Polled 61 room) refl in
     let falls = st .finishes (late-taken h e) refl in
     omega (arith, falls, ap unfinishedIn (stays h e ∙ sym e))
 
@@ -605,7 +625,7 @@ waits-for-ever w =
 
 -- polls at 60 and 120: at 121 the NEXT of 1 still stands
 polledTwice : List Event
-polledTwice = firstPacket ∷ Event.Polled 60 ∷ Event.Polled 120 ∷ []
+polledTwice = firstPacket ∷ Event.Polled 60 room ∷ Event.Polled 120 room ∷ []
 
 twice-kept : Undropped 0 polledTwice
 unfolding Undropped polledTwice firstPacket
@@ -749,9 +769,9 @@ doubles : StaysSingle doubling → ⊥
 unfolding again isSector
 doubles w =
     let one : Step doubling (started doubling .node) blank (written doubling .turn .node) (written doubling .after .flash) =
-    Step.Made (Call.Request 0 0 3 false (0x452E ∷ file) (memories [] [] []) (further (replicate 32768 0) []) (replicate 12288 0)) words-16 in
+    Step.Made (Call.Request 0 0 3 false (0x452E ∷ file) (memories [] [] []) (further (replicate 32768 0) [] (replicate 12288 0)) (replicate 12288 0)) words-16 in
     let two : Step doubling (written doubling .turn .node) (written doubling .after .flash) (again .turn .node) (again .after .flash) =
-    Step.Made (Call.Request 0 0 3 false (0x452E ∷ file) (memories [] [] []) (further (replicate 32768 0) []) (replicate 12288 0)) words-16 in
+    Step.Made (Call.Request 0 0 3 false (0x452E ∷ file) (memories [] [] []) (further (replicate 32768 0) [] (replicate 12288 0)) (replicate 12288 0)) words-16 in
     let single = w (started doubling .node) blank (first doubling refl) blank-single (written doubling .turn .node) (written doubling .after .flash) one in
     eqb-false 3 4 refl (w (written doubling .turn .node) (written doubling .after .flash) (Reached.Then (first doubling refl) one) single (again .turn .node) (again .after .flash) two 0x42 3 4 refl refl in-third in-fourth)
 
@@ -774,20 +794,20 @@ refuses-start : (r : Refusal) → RefusedExactly (unstarted r) → ⊥
 refuses-start r w = not-done r (w .start 2 4 0 0 0 0 0 blank .0 0 .1 (refused-exactly .start 2 4 0 0 0 0 0 blank .0 0 .0 (ap numberOf (closed-run .begins))))
 
 -- a reply from slave 24 with no reply buffer: ours is refused by 2, which comes first
-refused-by-2 : (n : Node) → numberOf (replyOf n 0 24 0 false 0 0 [] [] .turn .answer) ≡ 2
+refused-by-2 : (n : Node) → numberOf (replyOf n 0 24 0 false 0 0 [] [] [] .turn .answer) ≡ 2
 unfolding replyOf replyVerdict
 refused-by-2 n = refl
 
 refuses-out-of-order : RefusedExactly disorderly → ⊥
 refuses-out-of-order w =
     let n : Node = started logodwen .node in
-    let e : _≡_ {A = ℕ} 4 2 = w .reply n 0 24 0 false 0 0 [] [] .0 2 .1 (refused-exactly .reply n 0 24 0 false 0 0 [] [] .0 2 .0 (refused-by-2 n)) in
+    let e : _≡_ {A = ℕ} 4 2 = w .reply n 0 24 0 false 0 0 [] [] [] .0 2 .1 (refused-exactly .reply n 0 24 0 false 0 0 [] [] [] .0 2 .0 (refused-by-2 n)) in
     omega (arith, e)
 
 -- the file that was written stands in the flash, and not in the directory
 reached-written : Reached scanning (written scanning .turn .node) (written scanning .after .flash)
 reached-written =
-    Reached.Then (first scanning refl) (Step.Made (Call.Request 0 0 3 false (0x452E ∷ file) (memories [] [] []) (further (replicate 32768 0) []) (replicate 12288 0)) words-16)
+    Reached.Then (first scanning refl) (Step.Made (Call.Request 0 0 3 false (0x452E ∷ file) (memories [] [] []) (further (replicate 32768 0) [] (replicate 12288 0)) (replicate 12288 0)) words-16)
 
 scans-once : NoStaleRecord scanning → ⊥
 unfolding laid fcsBit fcsBits fcsWord fcsFrom headerOk memoryOf pageOf lengthOk pageOk spanOf bodyOk segmentOk segmentEnd walk fileEnd isSector bySector sectorOf isEmpty statusOf statusIn fourthWord entryOf entryFor entriesFrom directoryOf entered entrySays entryIs keptStatus firstFrom countFrom isNamed searchOf targetOf takes placeOf stored masksOk stateOk startVerdict requestVerdict addressed routeOf fileWriteOf filesOf ownOf startOf requestOf
@@ -807,8 +827,8 @@ reached-erased : Reached remembering (erasedAfter .turn .node) (erasedAfter .aft
 unfolding erasedAfter packet
 reached-erased =
     Reached.Then
-    (Reached.Then (first remembering refl) (Step.Made (Call.Request 0 0 3 false (0x452E ∷ file) (memories [] [] []) (further (replicate 32768 0) []) (replicate 12288 0)) words-16))
-    (Step.Made (Call.Request 0 0 3 false packet (memories [] [] []) (further (replicate 32768 0) []) (replicate 12288 0)) packet-16)
+    (Reached.Then (first remembering refl) (Step.Made (Call.Request 0 0 3 false (0x452E ∷ file) (memories [] [] []) (further (replicate 32768 0) [] (replicate 12288 0)) (replicate 12288 0)) words-16))
+    (Step.Made (Call.Request 0 0 3 false packet (memories [] [] []) (further (replicate 32768 0) [] (replicate 12288 0)) (replicate 12288 0)) packet-16)
 
 keeps-length : NoStaleRecord remembering → ⊥
 unfolding erasedAfter packet laid fcsBit fcsBits fcsWord fcsFrom headerOk memoryOf pageOf lengthOk pageOk spanOf bodyOk segmentOk segmentEnd walk fileEnd isSector bySector sectorOf isEmpty statusOf statusIn fourthWord entryOf entryFor entriesFrom directoryOf entered entrySays entryIs keptStatus firstFrom countFrom isNamed searchOf targetOf takes placeOf stored masksOk stateOk startVerdict requestVerdict addressed routeOf fileWriteOf sectorAt eraseStartOf filesOf ownOf startOf requestOf
@@ -826,7 +846,7 @@ loses w =
     (w _ _ _
     (Listed.Then
     (Listed.Then (Listed.First 2 4 0 0 0 0 0 blank (replicate 7 0) refl)
-    (ListStep.Made (Call.Request 0xFFFFFFF0 0 3 false writesOne (memories [] [] []) (further (replicate 32768 0) []) (replicate 12288 0)) blank))
+    (ListStep.Made (Call.Request 0xFFFFFFF0 0 3 false writesOne (memories [] [] []) (further (replicate 32768 0) [] (replicate 12288 0)) (replicate 12288 0)) blank))
     (ListStep.Made (Call.Slow 0xFFF0 []) blank)))
 
 -- two entries with repetitions left, and the second in turn
@@ -834,19 +854,104 @@ skips : TurnInOrder skipping → ⊥
 unfolding laid entryIn putIn closeFrom deleteIn masksOk stateOk startVerdict requestVerdict addressed routeOf listDeleteOf listsOf ownOf startOf requestOf
 skips w =
     eqb-false 1 0 refl
-    (w .anew (withListing (started logodwen .node) (listing 2 1)) 0 0 3 false (0x5B2E ∷ []) (lent blank (memories [] [] []) (further (replicate 32768 0) (replicate 14 1)) (replicate 12288 0))
+    (w .anew (withListing (started logodwen .node) (listing 2 1)) 0 0 3 false (0x5B2E ∷ []) (lent blank (memories [] [] []) (further (replicate 32768 0) (replicate 14 1) (replicate 12288 0)) (replicate 12288 0))
     refl (inl refl) refl)
 
 compares : DueAcrossWrap greater → ⊥
 unfolding laid fcsBit fcsBits fcsWord fcsFrom memoryOf pageOf lengthOk pageOk spanOf bodyOk segmentOk segmentEnd isSegment isOwn entryIn putIn stepIn advancedOf toldOf isWrite allOwn broughtBy addFrom canWrite writeIn masksOk stateOk startVerdict requestVerdict slowVerdict addressed routeOf listWriteOf listsOf ownOf startOf requestOf slowOf
 compares w = eqb-false 1 0 refl (ap handsOut (w .early))
 
+-- a build of slave 23 alone, asked at clock 0
+building : Node
+building = withPending (started logodwen .node) (Pending.Build (buildBegun 0x800000 23 0))
+
+building-knows : building .events ≡ known 0 0 0
+unfolding building startVerdict startOf
+building-knows = refl
+
+-- it does not answer: there is no event, and the last number stays 0
+unheard : Call
+unheard = Call.Poll 60 room room
+
+none-built : sightOf numbering unheard building blank ≡ Sight.Nothing
+unfolding unheard building laid fcsBit fcsBits fcsWord fcsFrom isLate slavesFrom dataKind firstKind laterJudged kindOf partBy statusWord fragmentOf groupStatus sealedBy ownStatus askedAgain hearsIn buildingOk placed saidOf takenInto eventEnd masksOk stateOk startVerdict startOf pollVerdict pollEffect pollOf
+none-built = refl
+
+numbered-one : stateAfter numbering unheard building blank .events .last ≡ 1
+unfolding unheard building laid fcsBit fcsBits fcsWord fcsFrom isLate slavesFrom dataKind firstKind laterJudged kindOf partBy statusWord fragmentOf groupStatus sealedBy ownStatus askedAgain hearsIn buildingOk placed saidOf takenInto eventEnd masksOk stateOk startVerdict startOf pollVerdict pollEffect pollOf
+numbered-one = refl
+
+numbers-none : EventNumbers numbering → ⊥
+numbers-none w =
+    let e = w .follows _ _ (Watched.Then (Watched.First building building-knows) unheard blank) in
+    eqb-false 1 0 refl (sym numbered-one ∙ e ∙ ap (λ (x : Sight). seenBy x (seen 0 0 Held.Nothing) .built % 65536) none-built)
+
+-- it answers with one word, which is a fault: an event of 10 words is built, with bit 9 of its status word set
+oneWord : Call
+oneWord = Call.Reply 1 23 3 false 0 0 (0 ∷ []) room room
+
+is-faulty : seenBy (sightOf forgiving oneWord building blank) (seen 0 0 Held.Nothing) .faulty ≡ 1
+unfolding oneWord building laid fcsBit fcsBits fcsWord fcsFrom isLate slavesFrom dataKind firstKind laterJudged kindOf partBy statusWord fragmentOf groupStatus sealedBy ownStatus askedAgain hearsIn buildingOk placed saidOf takenInto eventEnd masksOk stateOk startVerdict startOf replyVerdict replyEffect replyOf
+is-faulty = refl
+
+uncounted : stateAfter forgiving oneWord building blank .events .errors ≡ 0
+unfolding oneWord building laid fcsBit fcsBits fcsWord fcsFrom isLate slavesFrom dataKind firstKind laterJudged kindOf partBy statusWord fragmentOf groupStatus sealedBy ownStatus askedAgain hearsIn buildingOk placed saidOf takenInto eventEnd masksOk stateOk startVerdict startOf replyVerdict replyEffect replyOf
+uncounted = refl
+
+forgives : BuildErrors forgiving → ⊥
+forgives w =
+    let e = w .counted _ _ (Watched.Then (Watched.First building building-knows) oneWord blank) in
+    eqb-false 0 1 refl (sym uncounted ∙ e ∙ ap (λ (k : ℕ). min k 0xFFFF) is-faulty)
+
+-- Read Event, and again: the second is answered with words too
+readEvent : Call
+readEvent = Call.Request 2 0 3 false (0x012E ∷ []) (memories [] [] []) (further (replicate 32768 0) [] room) room
+
+once : Node
+once = stateAfter repeating oneWord building blank
+
+seenOnce : Seen
+seenOnce = seenBy (sightOf repeating oneWord building blank) (seen 0 0 Held.Nothing)
+
+read-once : seenBy (sightOf repeating readEvent once blank) seenOnce .held ≡ Held.Nothing
+unfolding readEvent once seenOnce oneWord building laid fcsBit fcsBits fcsWord fcsFrom isLate slavesFrom dataKind firstKind laterJudged kindOf partBy statusWord fragmentOf groupStatus sealedBy ownStatus askedAgain hearsIn buildingOk placed saidOf takenInto eventEnd masksOk stateOk startVerdict startOf replyVerdict replyEffect replyOf requestVerdict addressed routeOf eventReadOf ownOf requestOf
+read-once = refl
+
+read-again : requestOf (stateAfter repeating readEvent once blank) 3 0 3 false (0x012E ∷ []) (with blank) .turn .answer ≡ Answer.Reply (replied 3 10)
+unfolding readEvent once oneWord building laid fcsBit fcsBits fcsWord fcsFrom isLate slavesFrom dataKind firstKind laterJudged kindOf partBy statusWord fragmentOf groupStatus sealedBy ownStatus askedAgain hearsIn buildingOk placed saidOf takenInto eventEnd masksOk stateOk startVerdict startOf replyVerdict replyEffect replyOf requestVerdict addressed routeOf eventReadOf ownOf requestOf
+read-again = refl
+
+hands-twice : HandedOutOnce repeating → ⊥
+unfolding once seenOnce
+hands-twice w =
+    let n : Node = stateAfter repeating readEvent once blank in
+    let watched = Watched.Then (Watched.Then (Watched.First building building-knows) oneWord blank) readEvent blank in
+    let out = w n _ watched 3 0 3 false (0x012E ∷ []) (with blank) (replied 3 10) refl read-again (ltb-true 0 10 refl) in
+    subst (λ (h : Held). HandsOut h (with blank) (replied 3 10) (repeating .request n 3 0 3 false (0x012E ∷ []) (with blank) .after .reply)) read-once out
+
+-- a build while the group of slave 23 is pending
+freed : Node
+freed = withPending waiting Pending.Nothing
+
+freed-fine : buildVerdict freed (length room) ≡ Verdict.Fine
+unfolding freed waiting masksOk stateOk startVerdict buildVerdict startOf
+freed-fine = refl
+
+begins-build : isRefused (impatient .build waiting 0 room .turn .answer) ≡ false
+unfolding freed buildOf
+begins-build =
+    ap (λ (v : Verdict). isRefused (judged v freed (lentEvents room) (buildEffect freed 0) .turn .answer)) freed-fine ∙ build-taken freed 0
+
+drops-group : OneAtATime impatient → ⊥
+unfolding waiting
+drops-group w = false≢true (sym begins-build ∙ w .build waiting 0 room refl .0)
+
 -- two packets of no words, each ABORT: ours does both
 twice : List ℕ
 twice = 0 ∷ 3 ∷ 0 ∷ 0 ∷ 3 ∷ 0 ∷ []
 
 forTwo : Lent
-forTwo = lent blank (memories [] [] []) (further (replicate 32768 0) []) (replicate 12292 0)
+forTwo = lent blank (memories [] [] []) (further (replicate 32768 0) [] (replicate 12288 0)) (replicate 12292 0)
 
 stops-early : OneByOne quitting → ⊥
 unfolding twice forTwo fitFrom packetsFrom fits packetsIn row stepBy requestsBy laid masksOk stateOk startVerdict requestVerdict routeOf startOf requestOf
@@ -890,6 +995,13 @@ shut-out =
       loses = loses;
       skips = skips;
       compares = compares;
+      numbers-none = numbers-none;
+      hands-twice = hands-twice;
+      forgives = forgives;
+      forgets = forgets;
+      hides = hides;
+      begs = begs;
+      drops-group = drops-group;
       stops-early = stops-early;
       runs-past = runs-past;
       loads-half = loads-half;

@@ -19,21 +19,21 @@ use Rattle.flash.proofs.Erasure.{erased-only}
 use Rattle.memory.specs.Segment.{Memories}
 use Rattle.qlist.specs.Words.{recordsIn}
 use Rattle.node.specs.State.{turn}
-use Rattle.node.specs.Refusals.{replyVerdict, pollVerdict, eraseVerdict, slowVerdict, startVerdict}
-use Rattle.node.specs.Valid.{sizeOk, kindOk, portsOk, masksOk, erasingOk, pendingOk}
+use Rattle.node.specs.Refusals.{replyVerdict, pollVerdict, buildVerdict, eraseVerdict, slowVerdict, startVerdict}
+use Rattle.node.specs.Valid.{sizeOk, kindOk, portsOk, masksOk, erasingOk}
 use Rattle.node.specs.Effect.{Effect, effect, Lent, lent, nodeAfter, Change, flashAfter, erasingNext, Setup, Join, Relist, Further}
 use Rattle.node.specs.Slaves.{replyEffect, pollEffect}
-use Rattle.node.specs.Calls.{judged, lentReply, lentFlash, lentList, given, started, startBy, startOf, requestOf, replyOf, pollOf, eraseEffect, eraseOf, slowEffect, slowOf}
+use Rattle.node.specs.Calls.{judged, lentReply, lentEvents, lentFlash, lentList, given, started, startBy, startOf, requestOf, replyOf, pollOf, buildEffect, buildOf, eraseEffect, eraseOf, slowEffect, slowOf}
 use Rattle.node.specs.declared.Node.{Node}
 use Rattle.node.specs.declared.Verdict.{Verdict}
-use Rattle.node.proofs.Why.{Quiet, request-why, reply-quiet, poll-quiet}
+use Rattle.node.proofs.Why.{Quiet, request-why, reply-quiet, poll-quiet, build-quiet}
 use Rattle.node.proofs.Directories.{Fresh, why-fresh, step-fresh}
-use Rattle.node.proofs.Ranges.{and-both, Ranges, size-some, why-erasing, step-erasing, sets-mode, sets-masks, request-pending, request-writing, relists-listing, slow-listing, reply-pending, poll-pending}
+use Rattle.node.proofs.Ranges.{and-both, Ranges, size-some, why-erasing, step-erasing, sets-mode, sets-masks, request-pending, request-writing, relists-listing, slow-listing, Heeded, reply-pending, poll-pending, build-pending, occurs-known}
 use Rattle.node.proofs.Verdicts.{request-fine, reply-fine, poll-fine, start-fine}
 use Rattle.demands.specs.Machine.{Call, logodwen, turnOf, flashOf, isRefused}
 use Rattle.demands.specs.Reached.{Lends16, stateAfter, Step, Reached}
 use Rattle.demands.proofs.Lists.{list-keeps}
-use Rattle.demands.proofs.Taken.{verdictOn, requestEffect, request-taken, reply-taken, poll-taken, judged-unchanged}
+use Rattle.demands.proofs.Taken.{verdictOn, requestEffect, request-taken, reply-taken, poll-taken, build-taken, judged-unchanged}
 
 -- no change changes the size of the flash
 pub change-size : (c : Change) (e : Erasing) (flash : List ℕ) → length (flashAfter c e flash) ≡ length flash
@@ -97,7 +97,8 @@ module _ (n : Node) (clock link bc : ℕ) (errors : Bool) (packet : List ℕ) (l
               (why-erasing words (asked .change) n link bc packet l (size-some words (given-size n r)) (why .0) (r .erasing));
           pending = request-pending n clock link bc errors packet l b k (r .masks) (r .pending);
           writing = request-writing n clock link bc errors packet l k (r .writing);
-          listing = relists-listing (asked .list) n clock packet (l .further .list) most (why .1 .1) (r .listing);
+          listing = relists-listing (asked .list) n clock packet (l .further .list) most (why .1 .1 .0) (r .listing);
+          events = occurs-known (asked .event) n packet (why .1 .1 .1) (r .events);
         };
         size = v .size ∙ sym (change-size (asked .change) (n .erasing) (l .flash));
       }
@@ -110,24 +111,24 @@ module _ (n : Node) (clock link bc : ℕ) (errors : Bool) (packet : List ℕ) (l
         fresh = why-fresh (asked .change) n link bc packet l (some-unit n (l .flash) (s .valid)) (request-why n link bc packet l clock errors .0) (s .fresh);
       }
 
--- a slave's answer, and a poll
+-- a slave's answer, a poll and a build
 quiet-kept : (P : Node → Type 0) (n : Node) (none : List ℕ) (e : Effect) → Quiet e
-    → P (nodeAfter n none (effect (e .answer) Change.Kept (e .store) Setup.Kept Join.Kept Relist.Kept (e .amswire) (e .fault) (e .pending) (e .reply))) → P (nodeAfter n none e)
+    → P (nodeAfter n none (effect (e .answer) Change.Kept (e .store) Setup.Kept Join.Kept Relist.Kept (e .event) (e .amswire) (e .fault) (e .pending) (e .reply))) → P (nodeAfter n none e)
 quiet-kept P n none e q kept =
     subst (λ (c : Change). P (next c (e .setup) (e .join) (e .list))) (sym (q .change))
     (subst (λ (u : Setup). P (next Change.Kept u (e .join) (e .list))) (sym (q .setup))
     (subst (λ (j : Join). P (next Change.Kept Setup.Kept j (e .list))) (sym (q .join)) (subst (λ (x : Relist). P (next Change.Kept Setup.Kept Join.Kept x)) (sym (q .list)) kept)))
   where
     next : Change → Setup → Join → Relist → Node
-    next c u j x = nodeAfter n none (effect (e .answer) c (e .store) u j x (e .amswire) (e .fault) (e .pending) (e .reply))
+    next c u j x = nodeAfter n none (effect (e .answer) c (e .store) u j x (e .event) (e .amswire) (e .fault) (e .pending) (e .reply))
 
-quiet-valid : (n : Node) (flash none : List ℕ) (e : Effect) → Quiet e → pendingOk (n .given .ports) (e .pending) ≡ true → Valid n flash → Valid (nodeAfter n none e) flash
+quiet-valid : (n : Node) (flash none : List ℕ) (e : Effect) → Quiet e → Heeded (n .given .ports) n e → Valid n flash → Valid (nodeAfter n none e) flash
 quiet-valid n flash none e q p v =
     let r = v .ranges in
     quiet-kept (λ (m : Node). Valid m flash) n none e q
-    (record { ranges = record { given = r .given; mode = r .mode; masks = r .masks; erasing = r .erasing; pending = p; writing = r .writing; listing = r .listing }; size = v .size })
+    (record { ranges = record { given = r .given; mode = r .mode; masks = r .masks; erasing = r .erasing; pending = p .0; writing = r .writing; listing = r .listing; events = p .1 (r .events) }; size = v .size })
 
-quiet-sound : (n : Node) (flash none : List ℕ) (e : Effect) → Quiet e → pendingOk (n .given .ports) (e .pending) ≡ true → Sound n flash → Sound (nodeAfter n none e) flash
+quiet-sound : (n : Node) (flash none : List ℕ) (e : Effect) → Quiet e → Heeded (n .given .ports) n e → Sound n flash → Sound (nodeAfter n none e) flash
 quiet-sound n flash none e q p s =
     record {
       valid = quiet-valid n flash none e q p (s .valid);
@@ -149,6 +150,7 @@ step-valid n flash budget v =
         pending = r .pending;
         writing = r .writing;
         listing = r .listing;
+        events = r .events;
       };
       size = v .size ∙ sym (change-size (Change.Blanked budget) (n .erasing) flash);
     }
@@ -170,6 +172,7 @@ slow-valid n flash clock list v =
         pending = r .pending;
         writing = r .writing;
         listing = slow-listing (n .listing) (r .listing);
+        events = r .events;
       };
       size = v .size;
     }
@@ -193,6 +196,7 @@ start-sound kind ports subdetector program version tests clock flash h =
           pending = refl;
           writing = refl;
           listing = refl;
+          events = refl;
         };
         size = refl;
       };
@@ -204,7 +208,7 @@ module _ (P : Node → List ℕ → Type 0)
     (starts : (kind ports subdetector program version tests clock : ℕ) (flash : List ℕ) → startVerdict kind ports subdetector (length flash) ≡ Verdict.Fine → P (started (given kind ports subdetector program version tests clock (length flash)) flash) flash)
     (requests : (n : Node) (clock link bc : ℕ) (errors : Bool) (packet : List ℕ) (l : Lent) → Below 65536 packet → link < n .given .ports → recordsIn (l .further .list) ≤ 910 → P n (l .flash)
     → P (nodeAfter n (l .flash) (requestEffect n clock link bc errors packet l)) (flashAfter (requestEffect n clock link bc errors packet l .change) (n .erasing) (l .flash)))
-    (quiets : (n : Node) (flash none : List ℕ) (e : Effect) → Quiet e → pendingOk (n .given .ports) (e .pending) ≡ true → P n flash → P (nodeAfter n none e) flash)
+    (quiets : (n : Node) (flash none : List ℕ) (e : Effect) → Quiet e → Heeded (n .given .ports) n e → P n flash → P (nodeAfter n none e) flash)
     (steps : (n : Node) (flash : List ℕ) (budget : ℕ) → P n flash → P (nodeAfter n flash (eraseEffect n budget flash)) (erased flash (n .erasing) budget))
     (slows : (n : Node) (flash : List ℕ) (clock : ℕ) (list : List ℕ) → P n flash → P (nodeAfter n [] (slowEffect n clock list)) flash)
     (valid : (n : Node) (flash : List ℕ) → P n flash → Valid n flash) where
@@ -228,29 +232,40 @@ module _ (P : Node → List ℕ → Type 0)
       by : (v : Verdict) → verdictOn n link packet (lent flash m x reply) ≡ v
           → P (judged v n (lent flash m x reply) (requestEffect n clock link bc errors packet (lent flash m x reply)) .turn .node) (judged v n (lent flash m x reply) (requestEffect n clock link bc errors packet (lent flash m x reply)) .after .flash)
       by Verdict.Fine e =
-          let f = request-fine n link _ _ _ _ _ _ _ _ e in
+          let f = request-fine n link _ _ _ _ _ _ _ _ _ e in
           requests n clock link bc errors packet (lent flash m x reply) b (f .below) (f .most) s
       by (Verdict.No r) e = s
 
-  reply-keeps : (clock slave bc : ℕ) (errors : Bool) (status address : ℕ) (words reply : List ℕ) (n : Node) (flash : List ℕ) → Keeps (Call.Reply clock slave bc errors status address words reply) n flash
+  reply-keeps : (clock slave bc : ℕ) (errors : Bool) (status address : ℕ) (words events reply : List ℕ) (n : Node) (flash : List ℕ) → Keeps (Call.Reply clock slave bc errors status address words events reply) n flash
   unfolding replyOf
-  reply-keeps clock slave bc errors status address words reply n flash s = by (replyVerdict n slave (length reply)) refl
+  reply-keeps clock slave bc errors status address words events reply n flash s = by (replyVerdict n slave (length events) (length reply)) refl
     where
-      by : (v : Verdict) → replyVerdict n slave (length reply) ≡ v → P (judged v n (lentReply reply) (replyEffect n clock errors status address bc words reply) .turn .node) flash
+      by : (v : Verdict) → replyVerdict n slave (length events) (length reply) ≡ v → P (judged v n (lentReply events reply) (replyEffect n clock errors status address bc words events reply) .turn .node) flash
       by Verdict.Fine e =
-          quiets n flash [] (replyEffect n clock errors status address bc words reply) (reply-quiet n clock errors status address bc words reply)
-          (reply-pending n (n .given .ports) clock errors status address bc words reply (reply-fine n slave (length reply) e .buffer) (valid n flash s .ranges .pending)) s
+          quiets n flash [] (replyEffect n clock errors status address bc words events reply) (reply-quiet n clock errors status address bc words events reply)
+          (reply-pending n (n .given .ports) clock errors status address bc words events reply (reply-fine n slave (length events) (length reply) e .holds)
+          (reply-fine n slave (length events) (length reply) e .buffer) (valid n flash s .ranges .pending)) s
       by (Verdict.No r) e = s
 
-  poll-keeps : (clock : ℕ) (reply : List ℕ) (n : Node) (flash : List ℕ) → Keeps (Call.Poll clock reply) n flash
+  poll-keeps : (clock : ℕ) (events reply : List ℕ) (n : Node) (flash : List ℕ) → Keeps (Call.Poll clock events reply) n flash
   unfolding pollOf
-  poll-keeps clock reply n flash s = by (pollVerdict n (length reply)) refl
+  poll-keeps clock events reply n flash s = by (pollVerdict n (length events) (length reply)) refl
     where
-      by : (v : Verdict) → pollVerdict n (length reply) ≡ v → P (judged v n (lentReply reply) (pollEffect n clock reply) .turn .node) flash
+      by : (v : Verdict) → pollVerdict n (length events) (length reply) ≡ v → P (judged v n (lentReply events reply) (pollEffect n clock events reply) .turn .node) flash
       by Verdict.Fine e =
-          quiets n flash [] (pollEffect n clock reply) (poll-quiet n clock reply)
-          (poll-pending n (n .given .ports) clock reply (poll-fine n (length reply) e .buffer) (valid n flash s .ranges .pending)) s
+          quiets n flash [] (pollEffect n clock events reply) (poll-quiet n clock events reply)
+          (poll-pending n (n .given .ports) clock events reply (poll-fine n (length events) (length reply) e .holds) (poll-fine n (length events) (length reply) e .buffer) (valid n flash s .ranges .pending)) s
       by (Verdict.No r) e = s
+
+  build-keeps : (clock : ℕ) (events : List ℕ) (n : Node) (flash : List ℕ) → Keeps (Call.Build clock events) n flash
+  unfolding buildOf
+  build-keeps clock events n flash s = by (buildVerdict n (length events))
+    where
+      by : (v : Verdict) → P (judged v n (lentEvents events) (buildEffect n clock) .turn .node) flash
+      by Verdict.Fine =
+          let r = valid n flash s .ranges in
+          quiets n flash [] (buildEffect n clock) (build-quiet n clock) (build-pending n (n .given .ports) clock (r .masks) (r .pending)) s
+      by (Verdict.No r) = s
 
   erase-keeps : (budget : ℕ) (n : Node) (flash : List ℕ) → Keeps (Call.Erase budget) n flash
   unfolding eraseOf
@@ -271,8 +286,9 @@ module _ (P : Node → List ℕ → Type 0)
   each-keeps : (c : Call) (n : Node) (flash : List ℕ) → Lends16 c → Keeps c n flash
   each-keeps (Call.Start kind ports subdetector program version tests clock) n flash b = start-keeps kind ports subdetector program version tests clock n flash
   each-keeps (Call.Request clock link bc errors packet m x reply) n flash b = request-keeps clock link bc errors packet m x reply n flash b
-  each-keeps (Call.Reply clock slave bc errors status address words reply) n flash b = reply-keeps clock slave bc errors status address words reply n flash
-  each-keeps (Call.Poll clock reply) n flash b = poll-keeps clock reply n flash
+  each-keeps (Call.Reply clock slave bc errors status address words events reply) n flash b = reply-keeps clock slave bc errors status address words events reply n flash
+  each-keeps (Call.Poll clock events reply) n flash b = poll-keeps clock events reply n flash
+  each-keeps (Call.Build clock events) n flash b = build-keeps clock events n flash
   each-keeps (Call.Erase budget) n flash b = erase-keeps budget n flash
   each-keeps (Call.Slow clock list) n flash b = slow-keeps clock list n flash
 
@@ -286,11 +302,12 @@ call-keeps = each-keeps Sound start-sound request-sound quiet-sound step-sound s
 
 -- a refused call leaves the host with the state it had
 pub refused-same : (c : Call) (n : Node) (flash : List ℕ) → isRefused (turnOf logodwen c n flash .answer) ≡ true → stateAfter logodwen c n flash ≡ n
-unfolding requestOf replyOf pollOf eraseOf slowOf
+unfolding requestOf replyOf pollOf buildOf eraseOf slowOf
 refused-same (Call.Start kind ports subdetector program version tests clock) n flash h = sym (yes _ h refl)
 refused-same (Call.Request clock link bc errors packet m x reply) n flash h = judged-unchanged (verdictOn n link packet (lent flash m x reply)) n (lent flash m x reply) (requestEffect n clock link bc errors packet (lent flash m x reply)) (request-taken n clock link bc errors packet (lent flash m x reply)) h .0
-refused-same (Call.Reply clock slave bc errors status address words reply) n flash h = judged-unchanged (replyVerdict n slave (length reply)) n (lentReply reply) (replyEffect n clock errors status address bc words reply) (reply-taken n clock errors status address bc words reply) h .0
-refused-same (Call.Poll clock reply) n flash h = judged-unchanged (pollVerdict n (length reply)) n (lentReply reply) (pollEffect n clock reply) (poll-taken n clock reply) h .0
+refused-same (Call.Reply clock slave bc errors status address words events reply) n flash h = judged-unchanged (replyVerdict n slave (length events) (length reply)) n (lentReply events reply) (replyEffect n clock errors status address bc words events reply) (reply-taken n clock errors status address bc words events reply) h .0
+refused-same (Call.Poll clock events reply) n flash h = judged-unchanged (pollVerdict n (length events) (length reply)) n (lentReply events reply) (pollEffect n clock events reply) (poll-taken n clock events reply) h .0
+refused-same (Call.Build clock events) n flash h = judged-unchanged (buildVerdict n (length events)) n (lentEvents events) (buildEffect n clock) (build-taken n clock) h .0
 refused-same (Call.Erase budget) n flash h = judged-unchanged (eraseVerdict n (length flash)) n (lentFlash flash) (eraseEffect n budget flash) refl h .0
 refused-same (Call.Slow clock list) n flash h = judged-unchanged (slowVerdict n (recordsIn list)) n (lentList list) (slowEffect n clock list) refl h .0
 
@@ -311,8 +328,9 @@ refused-flash (Call.Start kind ports subdetector program version tests clock) n 
 refused-flash (Call.Request clock link bc errors packet m x reply) n flash h =
     ap (λ (l : Lent). l .flash)
     (judged-unchanged (verdictOn n link packet (lent flash m x reply)) n (lent flash m x reply) (requestEffect n clock link bc errors packet (lent flash m x reply)) (request-taken n clock link bc errors packet (lent flash m x reply)) h .1)
-refused-flash (Call.Reply clock slave bc errors status address words reply) n flash h = refl
-refused-flash (Call.Poll clock reply) n flash h = refl
+refused-flash (Call.Reply clock slave bc errors status address words events reply) n flash h = refl
+refused-flash (Call.Poll clock events reply) n flash h = refl
+refused-flash (Call.Build clock events) n flash h = refl
 refused-flash (Call.Erase budget) n flash h =
     ap (λ (l : Lent). l .flash) (judged-unchanged (eraseVerdict n (length flash)) n (lentFlash flash) (eraseEffect n budget flash) refl h .1)
 refused-flash (Call.Slow clock list) n flash h = refl

@@ -28,7 +28,8 @@ use Rattle.node.specs.Effect.{Lent, lent, further, Did, says, answers, applied,
 use Rattle.node.specs.Settings.{statusIn}
 use Rattle.node.specs.Files.{joined}
 use Rattle.node.specs.Lists.{relisted, changesList, listReadOf, listDeleteOf, listWriteOf}
-use Rattle.node.specs.Own.{settingsOf, memoriesOf, filesOf, listsOf, onFiles, onMemories, onList, ownOf}
+use Rattle.node.specs.Events.{eventReadOf}
+use Rattle.node.specs.Own.{settingsOf, memoriesOf, filesOf, listsOf, onFiles, onMemories, onList, onEvents, ownOf}
 use Rattle.node.specs.Calls.{judged, routed, lentList, requestOf, slowEffect, slowOf}
 use Rattle.node.specs.declared.Answer.{Answer}
 use Rattle.node.specs.declared.Node.{Node}
@@ -233,12 +234,12 @@ module _ (g : Listing) (list other : List ℕ) (room : g .entries ≤ recordsIn 
       clears t ws = pick t (changed (Listed.Entries g) (clearIn (g .entries) (getD parameters 0 0) ws .words)) (changed Listed.Abort ws)
 
 -- a request
-module _ (n : Node) (clock link bc : ℕ) (packet flash : List ℕ) (m : Memories) (area list other reply : List ℕ) (a : Alike (n .listing .entries) list other) where
+module _ (n : Node) (clock link bc : ℕ) (packet flash : List ℕ) (m : Memories) (area list other events reply : List ℕ) (a : Alike (n .listing .entries) list other) where
   abbrev l : Lent
-  l = lent flash m (further area list) reply
+  l = lent flash m (further area list events) reply
 
   abbrev l′ : Lent
-  l′ = lent flash m (further area other) reply
+  l′ = lent flash m (further area other events) reply
 
   abbrev Either : Did → Did → Type 0
   Either d d′ = Unread (ownOutcome n l d) (ownOutcome n l′ d′)
@@ -248,7 +249,7 @@ module _ (n : Node) (clock link bc : ℕ) (packet flash : List ℕ) (m : Memorie
   kept-alike k = subst (λ (x : Relist). Alike (listingAfter x (n .listing) .entries) (listAfter x list) (listAfter x other)) (sym k) a
 
   kept-either : (d : Did) → d .list ≡ Relist.Kept → Either d d
-  kept-either d k = record { turn = refl; flash = refl; memories = refl; area = refl; reply = refl; list = kept-alike k }
+  kept-either d k = record { turn = refl; flash = refl; memories = refl; area = refl; events = refl; reply = refl; list = kept-alike k }
 
   -- what changes it
   changed-either : (c d : Changed) → Changes c d → Either (changesList c) (changesList d)
@@ -256,8 +257,8 @@ module _ (n : Node) (clock link bc : ℕ) (packet flash : List ℕ) (m : Memorie
       subst (λ (y : Listed). Either (relisted (c .listed) (c .words)) (relisted y (d .words))) (h .0) (by (c .listed) (h .1))
     where
       by : (x : Listed) → ((g : Listing) → x ≡ Listed.Entries g → Alike (g .entries) (c .words) (d .words)) → Either (relisted x (c .words)) (relisted x (d .words))
-      by (Listed.Entries g) f = record { turn = refl; flash = refl; memories = refl; area = refl; reply = refl; list = f g refl }
-      by Listed.Abort f = record { turn = refl; flash = refl; memories = refl; area = refl; reply = refl; list = a }
+      by (Listed.Entries g) f = record { turn = refl; flash = refl; memories = refl; area = refl; events = refl; reply = refl; list = f g refl }
+      by Listed.Abort f = record { turn = refl; flash = refl; memories = refl; area = refl; events = refl; reply = refl; list = a }
 
   module _ (room : n .listing .entries ≤ recordsIn list) where
     told-same : toldWords (n .listing .entries) list ≡ toldWords (n .listing .entries) other
@@ -274,7 +275,7 @@ module _ (n : Node) (clock link bc : ℕ) (packet flash : List ℕ) (m : Memorie
 
     -- a command that isn't one on the list
     own-kept : (id : ℕ) → Whole n link bc → Command packet id → onList id ≡ false → ownOf id n clock link packet l .list ≡ Relist.Kept
-    own-kept id w c e = by (ownOf id n clock link packet l .list) (own-reason n link bc packet l clock id w c .1 .1)
+    own-kept id w c e = by (ownOf id n clock link packet l .list) (own-reason n link bc packet l clock id w c .1 .1 .0)
       where
         by : (x : Relist) → Relists x n clock packet list → x ≡ Relist.Kept
         by Relist.Kept r = refl
@@ -286,8 +287,11 @@ module _ (n : Node) (clock link bc : ℕ) (packet flash : List ℕ) (m : Memorie
     own-same id e =
         ap (λ (d : Did). pick (onFiles id) (filesOf id n l packet) (pick (onMemories id) (memoriesOf id n l packet) d)) (by (onList id) e)
       where
+        rest : Did
+        rest = pick (onEvents id) (eventReadOf n events packet) (settingsOf id n clock link packet)
+
         by : (t : Bool) → t ≡ false
-            → pick t (listsOf id n clock list packet) (settingsOf id n clock link packet) ≡ pick t (listsOf id n clock other packet) (settingsOf id n clock link packet)
+            → pick t (listsOf id n clock list packet) rest ≡ pick t (listsOf id n clock other packet) rest
         by true q = absurd (false≢true (sym q))
         by false q = refl
 
@@ -321,10 +325,10 @@ module _ (n : Node) (clock link bc : ℕ) (packet flash : List ℕ) (m : Memorie
     routed-either : (errors : Bool) → Unread (applied n l (requestEffect n clock link bc errors packet l)) (applied n l′ (requestEffect n clock link bc errors packet l′))
     routed-either errors =
         route-case (λ r. Unread (applied n l (routed r n clock link packet l)) (applied n l′ (routed r n clock link packet l′))) n link bc errors packet
-        (record { turn = refl; flash = refl; memories = refl; area = refl; reply = refl; list = a }) (record { turn = refl; flash = refl; memories = refl; area = refl; reply = refl; list = a }) (λ _ _. record { turn = refl; flash = refl; memories = refl; area = refl; reply = refl; list = a }) (λ _ _. record { turn = refl; flash = refl; memories = refl; area = refl; reply = refl; list = a })
-        (λ _ _. record { turn = refl; flash = refl; memories = refl; area = refl; reply = refl; list = a }) (λ from at j. record { turn = refl; flash = refl; memories = refl; area = refl; reply = refl; list = a })
-        (λ at w. record { turn = refl; flash = refl; memories = refl; area = refl; reply = refl; list = kept-alike (file-kept n flash (joined area at packet)) })
-        own-either (λ s h. record { turn = refl; flash = refl; memories = refl; area = refl; reply = refl; list = a }) (λ set from s named e. record { turn = refl; flash = refl; memories = refl; area = refl; reply = refl; list = a })
+        (record { turn = refl; flash = refl; memories = refl; area = refl; events = refl; reply = refl; list = a }) (record { turn = refl; flash = refl; memories = refl; area = refl; events = refl; reply = refl; list = a }) (λ _ _. record { turn = refl; flash = refl; memories = refl; area = refl; events = refl; reply = refl; list = a }) (λ _ _. record { turn = refl; flash = refl; memories = refl; area = refl; events = refl; reply = refl; list = a })
+        (λ _ _. record { turn = refl; flash = refl; memories = refl; area = refl; events = refl; reply = refl; list = a }) (λ from at j. record { turn = refl; flash = refl; memories = refl; area = refl; events = refl; reply = refl; list = a })
+        (λ at w. record { turn = refl; flash = refl; memories = refl; area = refl; events = refl; reply = refl; list = kept-alike (file-kept n flash (joined area at packet) .0) })
+        own-either (λ s h. record { turn = refl; flash = refl; memories = refl; area = refl; events = refl; reply = refl; list = a }) (λ set from s named e. record { turn = refl; flash = refl; memories = refl; area = refl; events = refl; reply = refl; list = a })
 
   request-either : (errors : Bool) → Unread (requestOf n clock link bc errors packet l) (requestOf n clock link bc errors packet l′)
   unfolding requestOf
@@ -333,12 +337,12 @@ module _ (n : Node) (clock link bc : ℕ) (packet flash : List ℕ) (m : Memorie
       (same-records a) (by (verdictOn n link packet l) refl)
     where
       verdictIn : ℕ → Verdict
-      verdictIn records = requestVerdict n link (length packet) (length flash) (length (m .pm)) (length (m .dm)) (length (m .io)) (length area) records (length reply)
+      verdictIn records = requestVerdict n link (length packet) (length flash) (length (m .pm)) (length (m .dm)) (length (m .io)) (length area) records (length events) (length reply)
 
       by : (v : Verdict) → verdictOn n link packet l ≡ v
           → Unread (judged v n l (requestEffect n clock link bc errors packet l)) (judged v n l′ (requestEffect n clock link bc errors packet l′))
-      by Verdict.Fine e = routed-either (request-fine n link _ _ _ _ _ _ _ _ e .listed) errors
-      by (Verdict.No r) e = record { turn = refl; flash = refl; memories = refl; area = refl; reply = refl; list = a }
+      by Verdict.Fine e = routed-either (request-fine n link _ _ _ _ _ _ _ _ _ e .listed) errors
+      by (Verdict.No r) e = record { turn = refl; flash = refl; memories = refl; area = refl; events = refl; reply = refl; list = a }
 
 slow-either : (n : Node) (clock : ℕ) (list other : List ℕ) → Alike (n .listing .entries) list other → Unread (slowOf n clock list) (slowOf n clock other)
 unfolding slowOf
@@ -354,14 +358,15 @@ slow-either n clock list other a =
           flash = refl;
           memories = refl;
           area = refl;
+          events = refl;
           reply = refl;
           list = s .1;
         }
-    by (Verdict.No r) = record { turn = refl; flash = refl; memories = refl; area = refl; reply = refl; list = a }
+    by (Verdict.No r) = record { turn = refl; flash = refl; memories = refl; area = refl; events = refl; reply = refl; list = a }
 
 pub unlisted-unread : UnlistedUnread logodwen
 unlisted-unread =
     record {
-      request = λ n clock link bc errors packet flash m area list other reply a. request-either n clock link bc packet flash m area list other reply a errors;
+      request = λ n clock link bc errors packet flash m area list other events reply a. request-either n clock link bc packet flash m area list other events reply a errors;
       slow = slow-either;
     }

@@ -14,9 +14,9 @@ use Rattle.demands.specs.Machine.{Machine}
 use Rattle.demands.specs.Requests.{end}
 use Rattle.demands.specs.Anchors.{blank, file}
 
--- No memories and no Q-List, an area and a reply buffer of zeros.
+-- No memories and no Q-List; an area, an event area and a reply buffer of zeros.
 abbrev pub with : List ℕ → Lent
-with flash = lent flash (memories [] [] []) (further (replicate 32768 0) []) (replicate 12288 0)
+with flash = lent flash (memories [] [] []) (further (replicate 32768 0) [] (replicate 12288 0)) (replicate 12288 0)
 
 abbrev pub started : Machine → Turn
 started M = M .start 2 4 0 0 0 0 0 blank

@@ -1,7 +1,7 @@
 -- What the house was promised of a node, on one page: the sentences of the three demands in their order, and beneath each the statements
--- that stand for it. That any packet, slave reply, clock reading, node state and lent memory gets an answer is the contract of the six
+-- that stand for it. That any packet, slave reply, clock reading, node state and lent memory gets an answer is the contract of the seven
 -- calls and of the list of requests, which has no condition; and that replies, status words, check sequences, next states, flash and memories
--- are those of 01 is that the machine is `logodwen`, its seven definitions. Here is what holds of them. Assumes nothing.
+-- are those of 01 is that the machine is `logodwen`, its eight definitions. Here is what holds of them. Assumes nothing.
 use Rattle.demands.specs.Machine.{Machine}
 use Rattle.demands.specs.Refusals.{RefusedExactly, NeverRefusedBy5, ZerosRefused}
 use Rattle.demands.specs.Reached.{NoStaleRecord, LengthsShown, SummaryIsTrue}
@@ -12,6 +12,9 @@ use Rattle.demands.specs.Groups.{StartsFull, GroupIsAsked, GroupIsItsFra
 use Rattle.demands.specs.Ends.{EachLowersOrStores, AlwaysEnds, NeverAskedTwice, SettledInTime, DeadEndInTime, AllEndInTime}
 use Rattle.demands.specs.ClosedRun.{ClosedRun}
 use Rattle.demands.specs.Series.{OneByOne, ListRefused, PastStays}
+use Rattle.demands.specs.Builds.{OneAtATime}
+use Rattle.demands.specs.BuildRuns.{EventIsItsFragments, BuildsEnd}
+use Rattle.demands.specs.Built.{EventNumbers, HandedOutOnce, BuildErrors}
 use Rattle.demands.specs.Listing.{RepetitionsConserved, WritesWhole, TurnInOrder, UnlistedUnread, DueAcrossWrap}
 
 pub record Demands (M : Machine) : Type 0 where
@@ -58,6 +61,16 @@ pub record Demands (M : Machine) : Type 0 where
   pub settled-in-time : SettledInTime M
   pub dead-end-in-time : DeadEndInTime M
   pub all-end-in-time : AllEndInTime M
+  -- An event is its slaves' fragments in order, those left out in its mask words, whatever calls come; its build always comes to an end, no slave asked
+  -- more than three times; and a group and a build exclude each other.
+  pub event-is-its-fragments : EventIsItsFragments M
+  pub builds-end : BuildsEnd M
+  pub one-at-a-time : OneAtATime M
+  -- Of events: their numbers go up by one with each that is built; each is handed out at most once, as it was built; and the errors of their builds are
+  -- counted, and shown by Status.
+  pub event-numbers : EventNumbers M
+  pub handed-out-once : HandedOutOnce M
+  pub build-errors : BuildErrors M
   -- Of the Q-List: the repetitions listed, handed out, and cleared or deleted are those written since the last accepted start, whatever calls come.
   pub repetitions-conserved : RepetitionsConserved M
   -- A write to it adds whole or not at all; its steps look at the listed entries in turn and at no other; records beyond those listed are never

@@ -1,4 +1,4 @@
--- Demand 2, of groups: a group always comes to an end, whatever its slaves do. 02, request 13. Assumes nothing.
+-- Demand 2, of groups: a group always comes to an end, whatever its slaves do. 02, request 13; builds are left aside. Assumes nothing.
 use Prim.Native.Nat.{ℕ, _+_, _*_, _%_, _≤_, _<_}
 use mathlib.Core.Path.{_≡_}
 use mathlib.Core.Bool.{Bool, true, false, _&&_, _||_, not}
@@ -17,7 +17,7 @@ use Rattle.node.specs.Slaves.{yetToAsk, askedAt}
 use Rattle.node.specs.declared.Answer.{Answer}
 use Rattle.node.specs.declared.Pending.{Pending}
 use Rattle.demands.specs.Machine.{Machine}
-use Rattle.demands.specs.Events.{Event, Host, stepped, dropsGroup}
+use Rattle.demands.specs.Events.{Event, Host, stepped, dropsGroup, holdsEvent}
 use Rattle.demands.specs.Groups.{GroupRun, begun, atLast, slaves, AllHeard, Ascending}
 
 -- What is pending where the host stands.
@@ -28,38 +28,44 @@ pendingIn h = h .turn .node .pending
 abbrev pub unfinishedIn : Pending → ℕ
 unfinishedIn (Pending.Group a g) = unfinished (g .set) (Next.Slave (a .slave))
 unfinishedIn (Pending.Slave a) = 0
+unfinishedIn (Pending.Build b) = 0
 unfinishedIn Pending.Nothing = 0
 
 -- How many of them are yet to ask.
 abbrev pub yetToAskIn : Pending → ℕ
 yetToAskIn (Pending.Group a g) = yetToAsk a g
 yetToAskIn (Pending.Slave a) = 0
+yetToAskIn (Pending.Build b) = 0
 yetToAskIn Pending.Nothing = 0
 
 -- The words built of the group's reply; those received so far of the reply of the slave being asked.
 abbrev pub builtIn : Pending → ℕ
 builtIn (Pending.Group a g) = g .built .words
 builtIn (Pending.Slave a) = 0
+builtIn (Pending.Build b) = 0
 builtIn Pending.Nothing = 0
 
 abbrev pub receivedIn : Pending → ℕ
 receivedIn (Pending.Group a g) = g .received .words
 receivedIn (Pending.Slave a) = 0
+receivedIn (Pending.Build b) = 0
 receivedIn Pending.Nothing = 0
 
--- An answer from the slave being asked.
+-- An answer from the slave being asked, not refused for its event area.
 abbrev pub isAnswer : Event → Pending → Bool
 isAnswer (Event.Requested clock link bc errors packet m x) p = false
-isAnswer (Event.Replied clock slave bc errors status address words) p = isAsked p slave
-isAnswer (Event.Polled clock) p = false
+isAnswer (Event.Replied clock slave bc errors status address words events) p = holdsEvent events && isAsked p slave
+isAnswer (Event.Polled clock events) p = false
+isAnswer (Event.Built clock events) p = false
 isAnswer (Event.Erased budget) p = false
 isAnswer (Event.Slowed clock list) p = false
 
 -- Such an answer, or a poll at 60 ticks or later.
 abbrev pub isTaken : Event → Pending → Bool
 isTaken (Event.Requested clock link bc errors packet m x) p = false
-isTaken (Event.Replied clock slave bc errors status address words) p = isAsked p slave
-isTaken (Event.Polled clock) p = isLate clock (askedAt p)
+isTaken (Event.Replied clock slave bc errors status address words events) p = holdsEvent events && isAsked p slave
+isTaken (Event.Polled clock events) p = holdsEvent events && isLate clock (askedAt p)
+isTaken (Event.Built clock events) p = false
 isTaken (Event.Erased budget) p = false
 isTaken (Event.Slowed clock list) p = false
 
@@ -67,27 +73,30 @@ isTaken (Event.Slowed clock list) p = false
 -- one, and room for all words received with it. Every other answer is final, 0-length or failing.
 abbrev pub isFollowed : Event → Pending → Bool
 isFollowed (Event.Requested clock link bc errors packet m x) p = false
-isFollowed (Event.Replied clock slave bc errors status address words) p =
+isFollowed (Event.Replied clock slave bc errors status address words events) p =
     not (isLate clock (askedAt p))
     && (not errors
     && (ltb 0 (length words)
     && (eqb (bc % 4) (followedBc (receivedIn p)) && hasRoom keptFree (builtIn p) (receivedIn p + length words) (yetToAskIn p))))
-isFollowed (Event.Polled clock) p = false
+isFollowed (Event.Polled clock events) p = false
+isFollowed (Event.Built clock events) p = false
 isFollowed (Event.Erased budget) p = false
 isFollowed (Event.Slowed clock list) p = false
 
 -- A call's clock, 0 where it has none; and the words that it brings from a slave.
 abbrev pub clockOf : Event → ℕ
 clockOf (Event.Requested clock link bc errors packet m x) = clock
-clockOf (Event.Replied clock slave bc errors status address words) = clock
-clockOf (Event.Polled clock) = clock
+clockOf (Event.Replied clock slave bc errors status address words events) = clock
+clockOf (Event.Polled clock events) = clock
+clockOf (Event.Built clock events) = clock
 clockOf (Event.Erased budget) = 0
 clockOf (Event.Slowed clock list) = clock
 
 abbrev pub wordsOf : Event → List ℕ
 wordsOf (Event.Requested clock link bc errors packet m x) = []
-wordsOf (Event.Replied clock slave bc errors status address words) = words
-wordsOf (Event.Polled clock) = []
+wordsOf (Event.Replied clock slave bc errors status address words events) = words
+wordsOf (Event.Polled clock events) = []
+wordsOf (Event.Built clock events) = []
 wordsOf (Event.Erased budget) = []
 wordsOf (Event.Slowed clock list) = []
 
@@ -137,16 +146,18 @@ NeverAskedTwice M = (r : GroupRun M) → Ascending (atLast r .asked)
 -- A call comes at a tick, of which its clock tells the last 32 bits. Erase progress has no clock.
 abbrev pub ComesAt : ℕ → Event → Type 0
 ComesAt tick (Event.Requested clock link bc errors packet m x) = clock ≡ tick % 4294967296
-ComesAt tick (Event.Replied clock slave bc errors status address words) = clock ≡ tick % 4294967296
-ComesAt tick (Event.Polled clock) = clock ≡ tick % 4294967296
+ComesAt tick (Event.Replied clock slave bc errors status address words events) = clock ≡ tick % 4294967296
+ComesAt tick (Event.Polled clock events) = clock ≡ tick % 4294967296
+ComesAt tick (Event.Built clock events) = clock ≡ tick % 4294967296
 ComesAt tick (Event.Erased budget) = Unit {0}
 ComesAt tick (Event.Slowed clock list) = clock ≡ tick % 4294967296
 
--- The tick of the last poll, with this call.
+-- The tick of the last poll that was not refused for its event area, with this call.
 abbrev pub polledBy : ℕ → ℕ → Event → ℕ
 polledBy polled tick (Event.Requested clock link bc errors packet m x) = polled
-polledBy polled tick (Event.Replied clock slave bc errors status address words) = polled
-polledBy polled tick (Event.Polled clock) = tick
+polledBy polled tick (Event.Replied clock slave bc errors status address words events) = polled
+polledBy polled tick (Event.Polled clock events) = pick (holdsEvent events) tick polled
+polledBy polled tick (Event.Built clock events) = polled
 polledBy polled tick (Event.Erased budget) = polled
 polledBy polled tick (Event.Slowed clock list) = polled
 

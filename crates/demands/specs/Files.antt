@@ -65,16 +65,18 @@ Writes M =
 abbrev pub ErasesSector : ℕ → Call → Node → Type 0
 ErasesSector s (Call.Start kind ports subdetector program version tests clock) n = ⊥
 ErasesSector s (Call.Request clock link bc errors packet m x reply) n = (isCommand 0x47 bc packet ≡ true) × (toErase n (getD packet 1 0) ≡ Found.At s)
-ErasesSector s (Call.Reply clock slave bc errors status address words reply) n = ⊥
-ErasesSector s (Call.Poll clock reply) n = ⊥
+ErasesSector s (Call.Reply clock slave bc errors status address words events reply) n = ⊥
+ErasesSector s (Call.Poll clock events reply) n = ⊥
+ErasesSector s (Call.Build clock events) n = ⊥
 ErasesSector s (Call.Erase budget) n = ⊥
 ErasesSector s (Call.Slow clock list) n = ⊥
 
 abbrev pub setsAttribute : ℕ → Call → Bool
 setsAttribute name (Call.Start kind ports subdetector program version tests clock) = false
 setsAttribute name (Call.Request clock link bc errors packet m x reply) = isCommand 0x48 bc packet && eqb (nameOf (getD packet 1 0)) name
-setsAttribute name (Call.Reply clock slave bc errors status address words reply) = false
-setsAttribute name (Call.Poll clock reply) = false
+setsAttribute name (Call.Reply clock slave bc errors status address words events reply) = false
+setsAttribute name (Call.Poll clock events reply) = false
+setsAttribute name (Call.Build clock events) = false
 setsAttribute name (Call.Erase budget) = false
 setsAttribute name (Call.Slow clock list) = false
 

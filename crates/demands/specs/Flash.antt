@@ -38,8 +38,9 @@ erasingSite (Erasing.Sector p) = Found.At (p .sector)
 abbrev pub siteOf : Call → Node → List ℕ → Found
 siteOf (Call.Start kind ports subdetector program version tests clock) n flash = Found.Nothing
 siteOf (Call.Request clock link bc errors packet m x reply) n flash = requestSite n flash link bc packet x
-siteOf (Call.Reply clock slave bc errors status address words reply) n flash = Found.Nothing
-siteOf (Call.Poll clock reply) n flash = Found.Nothing
+siteOf (Call.Reply clock slave bc errors status address words events reply) n flash = Found.Nothing
+siteOf (Call.Poll clock events reply) n flash = Found.Nothing
+siteOf (Call.Build clock events) n flash = Found.Nothing
 siteOf (Call.Erase budget) n flash = erasingSite (n .erasing)
 siteOf (Call.Slow clock list) n flash = Found.Nothing
 
@@ -67,8 +68,9 @@ InStep (Erasing.Sector p) flash budget i =
 abbrev pub SetByErasing : Call → Node → List ℕ → ℕ → Type 0
 SetByErasing (Call.Start kind ports subdetector program version tests clock) n flash i = ⊥
 SetByErasing (Call.Request clock link bc errors packet m x reply) n flash i = ⊥
-SetByErasing (Call.Reply clock slave bc errors status address words reply) n flash i = ⊥
-SetByErasing (Call.Poll clock reply) n flash i = ⊥
+SetByErasing (Call.Reply clock slave bc errors status address words events reply) n flash i = ⊥
+SetByErasing (Call.Poll clock events reply) n flash i = ⊥
+SetByErasing (Call.Build clock events) n flash i = ⊥
 SetByErasing (Call.Erase budget) n flash i = InStep (n .erasing) flash budget i
 SetByErasing (Call.Slow clock list) n flash i = ⊥
 
@@ -98,16 +100,17 @@ pub record GoesOn (n : Node) (budget : ℕ) (flash : List ℕ) (o : Outcome) : T
   pub words : o .after .flash ≡ erased flash (n .erasing) budget
 
 -- What is being erased follows the commands, whatever the state and the flash: nothing is after a start; a request leaves it, or is an
--- Erase that begins it; a slave's reply, a poll and a slow-control step leave it; erase progress goes on with it.
+-- Erase that begins it; a slave's reply, a poll, a build and a slow-control step leave it; erase progress goes on with it.
 pub record ErasureFollows (M : Machine) : Type 0 where
   pub start : (kind ports subdetector program version tests clock : ℕ) (flash : List ℕ)
       → M .start kind ports subdetector program version tests clock flash .node .erasing ≡ Erasing.Nothing
   pub request : (n : Node) (clock link bc : ℕ) (errors : Bool) (packet : List ℕ) (l : Lent)
       → let o : Outcome = M .request n clock link bc errors packet l in
       (o .turn .node .erasing ≡ n .erasing) ⊎ Begins n (l .flash) bc packet o
-  pub reply : (n : Node) (clock slave bc : ℕ) (errors : Bool) (status address : ℕ) (words reply : List ℕ)
-      → M .reply n clock slave bc errors status address words reply .turn .node .erasing ≡ n .erasing
-  pub poll : (n : Node) (clock : ℕ) (reply : List ℕ) → M .poll n clock reply .turn .node .erasing ≡ n .erasing
+  pub reply : (n : Node) (clock slave bc : ℕ) (errors : Bool) (status address : ℕ) (words events reply : List ℕ)
+      → M .reply n clock slave bc errors status address words events reply .turn .node .erasing ≡ n .erasing
+  pub poll : (n : Node) (clock : ℕ) (events reply : List ℕ) → M .poll n clock events reply .turn .node .erasing ≡ n .erasing
+  pub build : (n : Node) (clock : ℕ) (events : List ℕ) → M .build n clock events .turn .node .erasing ≡ n .erasing
   pub erase : (n : Node) (budget : ℕ) (flash : List ℕ) → isRefused (M .erase n budget flash .turn .answer) ≡ false
       → GoesOn n budget flash (M .erase n budget flash)
   pub slow : (n : Node) (clock : ℕ) (list : List ℕ) → M .slow n clock list .turn .node .erasing ≡ n .erasing
@@ -116,8 +119,9 @@ pub record ErasureFollows (M : Machine) : Type 0 where
 abbrev pub budgetOf : Call → ℕ
 budgetOf (Call.Start kind ports subdetector program version tests clock) = 0
 budgetOf (Call.Request clock link bc errors packet m x reply) = 0
-budgetOf (Call.Reply clock slave bc errors status address words reply) = 0
-budgetOf (Call.Poll clock reply) = 0
+budgetOf (Call.Reply clock slave bc errors status address words events reply) = 0
+budgetOf (Call.Poll clock events reply) = 0
+budgetOf (Call.Build clock events) = 0
 budgetOf (Call.Erase budget) = budget
 budgetOf (Call.Slow clock list) = 0
 
@@ -130,6 +134,9 @@ countOf (Answer.Next s) = 0
 countOf Answer.Waiting = 0
 countOf (Answer.Erased count) = count
 countOf (Answer.Slow s) = 0
+countOf (Answer.AskEvent s) = 0
+countOf Answer.NoEvent = 0
+countOf (Answer.Built words) = 0
 
 abbrev pub budgetIn : {M : Machine} {n : Node} {flash : List ℕ} {next : Node} {after : List ℕ} → Step M n flash next after → ℕ
 budgetIn (Step.Made c b) = budgetOf c

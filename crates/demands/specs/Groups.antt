@@ -1,7 +1,8 @@
 -- Demand 2, of groups: a group's reply is its slaves' fragments in slave order, each slave asked once. 01 'Requests' step 4 and 'Group
 -- assembly', and 02, request 8. Assumes nothing.
-use Prim.Native.Nat.{ℕ, _+_, _≤_, _<_}
+use Prim.Native.Nat.{ℕ, _+_, _*_, _≤_, _<_}
 use mathlib.Core.Path.{_≡_}
+use mathlib.Core.Logic.{_⊎_}
 use mathlib.Core.Bool.{Bool, true, false, _&&_, _||_, not}
 use mathlib.Core.List.{List, [], _∷_}
 use lib.Dec.{leb, eqb}
@@ -18,6 +19,8 @@ use Rattle.group.specs.declared.Kind.{Kind}
 use Rattle.group.specs.declared.Reply.{Reply}
 use Rattle.group.specs.declared.Tally.{Tally}
 use Rattle.group.specs.declared.ZeroLength.{ZeroLength}
+use Rattle.building.specs.Build.{leftIn}
+use Rattle.building.specs.declared.Building.{Building}
 use Rattle.capture.specs.Acceptable.{AllOnWire, Acceptable}
 use Rattle.node.specs.Refusals.{isAsked}
 use Rattle.node.specs.Route.{asking, firstByte, secondByte, maskIn}
@@ -217,12 +220,33 @@ pub record Stores (before after : Pending) (clock status : ℕ) (words buffer bu
   pub room : hasRoom keptFree (group .built .words) (group .received .words + length words) (length (above (group .set) (ask .slave))) ≡ true
   pub stored : buffer′ ≡ laid buffer (group .built .words + 1 + group .received .words) words
 
+-- In a build the words are stored in the event area, whose first word is the event's number; five words are kept free. 02, request 12.
+pub record StoresEvent (before after : Pending) (clock status : ℕ) (words events events′ : List ℕ) : Type 0 where
+  pub building : Building
+  pub was : before ≡ Pending.Build building
+  pub now : after
+      ≡ Pending.Build
+      (record {
+        set = building .set;
+        slave = building .slave;
+        asks = building .asks;
+        at = clock;
+        gathered = building .gathered;
+        received = record { words = building .received .words + length words; «rx_status» = status };
+      })
+  pub some : 0 < length words
+  pub room : building .gathered .built .words + (building .received .words + length words) + 5 * leftIn building + 5 ≤ 12288
+  pub stored : events′ ≡ laid events (building .gathered .built .words + 2 + building .received .words) words
+
 -- A slave's packets before the last store at least one word each, within the room. No other answer is NEXT to a slave.
 abbrev pub PacketsStore : Machine → Type 0
 PacketsStore M =
-    (n : Node) (clock slave bc : ℕ) (errors : Bool) (status address : ℕ) (words reply : List ℕ) (s : ℕ)
-    → let o : Outcome = M .reply n clock slave bc errors status address words reply in
-    o .turn .answer ≡ Answer.Next s → (s ≡ slave) × Stores (n .pending) (o .turn .node .pending) clock status words reply (o .after .reply)
+    (n : Node) (clock slave bc : ℕ) (errors : Bool) (status address : ℕ) (words events reply : List ℕ) (s : ℕ)
+    → let o : Outcome = M .reply n clock slave bc errors status address words events reply in
+    o .turn .answer ≡ Answer.Next s
+    → (s ≡ slave)
+    × (Stores (n .pending) (o .turn .node .pending) clock status words reply (o .after .reply)
+    ⊎ StoresEvent (n .pending) (o .turn .node .pending) clock status words events (o .after .further .events))
 
 -- A group's reply that has data, its slaves' answers having come over the wire, is acceptable to a reader of captured replies, with the set
 -- of slaves asked as its mask: 02, request 3.

@@ -26,9 +26,10 @@ use Rattle.demands.specs.ClosedRun.{started}
 -- A call, lent this Q-List.
 abbrev pub lending : List ℕ → Call → Call
 lending list (Call.Start kind ports subdetector program version tests clock) = Call.Start kind ports subdetector program version tests clock
-lending list (Call.Request clock link bc errors packet m x reply) = Call.Request clock link bc errors packet m (further (x .area) list) reply
-lending list (Call.Reply clock slave bc errors status address words reply) = Call.Reply clock slave bc errors status address words reply
-lending list (Call.Poll clock reply) = Call.Poll clock reply
+lending list (Call.Request clock link bc errors packet m x reply) = Call.Request clock link bc errors packet m (further (x .area) list (x .events)) reply
+lending list (Call.Reply clock slave bc errors status address words events reply) = Call.Reply clock slave bc errors status address words events reply
+lending list (Call.Poll clock events reply) = Call.Poll clock events reply
+lending list (Call.Build clock events) = Call.Build clock events
 lending list (Call.Erase budget) = Call.Erase budget
 lending list (Call.Slow clock other) = Call.Slow clock list
 
@@ -36,9 +37,10 @@ lending list (Call.Slow clock other) = Call.Slow clock list
 abbrev pub listOf : Machine → Call → Node → List ℕ → List ℕ → List ℕ
 listOf M (Call.Start kind ports subdetector program version tests clock) n flash list = list
 listOf M (Call.Request clock link bc errors packet m x reply) n flash list =
-    M .request n clock link bc errors packet (lent flash m (further (x .area) list) reply) .after .further .list
-listOf M (Call.Reply clock slave bc errors status address words reply) n flash list = list
-listOf M (Call.Poll clock reply) n flash list = list
+    M .request n clock link bc errors packet (lent flash m (further (x .area) list (x .events)) reply) .after .further .list
+listOf M (Call.Reply clock slave bc errors status address words events reply) n flash list = list
+listOf M (Call.Poll clock events reply) n flash list = list
+listOf M (Call.Build clock events) n flash list = list
 listOf M (Call.Erase budget) n flash list = list
 listOf M (Call.Slow clock other) n flash list = M .slow n clock list .after .further .list
 
@@ -52,6 +54,9 @@ isEnd (Answer.Next s) = false
 isEnd Answer.Waiting = false
 isEnd (Answer.Erased count) = false
 isEnd (Answer.Slow s) = false
+isEnd (Answer.AskEvent s) = false
+isEnd Answer.NoEvent = false
+isEnd (Answer.Built words) = false
 
 abbrev pub handsOut : Answer → ℕ
 handsOut (Answer.Refused r) = 0
@@ -62,6 +67,9 @@ handsOut (Answer.Next s) = 0
 handsOut Answer.Waiting = 0
 handsOut (Answer.Erased count) = 0
 handsOut (Answer.Slow s) = handedOut s
+handsOut (Answer.AskEvent s) = 0
+handsOut Answer.NoEvent = 0
+handsOut (Answer.Built words) = 0
 
 -- The repetitions since the last accepted start: those written, those handed out, and those cleared or deleted.
 pub record Tally : Type 0 where
@@ -87,15 +95,16 @@ abbrev pub talliedBy : Machine → Call → Node → List ℕ → List ℕ → T
 talliedBy M (Call.Start kind ports subdetector program version tests clock) n flash list t =
     pick (isRefused (M .start kind ports subdetector program version tests clock flash .answer)) t (tally 0 0 0)
 talliedBy M (Call.Request clock link bc errors packet m x reply) n flash list t =
-    let a : Answer = M .request n clock link bc errors packet (lent flash m (further (x .area) list) reply) .turn .answer in
+    let a : Answer = M .request n clock link bc errors packet (lent flash m (further (x .area) list (x .events)) reply) .turn .answer in
     tally (t .written + bringsIn bc packet a) (t .handed) (t .cleared + clearsIn n list bc packet a)
-talliedBy M (Call.Reply clock slave bc errors status address words reply) n flash list t = t
-talliedBy M (Call.Poll clock reply) n flash list t = t
+talliedBy M (Call.Reply clock slave bc errors status address words events reply) n flash list t = t
+talliedBy M (Call.Poll clock events reply) n flash list t = t
+talliedBy M (Call.Build clock events) n flash list t = t
 talliedBy M (Call.Erase budget) n flash list t = t
 talliedBy M (Call.Slow clock other) n flash list t = tally (t .written) (t .handed + handsOut (M .slow n clock list .turn .answer)) (t .cleared)
 
 -- One call of a host that keeps a state and a Q-List, and what it keeps after it. The call is lent both, and accepted or refused; or it is refused,
--- lent that state with whatever list, or that list with whatever state. Flash, memories, area and reply buffer are whatever they are.
+-- lent that state with whatever list, or that list with whatever state. Flash, memories, area, event area and reply buffer are whatever they are.
 pub data ListStep (M : Machine) (n : Node) (list : List ℕ) (t : Tally) : Node → List ℕ → Tally → Type 0 where
   Made : (c : Call) (flash : List ℕ) → ListStep M n list t (stateAfter M (lending list c) n flash) (listOf M c n flash list) (talliedBy M c n flash list t)
   OtherList : (c : Call) (flash other : List ℕ) → isRefused (turnOf M (lending other c) n flash .answer) ≡ true
@@ -169,21 +178,23 @@ pub record Alike (listed : ℕ) (list other : List ℕ) : Type 0 where
   pub size : length list ≡ length other
   pub words : take (listed * 7) list ≡ take (listed * 7) other
 
--- A call comes to the same with either: state and answer, flash, memories, area and reply buffer are the same, and the lists then alike again.
+-- A call comes to the same with either: state and answer, flash, memories, area, event area and reply buffer are the same, and the lists
+-- then alike again.
 pub record Unread (o o′ : Outcome) : Type 0 where
   pub turn : o .turn ≡ o′ .turn
   pub flash : o .after .flash ≡ o′ .after .flash
   pub memories : o .after .memories ≡ o′ .after .memories
   pub area : o .after .further .area ≡ o′ .after .further .area
+  pub events : o .after .further .events ≡ o′ .after .further .events
   pub reply : o .after .reply ≡ o′ .after .reply
   pub list : Alike (o .turn .node .listing .entries) (o .after .further .list) (o′ .after .further .list)
 
 -- Records beyond those listed are never read, by a request or a step, whatever the state.
 pub record UnlistedUnread (M : Machine) : Type 0 where
-  pub request : (n : Node) (clock link bc : ℕ) (errors : Bool) (packet flash : List ℕ) (m : Memories) (area list other reply : List ℕ)
+  pub request : (n : Node) (clock link bc : ℕ) (errors : Bool) (packet flash : List ℕ) (m : Memories) (area list other events reply : List ℕ)
       → Alike (n .listing .entries) list other
-      → Unread (M .request n clock link bc errors packet (lent flash m (further area list) reply))
-      (M .request n clock link bc errors packet (lent flash m (further area other) reply))
+      → Unread (M .request n clock link bc errors packet (lent flash m (further area list events) reply))
+      (M .request n clock link bc errors packet (lent flash m (further area other events) reply))
   pub slow : (n : Node) (clock : ℕ) (list other : List ℕ) → Alike (n .listing .entries) list other → Unread (M .slow n clock list) (M .slow n clock other)
 
 -- One run, worked out: an entry of header 0108 and frequency word 0000, written 16 ticks before the clock wraps, is due 65,536 ticks later. A step
@@ -194,7 +205,7 @@ writesOne = 0x5C2E ∷ 0x4007 ∷ 0x2000 ∷ 1 ∷ 0x0108 ∷ 1 ∷ 0 ∷ 0x1111
 abbrev pub wrapping : Machine → Outcome
 wrapping M =
     M .request (started M .node) 0xFFFFFFF0 0 3 false writesOne
-    (lent blank (memories [] [] []) (further (replicate 32768 0) (replicate 7 0)) (replicate 12288 0))
+    (lent blank (memories [] [] []) (further (replicate 32768 0) (replicate 7 0) (replicate 12288 0)) (replicate 12288 0))
 
 abbrev pub tooEarly : Machine → Outcome
 tooEarly M = M .slow (wrapping M .turn .node) 0xFFFFFFFF (wrapping M .after .further .list)

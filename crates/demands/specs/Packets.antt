@@ -32,13 +32,13 @@ fileWrite = 0x452E
 -- file; then any number with BC 00 of 1 to 8,192 words; together at most 32,768 words of the file. No receive errors, none refused, no
 -- other call between, and the area left as it stands. From a state, a flash and an area to those after, with the words sent.
 pub data Sent (M : Machine) (link : ℕ) (n : Node) (flash area : List ℕ) : Node → List ℕ → List ℕ → List ℕ → Type 0 where
-  First : (clock bc : ℕ) (words : List ℕ) (m : Memories) (list reply : List ℕ) (o : Outcome) → bc % 4 ≡ 2 → length words ≤ 8191
-      → M .request n clock link bc false (fileWrite ∷ words) (lent flash m (further area list) reply) ≡ o → isRefused (o .turn .answer) ≡ false
+  First : (clock bc : ℕ) (words : List ℕ) (m : Memories) (list events reply : List ℕ) (o : Outcome) → bc % 4 ≡ 2 → length words ≤ 8191
+      → M .request n clock link bc false (fileWrite ∷ words) (lent flash m (further area list events) reply) ≡ o → isRefused (o .turn .answer) ≡ false
       → Sent M link n flash area (o .turn .node) (o .after .flash) (o .after .further .area) words
   Then : {n′ : Node} {flash′ area′ sent : List ℕ} → Sent M link n flash area n′ flash′ area′ sent
-      → (clock bc : ℕ) (words : List ℕ) (m : Memories) (list reply : List ℕ) (o : Outcome) → bc % 4 ≡ 0 → 1 ≤ length words → length words ≤ 8192
+      → (clock bc : ℕ) (words : List ℕ) (m : Memories) (list events reply : List ℕ) (o : Outcome) → bc % 4 ≡ 0 → 1 ≤ length words → length words ≤ 8192
       → length sent + length words ≤ 32768
-      → M .request n′ clock link bc false words (lent flash′ m (further area′ list) reply) ≡ o → isRefused (o .turn .answer) ≡ false
+      → M .request n′ clock link bc false words (lent flash′ m (further area′ list events) reply) ≡ o → isRefused (o .turn .answer) ≡ false
       → Sent M link n flash area (o .turn .node) (o .after .flash) (o .after .further .area) (sent ++ words)
 
 -- A file in several packets: those but the last, and the last, BC 01, of 1 to 8,192 words.
@@ -53,17 +53,18 @@ pub record Division (M : Machine) (link : ℕ) (n : Node) (flash area file : Lis
   pub last : List ℕ
   pub memories : Memories
   pub list : List ℕ
+  pub events : List ℕ
   pub reply : List ℕ
   pub ends : bc % 4 ≡ 1
   pub least : 1 ≤ length last
   pub most : length last ≤ 8192
   pub joined : sent ++ last ≡ file
   pub short : length file ≤ 32768
-  pub taken : isRefused (M .request node clock link bc false last (lent flash′ memories (further area′ list) reply) .turn .answer) ≡ false
+  pub taken : isRefused (M .request node clock link bc false last (lent flash′ memories (further area′ list events) reply) .turn .answer) ≡ false
 
 -- What its last packet comes to.
 abbrev pub lastOf : {M : Machine} {link : ℕ} {n : Node} {flash area file : List ℕ} → Division M link n flash area file → Outcome
-lastOf {M} {link} d = M .request (d .node) (d .clock) link (d .bc) false (d .last) (lent (d .flash′) (d .memories) (further (d .area′) (d .list)) (d .reply))
+lastOf {M} {link} d = M .request (d .node) (d .clock) link (d .bc) false (d .last) (lent (d .flash′) (d .memories) (further (d .area′) (d .list) (d .events)) (d .reply))
 
 -- The file written: answer, state and flash are those of the definition of File Write.
 pub record WritesFile (n : Node) (before file : List ℕ) (o : Outcome) : Type 0 where
@@ -98,8 +99,9 @@ abbrev pub isAbout : Joining → Call → Bool
 isAbout j (Call.Start kind ports subdetector program version tests clock) = true
 isAbout j (Call.Request clock link bc errors packet m x reply) =
     eqb (j .link) link && (not errors && (leb (length packet) 8192 && (leb 1 (length packet) || eqb (bcOf bc) 2)))
-isAbout j (Call.Reply clock slave bc errors status address words reply) = false
-isAbout j (Call.Poll clock reply) = false
+isAbout j (Call.Reply clock slave bc errors status address words events reply) = false
+isAbout j (Call.Poll clock events reply) = false
+isAbout j (Call.Build clock events) = false
 isAbout j (Call.Erase budget) = false
 isAbout j (Call.Slow clock list) = false
 
@@ -108,8 +110,9 @@ abbrev pub LeavesArea : Machine → Call → Node → List ℕ → Type 0
 LeavesArea M (Call.Start kind ports subdetector program version tests clock) n flash = Unit {0}
 LeavesArea M (Call.Request clock link bc errors packet m x reply) n flash =
     M .request n clock link bc errors packet (lent flash m x reply) .after .further .area ≡ x .area
-LeavesArea M (Call.Reply clock slave bc errors status address words reply) n flash = Unit {0}
-LeavesArea M (Call.Poll clock reply) n flash = Unit {0}
+LeavesArea M (Call.Reply clock slave bc errors status address words events reply) n flash = Unit {0}
+LeavesArea M (Call.Poll clock events reply) n flash = Unit {0}
+LeavesArea M (Call.Build clock events) n flash = Unit {0}
 LeavesArea M (Call.Erase budget) n flash = Unit {0}
 LeavesArea M (Call.Slow clock list) n flash = Unit {0}
 

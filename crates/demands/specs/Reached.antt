@@ -21,8 +21,9 @@ use Rattle.demands.specs.Requests.{Delivered, isCommand, handed}
 abbrev pub Lends16 : Call → Type 0
 Lends16 (Call.Start kind ports subdetector program version tests clock) = Unit {0}
 Lends16 (Call.Request clock link bc errors packet m x reply) = Below 65536 packet
-Lends16 (Call.Reply clock slave bc errors status address words reply) = Unit {0}
-Lends16 (Call.Poll clock reply) = Unit {0}
+Lends16 (Call.Reply clock slave bc errors status address words events reply) = Unit {0}
+Lends16 (Call.Poll clock events reply) = Unit {0}
+Lends16 (Call.Build clock events) = Unit {0}
 Lends16 (Call.Erase budget) = Unit {0}
 Lends16 (Call.Slow clock list) = Unit {0}
 
@@ -32,8 +33,8 @@ abbrev pub stateAfter : Machine → Call → Node → List ℕ → Node
 stateAfter M c n flash = pick (isStart c && isRefused (turnOf M c n flash .answer)) n (turnOf M c n flash .node)
 
 -- One call of a host that keeps a state and a flash, and what it keeps after it. The call is lent both, and accepted or refused; or it is
--- refused, lent that state with whatever flash, or that flash with whatever state. Memories, area, Q-List, reply buffer, clock and packet are
--- fresh at every call.
+-- refused, lent that state with whatever flash, or that flash with whatever state. Memories, area, Q-List, event area, reply buffer, clock and
+-- packet are fresh at every call.
 pub data Step (M : Machine) (n : Node) (flash : List ℕ) : Node → List ℕ → Type 0 where
   Made : (c : Call) → Lends16 c → Step M n flash (stateAfter M c n flash) (flashOf M c n flash)
   OtherFlash : (c : Call) (other : List ℕ) → isRefused (turnOf M c n other .answer) ≡ true → Step M n flash (stateAfter M c n other) flash

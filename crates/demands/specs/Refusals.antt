@@ -1,5 +1,5 @@
 -- Demand 1, of refusals: each call is refused by the number of the first cause that holds and then changes nothing, and no state
--- reached is refused by 5. 01 'Call refusals', each cause in the words of its table; 8 and 9 are of 02, requests 1 and 7. Assumes
+-- reached is refused by 5. 01 'Call refusals', each cause in the words of its table; 8, 9 and 11 are of 02, requests 1, 7 and 12. Assumes
 -- nothing.
 use Prim.Native.Nat.{ℕ, _+_, _*_, _/_, _%_, _^_, _≤_, _<_}
 use mathlib.Core.Path.{_≡_}
@@ -10,11 +10,15 @@ use lib.ListN.{length, getD}
 use Rattle.flash.specs.Geometry.{sizeOf}
 use Rattle.flash.specs.declared.Erasing.{Erasing}
 use Rattle.group.specs.Slaves.{above}
+use Rattle.group.specs.declared.Tally.{Tally}
+use Rattle.group.specs.declared.ZeroLength.{ZeroLength}
+use Rattle.building.specs.Build.{leftIn}
+use Rattle.building.specs.declared.Building.{Building}
 use Rattle.qlist.specs.Words.{recordsIn}
 use Rattle.qlist.specs.declared.Listing.{Listing}
 use Rattle.node.specs.State.{refusalNumber}
 use Rattle.node.specs.Effect.{Lent, Outcome}
-use Rattle.node.specs.Calls.{nobody, lentReply, lentFlash, lentList}
+use Rattle.node.specs.Calls.{nobody, lentReply, lentEvents, lentFlash, lentList}
 use Rattle.node.specs.declared.Answer.{Answer}
 use Rattle.node.specs.declared.Ask.{Ask}
 use Rattle.node.specs.declared.Gathering.{Gathering}
@@ -35,6 +39,9 @@ numberOf (Answer.Next s) = 0
 numberOf Answer.Waiting = 0
 numberOf (Answer.Erased count) = 0
 numberOf (Answer.Slow s) = 0
+numberOf (Answer.AskEvent s) = 0
+numberOf Answer.NoEvent = 0
+numberOf (Answer.Built words) = 0
 
 -- A row of the table: its number and its cause.
 pub record Cause : Type 1 where
@@ -73,10 +80,38 @@ pub record GatheringIn (slave : ℕ) (g : Gathering) : Type 0 where
   pub stored : g .built .words + g .received .words + 5 * length (above (g .set) slave) + 2 ≤ 12288
   pub fresh : (0 < g .received .words) ⊎ (g .received .«rx_status» ≡ 0)
 
+-- A build's tally is none yet, none had DAT, all code 0 with DAT, or otherwise: no 0-length reply is common to its slaves, and `Next` stands for
+-- none had DAT. 02, request 12.
+abbrev pub ZeroIn : ZeroLength → Type 0
+ZeroIn ZeroLength.Next = Unit {0}
+ZeroIn ZeroLength.Abort = ⊥
+ZeroIn ZeroLength.Error = ⊥
+ZeroIn ZeroLength.End = ⊥
+
+abbrev pub TallyIn : Tally → Type 0
+TallyIn Tally.Nothing = Unit {0}
+TallyIn (Tally.Zero z) = ZeroIn z
+TallyIn Tally.Whole = Unit {0}
+TallyIn Tally.Mixed = Unit {0}
+
+-- The asked slave is at most 23 and in the set, of 24 bits, and asked one to three times; the slaves left out are within 24 bits; and with w words
+-- built and k slaves above it w + 5(k + 1) + 5 and w + received + 5k + 5 are at most 12,288. 02, request 12.
+pub record BuildingIn (b : Building) : Type 0 where
+  pub member : b .set / 2 ^ b .slave % 2 ≡ 1
+  pub short : b .set < 16777216
+  pub most : b .slave ≤ 23
+  pub asks : (1 ≤ b .asks) × (b .asks ≤ 3)
+  pub tally : TallyIn (b .gathered .built .tally)
+  pub out : b .gathered .«left_out» < 16777216
+  pub room : b .gathered .built .words + 5 * (leftIn b + 1) + 5 ≤ 12288
+  pub stored : b .gathered .built .words + b .received .words + 5 * leftIn b + 5 ≤ 12288
+  pub fresh : (0 < b .received .words) ⊎ (b .received .«rx_status» ≡ 0)
+
 abbrev pub PendingIn : ℕ → Pending → Type 0
 PendingIn ports Pending.Nothing = Unit {0}
 PendingIn ports (Pending.Slave a) = AskIn ports a
 PendingIn ports (Pending.Group a g) = AskIn ports a × GatheringIn (a .slave) g
+PendingIn ports (Pending.Build b) = BuildingIn b
 
 -- While a write stands its link is below the ports, and its words joined are at most 32,768. 02, request 1.
 abbrev pub WritingIn : ℕ → Writing → Type 0
@@ -89,7 +124,7 @@ pub record ListingIn (g : Listing) : Type 0 where
   pub turn : (g .turn < g .entries) ⊎ ((g .entries ≡ 0) × (g .turn ≡ 0))
 
 -- Kind CDP 1 or CDDC 2, 1 to 4 ports, sub-detector up to 7, a flash of either size, mode 0 to 3, masks of 24 bits, and what is erasing,
--- what is pending, the write that stands and what is listed as above.
+-- what is pending, the write that stands and what is listed as above. An unread event has at most 12,288 words (02, request 12).
 pub record IsState (n : Node) : Type 0 where
   pub kind : (n .given .kind ≡ 1) ⊎ (n .given .kind ≡ 2)
   pub ports : (1 ≤ n .given .ports) × (n .given .ports ≤ 4)
@@ -101,19 +136,22 @@ pub record IsState (n : Node) : Type 0 where
   pub pending : PendingIn (n .given .ports) (n .pending)
   pub writing : WritingIn (n .given .ports) (n .writing)
   pub listing : ListingIn (n .listing)
+  pub events : n .events .unread ≤ 12288
 
--- 6 and 7: a request is pending; a slave is now being asked.
+-- 6 and 7: a request or a build is pending; a slave is now being asked.
 abbrev pub IsPending : Pending → Type 0
 IsPending Pending.Nothing = ⊥
 IsPending (Pending.Slave a) = Unit {0}
 IsPending (Pending.Group a g) = Unit {0}
+IsPending (Pending.Build b) = Unit {0}
 
 abbrev pub IsAsked : Pending → ℕ → Type 0
 IsAsked Pending.Nothing slave = ⊥
 IsAsked (Pending.Slave a) slave = a .slave ≡ slave
 IsAsked (Pending.Group a g) slave = a .slave ≡ slave
+IsAsked (Pending.Build b) slave = b .slave ≡ slave
 
--- The rows that more than one call has: 1, 2, 9 and 5.
+-- The rows that more than one call has: 1, 2, 9, 11 and 5.
 abbrev pub flashCause : Node → List ℕ → Cause
 flashCause n flash = cause 1 ((FlashSize (length flash) → ⊥) ⊎ (length flash ≡ n .given .«flash_words» → ⊥))
 
@@ -122,6 +160,9 @@ replyCause reply = cause 2 (length reply < 12288)
 
 abbrev pub listCause : Node → List ℕ → Cause
 listCause n list = cause 9 ((910 < recordsIn list) ⊎ (recordsIn list < n .listing .entries))
+
+abbrev pub eventsCause : List ℕ → Cause
+eventsCause events = cause 11 (length events < 12288)
 
 abbrev pub stateCause : Node → Cause
 stateCause n = cause 5 (IsState n → ⊥)
@@ -140,16 +181,21 @@ requestCauses n link packet l =
     ∷ cause 3 (((32768 < length (l .memories .pm)) ⊎ (32768 < length (l .memories .dm))) ⊎ (4096 < length (l .memories .io)))
     ∷ cause 8 (length (l .further .area) < 32768)
     ∷ listCause n (l .further .list)
+    ∷ eventsCause (l .further .events)
     ∷ cause 4 (link < n .given .ports → ⊥)
     ∷ stateCause n
     ∷ cause 6 (IsPending (n .pending) × (1 ≤ length packet))
     ∷ []
 
-abbrev pub replyCauses : Node → ℕ → List ℕ → List Cause
-replyCauses n slave reply = replyCause reply ∷ cause 4 (23 < slave) ∷ stateCause n ∷ cause 7 (IsAsked (n .pending) slave → ⊥) ∷ []
+abbrev pub replyCauses : Node → ℕ → List ℕ → List ℕ → List Cause
+replyCauses n slave events reply =
+    replyCause reply ∷ eventsCause events ∷ cause 4 (23 < slave) ∷ stateCause n ∷ cause 7 (IsAsked (n .pending) slave → ⊥) ∷ []
 
-abbrev pub pollCauses : Node → List ℕ → List Cause
-pollCauses n reply = replyCause reply ∷ stateCause n ∷ cause 7 (IsPending (n .pending) → ⊥) ∷ []
+abbrev pub pollCauses : Node → List ℕ → List ℕ → List Cause
+pollCauses n events reply = replyCause reply ∷ eventsCause events ∷ stateCause n ∷ cause 7 (IsPending (n .pending) → ⊥) ∷ []
+
+abbrev pub buildCauses : Node → List ℕ → List Cause
+buildCauses n events = eventsCause events ∷ stateCause n ∷ cause 6 (IsPending (n .pending)) ∷ []
 
 abbrev pub eraseCauses : Node → List ℕ → List Cause
 eraseCauses n flash = flashCause n flash ∷ stateCause n ∷ []
@@ -173,12 +219,15 @@ pub record RefusedExactly (M : Machine) : Type 0 where
   pub request : (n : Node) (clock link bc : ℕ) (errors : Bool) (packet : List ℕ) (l : Lent)
       → let o : Outcome = M .request n clock link bc errors packet l in
       Exactly (requestCauses n link packet l) (o .turn .answer) × Unchanged o n l
-  pub reply : (n : Node) (clock slave bc : ℕ) (errors : Bool) (status address : ℕ) (words reply : List ℕ)
-      → let o : Outcome = M .reply n clock slave bc errors status address words reply in
-      Exactly (replyCauses n slave reply) (o .turn .answer) × Unchanged o n (lentReply reply)
-  pub poll : (n : Node) (clock : ℕ) (reply : List ℕ)
-      → let o : Outcome = M .poll n clock reply in
-      Exactly (pollCauses n reply) (o .turn .answer) × Unchanged o n (lentReply reply)
+  pub reply : (n : Node) (clock slave bc : ℕ) (errors : Bool) (status address : ℕ) (words events reply : List ℕ)
+      → let o : Outcome = M .reply n clock slave bc errors status address words events reply in
+      Exactly (replyCauses n slave events reply) (o .turn .answer) × Unchanged o n (lentReply events reply)
+  pub poll : (n : Node) (clock : ℕ) (events reply : List ℕ)
+      → let o : Outcome = M .poll n clock events reply in
+      Exactly (pollCauses n events reply) (o .turn .answer) × Unchanged o n (lentReply events reply)
+  pub build : (n : Node) (clock : ℕ) (events : List ℕ)
+      → let o : Outcome = M .build n clock events in
+      Exactly (buildCauses n events) (o .turn .answer) × Unchanged o n (lentEvents events)
   pub erase : (n : Node) (budget : ℕ) (flash : List ℕ)
       → let o : Outcome = M .erase n budget flash in
       Exactly (eraseCauses n flash) (o .turn .answer) × Unchanged o n (lentFlash flash)

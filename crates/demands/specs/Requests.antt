@@ -62,7 +62,7 @@ abbrev pub brought : Node → ℕ → List ℕ → Further → List ℕ
 brought n bc packet x = pick (eqb (bcOf bc) 3) (drop 1 packet) (ended (n .writing) (x .area) packet)
 
 -- A read reply: data, reply status and FCS from word 0 of the reply buffer on, its other words as they were, and so the state, the flash,
--- the memories, the area and the Q-List.
+-- the memories, the area, the Q-List and the event area.
 abbrev pub handed : Node → Lent → List ℕ → Outcome
 handed n l ws =
     outcome (turn n (Answer.Reply (replied 3 (length ws + 2))))

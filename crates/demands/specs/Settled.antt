@@ -13,6 +13,8 @@ use Rattle.image.proofs as Image
 use Rattle.flash.proofs as Flash
 use Rattle.memory.proofs as Memory
 use Rattle.group.proofs as Group
+use Rattle.event.proofs as Event
+use Rattle.building.proofs as Building
 use Rattle.report.proofs as Report
 use Rattle.qlist.proofs as Qlist
 use Rattle.capture.proofs as Capture
@@ -166,12 +168,13 @@ pub record CaptureSettled : Type 0 where
   pub judge-end : Settles Capture.judge_end.Kinds.ps Capture.judge_end.Kinds.r Capture.judge_end.Reads.Learnt
   pub judge-fcs : Settles Capture.judge_fcs.Kinds.ps Capture.judge_fcs.Kinds.r Capture.judge_fcs.Reads.Learnt
 
--- The node: the six calls, and the parts that decide before anything is done.
+-- The node: the seven calls, and the parts that decide before anything is done.
 pub record NodeSettled : Type 0 where
   pub start : Settles Node.Node.start.Kinds.ps Node.Node.start.Kinds.r Node.Node.start.Reads.Learnt
   pub request : Settles Node.Node.request.Kinds.ps Node.Node.request.Kinds.r Node.Node.request.Reads.Learnt
   pub reply : Settles Node.Node.reply.Kinds.ps Node.Node.reply.Kinds.r Node.Node.reply.Reads.Learnt
   pub poll : Settles Node.Node.poll.Kinds.ps Node.Node.poll.Kinds.r Node.Node.poll.Reads.Learnt
+  pub build : Settles Node.Node.build.Kinds.ps Node.Node.build.Kinds.r Node.Node.build.Reads.Learnt
   pub erase : Settles Node.Node.erase.Kinds.ps Node.Node.erase.Kinds.r Node.Node.erase.Reads.Learnt
   pub slow : Settles Node.Node.slow.Kinds.ps Node.Node.slow.Kinds.r Node.Node.slow.Reads.Learnt
   pub refusals-refusal-number : Settles Node.refusals.refusal_number.Kinds.ps Node.refusals.refusal_number.Kinds.r Node.refusals.refusal_number.Reads.Learnt
@@ -180,6 +183,7 @@ pub record NodeSettled : Type 0 where
   pub refusals-request-verdict : Settles Node.refusals.request_verdict.Kinds.ps Node.refusals.request_verdict.Kinds.r Node.refusals.request_verdict.Reads.Learnt
   pub refusals-reply-verdict : Settles Node.refusals.reply_verdict.Kinds.ps Node.refusals.reply_verdict.Kinds.r Node.refusals.reply_verdict.Reads.Learnt
   pub refusals-poll-verdict : Settles Node.refusals.poll_verdict.Kinds.ps Node.refusals.poll_verdict.Kinds.r Node.refusals.poll_verdict.Reads.Learnt
+  pub refusals-build-verdict : Settles Node.refusals.build_verdict.Kinds.ps Node.refusals.build_verdict.Kinds.r Node.refusals.build_verdict.Reads.Learnt
   pub refusals-erase-verdict : Settles Node.refusals.erase_verdict.Kinds.ps Node.refusals.erase_verdict.Kinds.r Node.refusals.erase_verdict.Reads.Learnt
   pub refusals-slow-verdict : Settles Node.refusals.slow_verdict.Kinds.ps Node.refusals.slow_verdict.Kinds.r Node.refusals.slow_verdict.Reads.Learnt
   pub refusals-start-verdict : Settles Node.refusals.start_verdict.Kinds.ps Node.refusals.start_verdict.Kinds.r Node.refusals.start_verdict.Reads.Learnt
@@ -204,6 +208,37 @@ pub record NodeSettled : Type 0 where
   pub valid-kind-ok : Settles Node.valid.kind_ok.Kinds.ps Node.valid.kind_ok.Kinds.r Node.valid.kind_ok.Reads.Learnt
   pub valid-ports-ok : Settles Node.valid.ports_ok.Kinds.ps Node.valid.ports_ok.Kinds.r Node.valid.ports_ok.Reads.Learnt
   pub valid-state-ok : Settles Node.valid.state_ok.Kinds.ps Node.valid.state_ok.Kinds.r Node.valid.state_ok.Reads.Learnt
+  pub eventing-next-number : Settles Node.eventing.next_number.Kinds.ps Node.eventing.next_number.Kinds.r Node.eventing.next_number.Reads.Learnt
+  pub eventing-all-read : Settles Node.eventing.all_read.Kinds.ps Node.eventing.all_read.Kinds.r Node.eventing.all_read.Reads.Learnt
+  pub eventing-hand-out : Settles Node.eventing.hand_out.Kinds.ps Node.eventing.hand_out.Kinds.r Node.eventing.hand_out.Reads.Learnt
+  pub eventing-raise : Settles Node.eventing.raise.Kinds.ps Node.eventing.raise.Kinds.r Node.eventing.raise.Reads.Learnt
+  pub eventing-take-build : Settles Node.eventing.take_build.Kinds.ps Node.eventing.take_build.Kinds.r Node.eventing.take_build.Reads.Learnt
+
+-- Events: a slave's answer in a build, and the end of an event. 02, request 12.
+pub record EventSettled : Type 0 where
+  pub ending-has-data : Settles Event.ending.has_data.Kinds.ps Event.ending.has_data.Kinds.r Event.ending.has_data.Reads.Learnt
+  pub ending-error-in : Settles Event.ending.error_in.Kinds.ps Event.ending.error_in.Kinds.r Event.ending.error_in.Reads.Learnt
+  pub ending-finish : Settles Event.ending.finish.Kinds.ps Event.ending.finish.Kinds.r Event.ending.finish.Reads.Learnt
+  pub judge-first-said : Settles Event.judge.first_said.Kinds.ps Event.judge.first_said.Kinds.r Event.judge.first_said.Reads.Learnt
+  pub judge-in-all : Settles Event.judge.in_all.Kinds.ps Event.judge.in_all.Kinds.r Event.judge.in_all.Reads.Learnt
+  pub judge-later-said : Settles Event.judge.later_said.Kinds.ps Event.judge.later_said.Kinds.r Event.judge.later_said.Reads.Learnt
+  pub fragment-tallied-in : Settles Event.fragment.tallied_in.Kinds.ps Event.fragment.tallied_in.Kinds.r Event.fragment.tallied_in.Reads.Learnt
+  pub fragment-is-whole-in : Settles Event.fragment.is_whole_in.Kinds.ps Event.fragment.is_whole_in.Kinds.r Event.fragment.is_whole_in.Reads.Learnt
+  pub fragment-left-out : Settles Event.fragment.left_out.Kinds.ps Event.fragment.left_out.Kinds.r Event.fragment.left_out.Reads.Learnt
+  pub fragment-lay-first : Settles Event.fragment.lay_first.Kinds.ps Event.fragment.lay_first.Kinds.r Event.fragment.lay_first.Reads.Learnt
+  pub fragment-gathered-with : Settles Event.fragment.gathered_with.Kinds.ps Event.fragment.gathered_with.Kinds.r Event.fragment.gathered_with.Reads.Learnt
+  pub fragment-take-first : Settles Event.fragment.take_first.Kinds.ps Event.fragment.take_first.Kinds.r Event.fragment.take_first.Reads.Learnt
+  pub fragment-lay-later : Settles Event.fragment.lay_later.Kinds.ps Event.fragment.lay_later.Kinds.r Event.fragment.lay_later.Reads.Learnt
+  pub fragment-take-answer : Settles Event.fragment.take_answer.Kinds.ps Event.fragment.take_answer.Kinds.r Event.fragment.take_answer.Reads.Learnt
+
+-- A pending build. 02, request 12.
+pub record BuildingSettled : Type 0 where
+  pub begin : Settles Building.begin.Kinds.ps Building.begin.Kinds.r Building.begin.Reads.Learnt
+  pub asks-again : Settles Building.asks_again.Kinds.ps Building.asks_again.Kinds.r Building.asks_again.Reads.Learnt
+  pub ask-again : Settles Building.ask_again.Kinds.ps Building.ask_again.Kinds.r Building.ask_again.Reads.Learnt
+  pub await-next : Settles Building.await_next.Kinds.ps Building.await_next.Kinds.r Building.await_next.Reads.Learnt
+  pub hear : Settles Building.hear.Kinds.ps Building.hear.Kinds.r Building.hear.Reads.Learnt
+  pub valid-building-ok : Settles Building.valid.building_ok.Kinds.ps Building.valid.building_ok.Kinds.r Building.valid.building_ok.Reads.Learnt
 
 -- A list of requests in one call.
 pub record SeriesSettled : Type 0 where
@@ -219,6 +254,8 @@ pub record Settled : Type 0 where
   pub flash : FlashSettled
   pub memory : MemorySettled
   pub group : GroupSettled
+  pub event : EventSettled
+  pub building : BuildingSettled
   pub report : ReportSettled
   pub qlist : QlistSettled
   pub capture : CaptureSettled

@@ -1,7 +1,7 @@
 -- Wrong nodes, those that 01 names under 'What calls owe' and others, of 02's rules too, each a machine of its own, and for each the demand that it fails, by
 -- its name in `Demands`. A call of which nothing is said is ours. Assumes nothing.
 use Prim.Native.Nat.{ℕ, _+_, _-_}
-use mathlib.Core.Bool.{Bool, _&&_, not}
+use mathlib.Core.Bool.{Bool, true, false, _&&_, not}
 use mathlib.Core.List.{List, [], _∷_}
 use lib.ListN.{length, getD, replicate}
 use lib.Dec.{ltb, leb, eqb}
@@ -21,12 +21,16 @@ use Rattle.group.specs.Time.{isLate}
 use Rattle.qlist.specs.Entry.{later}
 use Rattle.qlist.specs.Words.{listing, entryIn}
 use Rattle.qlist.specs.declared.Slow.{Slow}
-use Rattle.node.specs.State.{turn, joining, withSettings, withFlash, withPending, withWriting, withListing}
+use Rattle.building.specs.Build.{building}
+use Rattle.node.specs.State.{turn, joining, known, withSettings, withFlash, withPending, withWriting, withListing, withEvents}
+use Rattle.node.specs.Refusals.{isPending}
+use Rattle.node.specs.Events.{numberIn}
 use Rattle.node.specs.Slaves.{ask}
 use Rattle.node.specs.Route.{asking, bcOf}
 use Rattle.node.specs.Effect.{Lent, lent, further, Outcome, outcome}
-use Rattle.node.specs.Calls.{lentReply, lentFlash, lentList, nobody, startOf, requestOf, replyOf, pollOf, eraseOf, slowOf}
+use Rattle.node.specs.Calls.{lentReply, lentEvents, lentFlash, lentList, nobody, startOf, requestOf, replyOf, pollOf, buildOf, eraseOf, slowOf}
 use Rattle.node.specs.declared.Answer.{Answer}
+use Rattle.node.specs.declared.Events.{Events}
 use Rattle.node.specs.declared.Node.{Node}
 use Rattle.node.specs.declared.Pending.{Pending}
 use Rattle.node.specs.declared.Refusal.{Refusal}
@@ -47,6 +51,9 @@ use Rattle.demands.specs.Ends.{EachLowersOrStores, AlwaysEnds, NeverAske
 use Rattle.demands.specs.ClosedRun.{ClosedRun}
 use Rattle.demands.specs.Series.{OneByOne, ListRefused}
 use Rattle.demands.specs.Listing.{RepetitionsConserved, TurnInOrder, DueAcrossWrap}
+use Rattle.demands.specs.Built.{Sight, builtIn, EventNumbers, HandedOutOnce, BuildErrors}
+use Rattle.demands.specs.Builds.{OneAtATime}
+use Rattle.demands.specs.BuildRuns.{EventIsItsFragments, BuildsEnd}
 
 -- Once started, always refuses.
 abbrev pub refused : Refusal → Node → Lent → Outcome
@@ -57,8 +64,9 @@ refusing r =
     record {
       start = startOf;
       request = λ n clock link bc errors packet l. refused r n l;
-      reply = λ n clock slave bc errors status address words reply. refused r n (lentReply reply);
-      poll = λ n clock reply. refused r n (lentReply reply);
+      reply = λ n clock slave bc errors status address words events reply. refused r n (lentReply events reply);
+      poll = λ n clock events reply. refused r n (lentReply events reply);
+      build = λ n clock events. refused r n (lentEvents events);
       erase = λ n budget flash. refused r n (lentFlash flash);
       slow = λ n clock list. refused r n (lentList list);
       requests = requestsOf;
@@ -72,6 +80,7 @@ aborting =
       request = λ n clock link bc errors packet l. outcome (turn n abort) l;
       reply = replyOf;
       poll = pollOf;
+      build = buildOf;
       erase = eraseOf;
       slow = slowOf;
       requests = requestsOf;
@@ -88,6 +97,7 @@ constant r ws =
       request = λ n clock link bc errors packet l. replying r ws l (requestOf n clock link bc errors packet l);
       reply = replyOf;
       poll = pollOf;
+      build = buildOf;
       erase = eraseOf;
       slow = slowOf;
       requests = requestsOf;
@@ -102,8 +112,9 @@ idle =
     record {
       start = startOf;
       request = λ n clock link bc errors packet l. unchanging n l (requestOf n clock link bc errors packet l);
-      reply = λ n clock slave bc errors status address words reply. unchanging n (lentReply reply) (replyOf n clock slave bc errors status address words reply);
-      poll = λ n clock reply. unchanging n (lentReply reply) (pollOf n clock reply);
+      reply = λ n clock slave bc errors status address words events reply. unchanging n (lentReply events reply) (replyOf n clock slave bc errors status address words events reply);
+      poll = λ n clock events reply. unchanging n (lentReply events reply) (pollOf n clock events reply);
+      build = λ n clock events. unchanging n (lentEvents events) (buildOf n clock events);
       erase = λ n budget flash. unchanging n (lentFlash flash) (eraseOf n budget flash);
       slow = λ n clock list. unchanging n (lentList list) (slowOf n clock list);
       requests = λ n clock list l. came (series n (Done.Packets 0)) l;
@@ -120,6 +131,7 @@ hasty says =
       request = requestOf;
       reply = replyOf;
       poll = pollOf;
+      build = buildOf;
       erase = λ n budget flash. reporting (says budget) (eraseOf n (length flash) flash);
       slow = slowOf;
       requests = requestsOf;
@@ -133,6 +145,7 @@ boasting =
       request = requestOf;
       reply = replyOf;
       poll = pollOf;
+      build = buildOf;
       erase = λ n budget flash. outcome (eraseOf n budget flash .turn) (lentFlash flash);
       slow = slowOf;
       requests = requestsOf;
@@ -149,6 +162,7 @@ scanning =
       request = λ n clock link bc errors packet l. stale n (requestOf n clock link bc errors packet l);
       reply = replyOf;
       poll = pollOf;
+      build = buildOf;
       erase = λ n budget flash. stale n (eraseOf n budget flash);
       slow = slowOf;
       requests = requestsOf;
@@ -160,9 +174,10 @@ disorderly =
     record {
       start = startOf;
       request = requestOf;
-      reply = λ n clock slave bc errors status address words reply.
-          pick (ltb 23 slave) (refused Refusal.Number n (lentReply reply)) (replyOf n clock slave bc errors status address words reply);
+      reply = λ n clock slave bc errors status address words events reply.
+          pick (ltb 23 slave) (refused Refusal.Number n (lentReply events reply)) (replyOf n clock slave bc errors status address words events reply);
       poll = pollOf;
+      build = buildOf;
       erase = eraseOf;
       slow = slowOf;
       requests = requestsOf;
@@ -176,6 +191,7 @@ unstarted r =
       request = requestOf;
       reply = replyOf;
       poll = pollOf;
+      build = buildOf;
       erase = eraseOf;
       slow = slowOf;
       requests = requestsOf;
@@ -195,6 +211,9 @@ withReply (Answer.Next s) n flash = n
 withReply Answer.Waiting n flash = n
 withReply (Answer.Erased count) n flash = n
 withReply (Answer.Slow s) n flash = n
+withReply (Answer.AskEvent s) n flash = n
+withReply Answer.NoEvent n flash = n
+withReply (Answer.Built words) n flash = n
 
 abbrev pub willing : Outcome → Outcome
 willing o = outcome (turn (withReply (o .turn .answer) (o .turn .node) (o .after .flash)) (o .turn .answer)) (o .after)
@@ -206,6 +225,7 @@ rogue =
       request = λ n clock link bc errors packet l. willing (requestOf n clock link bc errors packet l);
       reply = replyOf;
       poll = pollOf;
+      build = buildOf;
       erase = eraseOf;
       slow = slowOf;
       requests = requestsOf;
@@ -224,6 +244,7 @@ dropping =
       request = λ n clock link bc errors packet l. drops (n .erasing) (requestOf n clock link bc errors packet l);
       reply = replyOf;
       poll = pollOf;
+      build = buildOf;
       erase = eraseOf;
       slow = slowOf;
       requests = requestsOf;
@@ -243,6 +264,7 @@ loader =
       request = λ n clock link bc errors packet l. loadsHalf (n .erasing) bc packet (requestOf n clock link bc errors packet l);
       reply = replyOf;
       poll = pollOf;
+      build = buildOf;
       erase = eraseOf;
       slow = slowOf;
       requests = requestsOf;
@@ -258,6 +280,9 @@ lies (Answer.Next s) = Answer.Next s
 lies Answer.Waiting = Answer.Waiting
 lies (Answer.Erased count) = Answer.Erased count
 lies (Answer.Slow s) = Answer.Slow s
+lies (Answer.AskEvent s) = Answer.AskEvent s
+lies Answer.NoEvent = Answer.NoEvent
+lies (Answer.Built words) = Answer.Built words
 
 abbrev pub lying : Machine
 lying =
@@ -268,6 +293,7 @@ lying =
           pick (isCommand 0x45 bc packet) (outcome (turn (o .turn .node) (lies (o .turn .answer))) (o .after)) o;
       reply = replyOf;
       poll = pollOf;
+      build = buildOf;
       erase = eraseOf;
       slow = slowOf;
       requests = requestsOf;
@@ -283,6 +309,7 @@ denying =
           pick (isCommand 0x45 bc packet) (outcome (turn (o .turn .node) abort) (o .after)) o;
       reply = replyOf;
       poll = pollOf;
+      build = buildOf;
       erase = eraseOf;
       slow = slowOf;
       requests = requestsOf;
@@ -297,6 +324,7 @@ judging =
           pick (eqb (bcOf bc) 2 && not (headerOk (getD packet 1 0))) (outcome (turn n abort) l) (requestOf n clock link bc errors packet l);
       reply = replyOf;
       poll = pollOf;
+      build = buildOf;
       erase = eraseOf;
       slow = slowOf;
       requests = requestsOf;
@@ -311,9 +339,10 @@ hoarding =
           let o : Outcome = requestOf n clock link bc errors packet l in
           pick (eqb (bcOf bc) 2)
           (outcome (turn (withWriting (o .turn .node) (Writing.File (joining link (length packet)))) (o .turn .answer))
-          (lent (o .after .flash) (o .after .memories) (further (laid (l .further .area) 0 packet) (o .after .further .list)) (o .after .reply))) o;
+          (lent (o .after .flash) (o .after .memories) (further (laid (l .further .area) 0 packet) (o .after .further .list) (o .after .further .events)) (o .after .reply))) o;
       reply = replyOf;
       poll = pollOf;
+      build = buildOf;
       erase = eraseOf;
       slow = slowOf;
       requests = requestsOf;
@@ -331,6 +360,7 @@ mixing =
       request = λ n clock link bc errors packet l. requestOf n clock (pick (eqb (bcOf bc) 0) (writer (n .writing) link) link) bc errors packet l;
       reply = replyOf;
       poll = pollOf;
+      build = buildOf;
       erase = eraseOf;
       slow = slowOf;
       requests = requestsOf;
@@ -347,6 +377,7 @@ empty =
       request = requestOf;
       reply = replyOf;
       poll = pollOf;
+      build = buildOf;
       erase = eraseOf;
       slow = slowOf;
       requests = requestsOf;
@@ -366,6 +397,7 @@ remembering =
           pick (isCommand 0x47 bc packet) (recalls n o) o;
       reply = replyOf;
       poll = pollOf;
+      build = buildOf;
       erase = eraseOf;
       slow = slowOf;
       requests = requestsOf;
@@ -384,6 +416,7 @@ measuring =
       request = requestOf;
       reply = replyOf;
       poll = pollOf;
+      build = buildOf;
       erase = eraseOf;
       slow = slowOf;
       requests = requestsOf;
@@ -407,6 +440,7 @@ overlooking =
           (requestOf n clock link bc errors packet l);
       reply = replyOf;
       poll = pollOf;
+      build = buildOf;
       erase = eraseOf;
       slow = slowOf;
       requests = requestsOf;
@@ -426,6 +460,7 @@ choosing =
           (requestOf n clock link bc errors packet l);
       reply = replyOf;
       poll = pollOf;
+      build = buildOf;
       erase = eraseOf;
       slow = slowOf;
       requests = requestsOf;
@@ -442,6 +477,7 @@ doubling =
           (requestOf n clock link bc errors packet l);
       reply = replyOf;
       poll = pollOf;
+      build = buildOf;
       erase = eraseOf;
       slow = slowOf;
       requests = requestsOf;
@@ -453,8 +489,9 @@ abbrev pub sealed : Pending → List ℕ → Outcome → Outcome
 sealed (Pending.Group a g) words o =
     pick (ltb 0 (g .received .words) && ltb 0 (length words))
     (outcome (o .turn)
-    (lentReply (laid (o .after .reply) (g .built .words + g .received .words + length words - 1) (getD words (length words - 1) 0 ∷ []))))
+    (lentReply (o .after .further .events) (laid (o .after .reply) (g .built .words + g .received .words + length words - 1) (getD words (length words - 1) 0 ∷ []))))
     o
+sealed (Pending.Build b) words o = o
 sealed (Pending.Slave a) words o = o
 sealed Pending.Nothing words o = o
 
@@ -463,9 +500,10 @@ sealing =
     record {
       start = startOf;
       request = requestOf;
-      reply = λ n clock slave bc errors status address words reply.
-          sealed (n .pending) words (replyOf n clock slave bc errors status address words reply);
+      reply = λ n clock slave bc errors status address words events reply.
+          sealed (n .pending) words (replyOf n clock slave bc errors status address words events reply);
       poll = pollOf;
+      build = buildOf;
       erase = eraseOf;
       slow = slowOf;
       requests = requestsOf;
@@ -474,8 +512,10 @@ sealing =
 -- Sends NEXT, and leaves the slave what is left of its 60 ticks.
 abbrev pub askedAsBefore : Pending → Pending → Pending
 askedAsBefore (Pending.Group a g) (Pending.Group b h) = Pending.Group (ask (b .link) (b .slave) (a .at)) h
+askedAsBefore (Pending.Group a g) (Pending.Build b) = Pending.Build b
 askedAsBefore (Pending.Group a g) (Pending.Slave b) = Pending.Slave b
 askedAsBefore (Pending.Group a g) Pending.Nothing = Pending.Nothing
+askedAsBefore (Pending.Build b) after = after
 askedAsBefore (Pending.Slave a) after = after
 askedAsBefore Pending.Nothing after = after
 
@@ -484,10 +524,11 @@ hurrying =
     record {
       start = startOf;
       request = requestOf;
-      reply = λ n clock slave bc errors status address words reply.
-          let o : Outcome = replyOf n clock slave bc errors status address words reply in
+      reply = λ n clock slave bc errors status address words events reply.
+          let o : Outcome = replyOf n clock slave bc errors status address words events reply in
           outcome (turn (withPending (o .turn .node) (askedAsBefore (n .pending) (o .turn .node .pending))) (o .turn .answer)) (o .after);
       poll = pollOf;
+      build = buildOf;
       erase = eraseOf;
       slow = slowOf;
       requests = requestsOf;
@@ -497,7 +538,8 @@ hurrying =
 abbrev pub counted : Pending → ℕ → List ℕ → Outcome → Outcome
 counted (Pending.Group a g) clock words o =
     pick (ltb 0 (g .received .words) && isLate clock (a .at))
-    (outcome (o .turn) (lentReply (laid (o .after .reply) (g .built .words + 2) ((g .received .words + length words) ∷ [])))) o
+    (outcome (o .turn) (lentReply (o .after .further .events) (laid (o .after .reply) (g .built .words + 2) ((g .received .words + length words) ∷ [])))) o
+counted (Pending.Build b) clock words o = o
 counted (Pending.Slave a) clock words o = o
 counted Pending.Nothing clock words o = o
 
@@ -506,9 +548,10 @@ counting =
     record {
       start = startOf;
       request = requestOf;
-      reply = λ n clock slave bc errors status address words reply.
-          counted (n .pending) clock words (replyOf n clock slave bc errors status address words reply);
+      reply = λ n clock slave bc errors status address words events reply.
+          counted (n .pending) clock words (replyOf n clock slave bc errors status address words events reply);
       poll = pollOf;
+      build = buildOf;
       erase = eraseOf;
       slow = slowOf;
       requests = requestsOf;
@@ -519,6 +562,7 @@ abbrev pub asksAgain : Pending → ℕ → Bool → Node → Outcome → Outcome
 asksAgain (Pending.Group a g) clock errors n o =
     pick (errors && not (isLate clock (a .at)))
     (outcome (turn (withPending n (Pending.Group (ask (a .link) (a .slave) clock) g)) (Answer.Ask (asking (a .slave) (g .from)))) (o .after)) o
+asksAgain (Pending.Build b) clock errors n o = o
 asksAgain (Pending.Slave a) clock errors n o = o
 asksAgain Pending.Nothing clock errors n o = o
 
@@ -527,19 +571,21 @@ insisting =
     record {
       start = startOf;
       request = requestOf;
-      reply = λ n clock slave bc errors status address words reply.
-          asksAgain (n .pending) clock errors n (replyOf n clock slave bc errors status address words reply);
+      reply = λ n clock slave bc errors status address words events reply.
+          asksAgain (n .pending) clock errors n (replyOf n clock slave bc errors status address words events reply);
       poll = pollOf;
+      build = buildOf;
       erase = eraseOf;
       slow = slowOf;
       requests = requestsOf;
     }
 
 -- Waits for ever after NEXT: with words received a poll is answered so, however late, and changes nothing.
-abbrev pub waitsOn : Pending → Node → List ℕ → Outcome → Outcome
-waitsOn (Pending.Group a g) n reply o = pick (ltb 0 (g .received .words)) (outcome (turn n Answer.Waiting) (lentReply reply)) o
-waitsOn (Pending.Slave a) n reply o = o
-waitsOn Pending.Nothing n reply o = o
+abbrev pub waitsOn : Pending → Node → List ℕ → List ℕ → Outcome → Outcome
+waitsOn (Pending.Group a g) n events reply o = pick (ltb 0 (g .received .words)) (outcome (turn n Answer.Waiting) (lentReply events reply)) o
+waitsOn (Pending.Build b) n events reply o = o
+waitsOn (Pending.Slave a) n events reply o = o
+waitsOn Pending.Nothing n events reply o = o
 
 abbrev pub patient : Machine
 patient =
@@ -547,7 +593,8 @@ patient =
       start = startOf;
       request = requestOf;
       reply = replyOf;
-      poll = λ n clock reply. waitsOn (n .pending) n reply (pollOf n clock reply);
+      poll = λ n clock events reply. waitsOn (n .pending) n events reply (pollOf n clock events reply);
+      build = buildOf;
       erase = eraseOf;
       slow = slowOf;
       requests = requestsOf;
@@ -563,6 +610,9 @@ withheld (Answer.Next s) = Answer.Next s
 withheld Answer.Waiting = Answer.Waiting
 withheld (Answer.Erased count) = Answer.Erased count
 withheld (Answer.Slow s) = Answer.Slow Slow.Nothing
+withheld (Answer.AskEvent s) = Answer.AskEvent s
+withheld Answer.NoEvent = Answer.NoEvent
+withheld (Answer.Built words) = Answer.Built words
 
 abbrev pub losing : Machine
 losing =
@@ -571,6 +621,7 @@ losing =
       request = requestOf;
       reply = replyOf;
       poll = pollOf;
+      build = buildOf;
       erase = eraseOf;
       slow = λ n clock list.
           let o : Outcome = slowOf n clock list in
@@ -589,6 +640,7 @@ skipping =
           (outcome (turn (withListing (o .turn .node) (listing (o .turn .node .listing .entries) (n .listing .turn))) (o .turn .answer)) (o .after)) o;
       reply = replyOf;
       poll = pollOf;
+      build = buildOf;
       erase = eraseOf;
       slow = slowOf;
       requests = requestsOf;
@@ -605,8 +657,141 @@ greater =
       request = requestOf;
       reply = replyOf;
       poll = pollOf;
+      build = buildOf;
       erase = eraseOf;
       slow = λ n clock list. slowOf n (compared (entryIn list (n .listing .turn) .due) clock) list;
+      requests = requestsOf;
+    }
+
+-- Numbers every build that a poll ends, with an event or with none. 02, request 12.
+abbrev pub isBuild : Pending → Bool
+isBuild Pending.Nothing = false
+isBuild (Pending.Slave a) = false
+isBuild (Pending.Group a g) = false
+isBuild (Pending.Build b) = true
+
+abbrev pub numbering : Machine
+numbering =
+    record {
+      start = startOf;
+      request = requestOf;
+      reply = replyOf;
+      poll = λ n clock events reply.
+          let o : Outcome = pollOf n clock events reply in
+          let e : Events = o .turn .node .events in
+          pick (isBuild (n .pending) && not (isPending (o .turn .node .pending)))
+          (outcome (turn (withEvents (o .turn .node) (known (numberIn n) (e .errors) (e .unread))) (o .turn .answer)) (o .after)) o;
+      build = buildOf;
+      erase = eraseOf;
+      slow = slowOf;
+      requests = requestsOf;
+    }
+
+-- Hands an event out again and again: after Read Event it knows what it knew before.
+abbrev pub repeating : Machine
+repeating =
+    record {
+      start = startOf;
+      request = λ n clock link bc errors packet l.
+          let o : Outcome = requestOf n clock link bc errors packet l in
+          pick (isCommand 0x01 bc packet) (outcome (turn (withEvents (o .turn .node) (n .events)) (o .turn .answer)) (o .after)) o;
+      reply = replyOf;
+      poll = pollOf;
+      build = buildOf;
+      erase = eraseOf;
+      slow = slowOf;
+      requests = requestsOf;
+    }
+
+-- Counts no build error.
+abbrev pub forgiving : Machine
+forgiving =
+    record {
+      start = startOf;
+      request = requestOf;
+      reply = λ n clock slave bc errors status address words events reply.
+          let o : Outcome = replyOf n clock slave bc errors status address words events reply in
+          let e : Events = o .turn .node .events in
+          outcome (turn (withEvents (o .turn .node) (known (e .last) (n .events .errors) (e .unread))) (o .turn .answer)) (o .after);
+      poll = pollOf;
+      build = buildOf;
+      erase = eraseOf;
+      slow = slowOf;
+      requests = requestsOf;
+    }
+
+-- Forgets what it lays in the event area.
+abbrev pub forgetting : Machine
+forgetting =
+    record {
+      start = startOf;
+      request = requestOf;
+      reply = λ n clock slave bc errors status address words events reply.
+          let o : Outcome = replyOf n clock slave bc errors status address words events reply in
+          outcome (o .turn) (lentReply events (o .after .reply));
+      poll = pollOf;
+      build = buildOf;
+      erase = eraseOf;
+      slow = slowOf;
+      requests = requestsOf;
+    }
+
+-- Shows no slave as left out: the two mask words of an event that a reply ends are 0.
+abbrev pub hidden : Sight → List ℕ → List ℕ
+hidden Sight.Nothing area = area
+hidden Sight.Started area = area
+hidden Sight.Reset area = area
+hidden Sight.Handed area = area
+hidden (Sight.Built words built) area = laid area (words - 4) (0 ∷ 0 ∷ [])
+
+abbrev pub hiding : Machine
+hiding =
+    record {
+      start = startOf;
+      request = requestOf;
+      reply = λ n clock slave bc errors status address words events reply.
+          let o : Outcome = replyOf n clock slave bc errors status address words events reply in
+          let area : List ℕ = o .after .further .events in
+          outcome (o .turn) (lentReply (hidden (builtIn (o .turn .answer) area) area) (o .after .reply));
+      poll = pollOf;
+      build = buildOf;
+      erase = eraseOf;
+      slow = slowOf;
+      requests = requestsOf;
+    }
+
+-- Asks a slave again as often as it answers END: every time it takes the slave for one that was asked once.
+abbrev pub askedOnce : Pending → Pending
+askedOnce Pending.Nothing = Pending.Nothing
+askedOnce (Pending.Slave a) = Pending.Slave a
+askedOnce (Pending.Group a g) = Pending.Group a g
+askedOnce (Pending.Build b) = Pending.Build (building (b .set) (b .slave) 1 (b .at) (b .gathered) (b .received))
+
+abbrev pub begging : Machine
+begging =
+    record {
+      start = startOf;
+      request = requestOf;
+      reply = λ n clock slave bc errors status address words events reply.
+          replyOf (withPending n (askedOnce (n .pending))) clock slave bc errors status address words events reply;
+      poll = pollOf;
+      build = buildOf;
+      erase = eraseOf;
+      slow = slowOf;
+      requests = requestsOf;
+    }
+
+-- Drops what is pending for a build.
+abbrev pub impatient : Machine
+impatient =
+    record {
+      start = startOf;
+      request = requestOf;
+      reply = replyOf;
+      poll = pollOf;
+      build = λ n clock events. buildOf (withPending n Pending.Nothing) clock events;
+      erase = eraseOf;
+      slow = slowOf;
       requests = requestsOf;
     }
 
@@ -624,6 +809,7 @@ quitting =
       request = requestOf;
       reply = replyOf;
       poll = pollOf;
+      build = buildOf;
       erase = eraseOf;
       slow = slowOf;
       requests = λ n clock list l.
@@ -639,6 +825,7 @@ eager =
       request = requestOf;
       reply = replyOf;
       poll = pollOf;
+      build = buildOf;
       erase = eraseOf;
       slow = slowOf;
       requests = λ n clock list l. ended (row (stepBy requestOf clock list) (kept n l 0) (packetsIn list));
@@ -682,6 +869,15 @@ pub record ShutOut : Type 0 where
   pub loses : RepetitionsConserved losing → ⊥
   pub skips : TurnInOrder skipping → ⊥
   pub compares : DueAcrossWrap greater → ⊥
+  -- of events: numbers one that was not built; hands one out twice; counts no build error
+  pub numbers-none : EventNumbers numbering → ⊥
+  pub hands-twice : HandedOutOnce repeating → ⊥
+  pub forgives : BuildErrors forgiving → ⊥
+  -- leaves the event area as it was; shows no slave as left out; asks a slave a fourth time; drops a group for a build
+  pub forgets : EventIsItsFragments forgetting → ⊥
+  pub hides : EventIsItsFragments hiding → ⊥
+  pub begs : BuildsEnd begging → ⊥
+  pub drops-group : OneAtATime impatient → ⊥
   -- stops a list after the first ABORT; does the first packets of one that runs past its end
   pub stops-early : OneByOne quitting → ⊥
   pub runs-past : ListRefused eager → ⊥
