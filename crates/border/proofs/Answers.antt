@@ -6,7 +6,7 @@ use mathlib.Core.Path.{_≡_, refl, sym, ap, _∙_, subst}
 use mathlib.Core.Logic.{_⊎_, inl, inr}
 use mathlib.Core.Bool.{Bool, true, false, _&&_, _||_, false≢true}
 use mathlib.Core.List.{List, [], _∷_}
-use lib.ListN.{length, take, length-take}
+use lib.ListN.{length, take, length-take, getD}
 use lib.Dec.{ltb, leb, eqb}
 use borrow.Author.Tests.{eqb-true, leb-true, ltb-true, ltb-false}
 use Rattle.base.proofs.Pick.{pick-case, and-left, and-right}
@@ -14,7 +14,7 @@ use Rattle.flash.specs.Geometry.{unitOf}
 use Rattle.flash.specs.Change.{eraseCount}
 use Rattle.flash.specs.declared.Erasing.{Erasing}
 use Rattle.group.specs.Kind.{answer, partBy, Answer as SlaveAnswer}
-use Rattle.group.specs.Slaves.{slavesUp, above, nextOf}
+use Rattle.group.specs.Slaves.{slavesUp, slavesOf, above, nextOf}
 use Rattle.group.specs.Fragment.{Assembly, assembly, taken}
 use Rattle.group.specs.Time.{isLate}
 use Rattle.group.specs.Ending.{Sent, replied, zeroReply, groupStatus, sealed, endBy, endOf}
@@ -30,11 +30,11 @@ use Rattle.qlist.specs.Words.{Stepped, recordsIn, entryIn, stepIn}
 use Rattle.qlist.specs.declared.Listing.{Listing}
 use Rattle.qlist.specs.declared.Slow.{Slow}
 use Rattle.node.specs.Effect.{Effect, Lent, lent}
-use Rattle.node.specs.Refusals.{replyVerdict, pollVerdict, eraseVerdict, slowVerdict}
+use Rattle.node.specs.Refusals.{replyVerdict, pollVerdict, buildVerdict, eraseVerdict, slowVerdict}
 use Rattle.node.specs.Valid.{askOk, gatheringOk, pendingOk}
 use Rattle.node.specs.Settings.{statusIn}
-use Rattle.node.specs.Slaves.{heard, silent, goesOn, packetIn, yetToAsk, hears, askedAt, replyEffect, pollEffect}
-use Rattle.node.specs.Calls.{judged, lentReply, lentFlash, lentList, routed, requestOf, replyOf, pollOf, eraseEffect, eraseOf, slowEffect, slowOf}
+use Rattle.node.specs.Slaves.{heard, silent, goesOn, packetIn, yetToAsk, comesTo, hears, askedAt, replyEffect, pollEffect}
+use Rattle.node.specs.Calls.{judged, lentReply, lentEvents, lentFlash, lentList, routed, requestOf, replyOf, pollOf, buildFrom, buildEffect, buildOf, eraseEffect, eraseOf, slowEffect, slowOf}
 use Rattle.node.specs.declared.Answer.{Answer}
 use Rattle.node.specs.declared.Gathering.{Gathering}
 use Rattle.node.specs.Files.{joined}
@@ -52,7 +52,7 @@ use Rattle.logodwen.specs.Number.{fields, answerNumber}
 use Rattle.touch.specs.InBytes.{memoryWords, replyWords, furtherWords}
 use Rattle.logodwen.specs.Entry.{isSet}
 use Rattle.codec.proofs.Runs.{length-words, length-words-of}
-use Rattle.logodwen.proofs.Entering.{bytes-most, request-fine, reply-fine, poll-fine, erase-fine, slow-fine}
+use Rattle.logodwen.proofs.Entering.{bytes-most, request-fine, reply-fine, poll-fine, build-fine, erase-fine, slow-fine}
 use Rattle.codec.proofs.Small.{size-most}
 use Rattle.logodwen.proofs.Fine.{state-sound, records-listed}
 use Rattle.border.specs.Exactly.{entries}
@@ -60,6 +60,16 @@ use Rattle.border.specs.Host.{Entry, numberAfter, isDone}
 use Rattle.border.specs.Answers.{InBits, Says, Bounds, answerIn, NothingCut, endNumber}
 use Rattle.border.proofs.Fine.{records-are}
 use Rattle.border.proofs.Steps.{Made, start-begins, done-made, done-taken}
+use Rattle.report.specs.Status.{hasMasks}
+use Rattle.building.specs.Build.{hearsIn}
+use Rattle.building.specs.declared.Building.{Building}
+use Rattle.building.specs.declared.Progress.{Progress}
+use Rattle.building.specs.Promised.{Going, Most}
+use Rattle.building.specs.Valid.{buildingOk}
+use Rattle.building.proofs.Ok.{ok-tells}
+use Rattle.building.proofs.Promised.{keeps, event-most}
+use Rattle.node.proofs.Verdicts.{unread-most}
+use Rattle.node.specs.Events.{numberIn}
 use Rattle.node.proofs.Replies.{write-replied, Short, own-replied}
 
 -- an answer within bounds stands in the bits of its number
@@ -81,6 +91,9 @@ bounds-say Answer.Waiting b = fields-in 3 0 0 0 (omega arith) (omega arith) (ome
 bounds-say (Answer.Erased count) b = fields-in 0 0 0 count (omega arith) (omega arith) (omega arith) (omega arith)
 bounds-say (Answer.Slow (Slow.Handed place)) b = fields-in 6 0 0 place (omega arith) (omega arith) (omega arith) (omega arith)
 bounds-say (Answer.Slow Slow.Nothing) b = fields-in 7 0 0 0 (omega arith) (omega arith) (omega arith) (omega arith)
+bounds-say (Answer.AskEvent s) b = fields-in 9 s 0 0 (omega arith) (omega arith) (omega arith) (omega arith)
+bounds-say Answer.NoEvent b = fields-in 10 0 0 0 (omega arith) (omega arith) (omega arith) (omega arith)
+bounds-say (Answer.Built words) b = fields-in 11 0 0 words (omega arith) (omega arith) (omega arith) (omega arith)
 
 -- a slave that is asked is one of 24
 next-small : (set b s : ℕ) → nextOf (slavesUp set b) ≡ Next.Slave s → s ≤ 23
@@ -97,12 +110,12 @@ named-from Named.all = inl refl
 
 -- a request
 request-bounds : (n : Node) (clock link bc : ℕ) (errors : Bool) (packet : List ℕ) (l : Lent) → length (n .directory) ≡ 32 → n .listing .entries ≤ 910
-    → n .listing .entries ≤ recordsIn (l .further .list) → Bounds (requestEffect n clock link bc errors packet l .answer)
-request-bounds n clock link bc errors packet l d most lent =
+    → n .listing .entries ≤ recordsIn (l .further .list) → n .events .unread ≤ 12288 → Bounds (requestEffect n clock link bc errors packet l .answer)
+request-bounds n clock link bc errors packet l d most lent unread =
     route-case (λ r. Bounds (routed r n clock link packet l .answer)) n link bc errors packet (omega arith, omega arith)
     (omega arith, omega arith) (λ _ _. (omega arith, omega arith)) (λ _ _. (omega arith, omega arith)) (λ _ _. (omega arith, omega arith))
     (λ from at j. (omega arith, omega arith)) (λ at k. write-replied n l packet (joined (l .further .area) at packet) .0)
-    (λ id w c. own-replied n l packet id clock link d most lent .0) (λ s h. (h, inl refl))
+    (λ id w c. own-replied n l packet id clock link d most lent unread .0) (λ s h. (h, inl refl))
     (λ set from s named e. (next-small set 0 s e, named-from named))
 
 -- a slave's answer, where the reply buffer has at most 12,288 words
@@ -150,11 +163,11 @@ one-or-two x h = by (eqb x 1) refl h
 gathering-from : (slave : ℕ) (g : Gathering) → gatheringOk slave g ≡ true → (g .from ≡ 1) ⊎ (g .from ≡ 2)
 gathering-from slave g h = one-or-two (g .from) (gathered-tells slave g h .from)
 
-hears-bounds : (ports : ℕ) (p : Pending) (n : Node) (clock : ℕ) (h : Heard) (words reply : List ℕ) → pendingOk ports p ≡ true
-    → length reply ≤ 12288 → Bounds (hears p n clock h words reply .answer)
-hears-bounds ports Pending.Nothing n clock h words reply ok b = tt
-hears-bounds ports (Pending.Slave a) n clock h words reply ok b = passed-short reply (answer h words)
-hears-bounds ports (Pending.Group a g) n clock h words reply ok b =
+hears-bounds : (ports : ℕ) (p : Pending) (n : Node) (clock : ℕ) (h : Heard) (words events reply : List ℕ) → pendingOk ports p ≡ true
+    → length reply ≤ 12288 → Bounds (hears p n clock h words events reply .answer)
+hears-bounds ports Pending.Nothing n clock h words events reply ok b = tt
+hears-bounds ports (Pending.Slave a) n clock h words events reply ok b = passed-short reply (answer h words)
+hears-bounds ports (Pending.Group a g) n clock h words events reply ok b =
     pick-case (λ (e : Effect). Bounds (e .answer)) (partBy h (g .received .words) (length words) (g .built .words) (yetToAsk a g))
     (λ _. leb-true (a .slave) 23 (and-right (ltb (a .link) ports) (leb (a .slave) 23) (and-left (askOk ports a) (gatheringOk (a .slave) g) ok)))
     (λ _. by (nextOf (above (g .set) (a .slave))) refl)
@@ -168,21 +181,41 @@ hears-bounds ports (Pending.Group a g) n clock h words reply ok b =
         end-short after (statusIn n) (omega arith)
     by (Next.Slave s) e =
         (next-small (g .set) (a .slave + 1) s e, gathering-from (a .slave) g (and-right (askOk ports a) (gatheringOk (a .slave) g) ok))
+hears-bounds ports (Pending.Build x) n clock h words events reply ok b =
+    by (hearsIn (numberIn n) (statusIn n) clock x h words events .progress) (keeps (numberIn n) (statusIn n) clock x h words events ok)
+    (event-most (numberIn n) (statusIn n) clock x h words events ok)
+  where
+    by : (p : Progress) → Going (λ (y : Building). buildingOk y ≡ true) p → Most p
+        → Bounds (comesTo p n (hearsIn (numberIn n) (statusIn n) clock x h words events .events) reply .answer)
+    by (Progress.Asks y) k m = ok-tells y k .slave
+    by (Progress.Awaits y) k m = ok-tells y k .slave
+    by Progress.NoEvent k m = tt
+    by (Progress.Event w error) k m = m
 
-reply-bounds : (n : Node) (clock : ℕ) (errors : Bool) (status address bc : ℕ) (words reply : List ℕ)
+reply-bounds : (n : Node) (clock : ℕ) (errors : Bool) (status address bc : ℕ) (words events reply : List ℕ)
     → pendingOk (n .given .ports) (n .pending) ≡ true → length reply ≤ 12288
-    → Bounds (replyEffect n clock errors status address bc words reply .answer)
+    → Bounds (replyEffect n clock errors status address bc words events reply .answer)
 unfolding replyEffect
-reply-bounds n clock errors status address bc words reply ok b =
+reply-bounds n clock errors status address bc words events reply ok b =
     let h = heard (isLate clock (askedAt (n .pending))) errors status address bc in
-    hears-bounds (n .given .ports) (n .pending) n clock h words reply ok b
+    hears-bounds (n .given .ports) (n .pending) n clock h words events reply ok b
 
-poll-bounds : (n : Node) (clock : ℕ) (reply : List ℕ) → pendingOk (n .given .ports) (n .pending) ≡ true → length reply ≤ 12288
-    → Bounds (pollEffect n clock reply .answer)
+poll-bounds : (n : Node) (clock : ℕ) (events reply : List ℕ) → pendingOk (n .given .ports) (n .pending) ≡ true → length reply ≤ 12288
+    → Bounds (pollEffect n clock events reply .answer)
 unfolding pollEffect
-poll-bounds n clock reply ok b =
+poll-bounds n clock events reply ok b =
     pick-case (λ (e : Effect). Bounds (e .answer)) (isLate clock (askedAt (n .pending)))
-    (λ _. hears-bounds (n .given .ports) (n .pending) n clock silent [] reply ok b) (λ _. tt)
+    (λ _. hears-bounds (n .given .ports) (n .pending) n clock silent [] events reply ok b) (λ _. tt)
+
+-- a build begins
+build-bounds : (n : Node) (clock : ℕ) → Bounds (buildEffect n clock .answer)
+build-bounds n clock =
+    pick-case (λ (e : Effect). Bounds (e .answer)) (hasMasks (n .given .kind) && eqb (n .events .unread) 0)
+    (λ _. by (nextOf (slavesOf (getD (n .masks) 0 0))) refl) (λ _. (omega arith, omega arith))
+  where
+    by : (next : Next) → nextOf (slavesOf (getD (n .masks) 0 0)) ≡ next → Bounds (buildFrom next n clock .answer)
+    by Next.Nobody e = (omega arith, omega arith)
+    by (Next.Slave s) e = next-small (getD (n .masks) 0 0) 0 s e
 
 -- a step of an erasure
 erase-bounds : (u : ℕ) (e : Erasing) (budget : ℕ) → u ≤ 16384 → eraseCount u e budget ≤ 32768
@@ -222,31 +255,37 @@ reply-most reply = omega (arith, length-words-of 2 (take 24576 reply), length-ta
 
 entry-bounds : (e : Entry) (state flash : List ℕ) → Made e state flash → isRefused (answerIn e state flash) ≡ false
     → Bounds (answerIn e state flash)
-unfolding requestOf replyOf pollOf eraseOf slowOf
+unfolding requestOf replyOf pollOf buildOf eraseOf slowOf
 entry-bounds (Entry.Start kind ports subdetector program version tests clock) state flash m t =
     subst Bounds (sym (start-begins kind ports subdetector program version tests clock state flash (m .fine))) tt
 entry-bounds (Entry.Request clock link bc errors packet mem x reply) state flash m t =
     let n = nodeIn state in
-    let f = request-fine link _ state _ _ _ _ _ _ _ (m .fine) in
+    let f = request-fine link _ state _ _ _ _ _ _ _ _ (m .fine) in
     let words = wordsOf 2 packet in
     let l : Lent = lent (wordsOf 2 flash) (memoryWords mem) (furtherWords x) (replyWords reply) in
     judged-bounds (verdictOn n link words l) n l (requestEffect n clock link bc (isSet errors) words l)
     (request-bounds n clock link bc (isSet errors) words l (directory-long state) (state-listing state (f .bytes))
-    (omega (arith, records-listed state (length (x .list) / 14) (f .bytes) (f .listed), records-are (x .list)))) t
-entry-bounds (Entry.Reply clock slave bc errors status address packet reply) state flash m t =
-    let f = reply-fine slave (length packet / 2) state (length reply / 2) (m .fine) in
+    (omega (arith, records-listed state (length (x .list) / 14) (f .bytes) (f .listed), records-are (x .list))) (unread-most n (state-sound state (f .bytes)))) t
+entry-bounds (Entry.Reply clock slave bc errors status address packet events reply) state flash m t =
+    let f = reply-fine slave (length packet / 2) state (length events / 2) (length reply / 2) (m .fine) in
     let n = nodeIn state in
     let words = wordsOf 2 packet in
     let buffer = replyWords reply in
-    judged-bounds (replyVerdict n slave (length buffer)) n (lentReply buffer)
-    (replyEffect n clock (isSet errors) status address bc words buffer)
-    (reply-bounds n clock (isSet errors) status address bc words buffer (state-pending state (f .bytes)) (reply-most reply)) t
-entry-bounds (Entry.Poll clock reply) state flash m t =
-    let f = poll-fine state (length reply / 2) (m .fine) in
+    let area = replyWords events in
+    judged-bounds (replyVerdict n slave (length area) (length buffer)) n (lentReply area buffer)
+    (replyEffect n clock (isSet errors) status address bc words area buffer)
+    (reply-bounds n clock (isSet errors) status address bc words area buffer (state-pending state (f .bytes)) (reply-most reply)) t
+entry-bounds (Entry.Poll clock events reply) state flash m t =
+    let f = poll-fine state (length events / 2) (length reply / 2) (m .fine) in
     let n = nodeIn state in
     let buffer = replyWords reply in
-    judged-bounds (pollVerdict n (length buffer)) n (lentReply buffer) (pollEffect n clock buffer)
-    (poll-bounds n clock buffer (state-pending state (f .1)) (reply-most reply)) t
+    let area = replyWords events in
+    judged-bounds (pollVerdict n (length area) (length buffer)) n (lentReply area buffer) (pollEffect n clock area buffer)
+    (poll-bounds n clock area buffer (state-pending state (f .2)) (reply-most reply)) t
+entry-bounds (Entry.Build clock events) state flash m t =
+    let n = nodeIn state in
+    let area = replyWords events in
+    judged-bounds (buildVerdict n (length area)) n (lentEvents area) (buildEffect n clock) (build-bounds n clock) t
 entry-bounds (Entry.Erase budget) state flash m t =
     let f = erase-fine state (length flash) (m .fine) in
     let n = nodeIn state in
@@ -283,3 +322,6 @@ ended-answer e state flash h = by (answerIn e state flash) refl (nothing-cut e s
     by (Answer.Erased count) q s = absurd (omega (arith, h, s .kind))
     by (Answer.Slow (Slow.Handed place)) q s = absurd (omega (arith, h, s .kind))
     by (Answer.Slow Slow.Nothing) q s = absurd (omega (arith, h, s .kind))
+    by (Answer.AskEvent t) q s = absurd (omega (arith, h, s .kind))
+    by Answer.NoEvent q s = absurd (omega (arith, h, s .kind))
+    by (Answer.Built words) q s = absurd (omega (arith, h, s .kind))

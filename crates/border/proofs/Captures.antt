@@ -2,7 +2,7 @@
 -- accepted. Assumes nothing.
 use Prim.Native.Nat.{ℕ, _+_, _*_, _/_, _≤_, _<_}
 use mathlib.Core.Path.{_≡_, refl, sym, ap, subst, _∙_}
-use mathlib.Core.Bool.{Bool, true, false}
+use mathlib.Core.Bool.{Bool, true, false, _&&_}
 use mathlib.Core.List.{List, [], _∷_, _++_}
 use native.Mathlib.Omega.{arith}
 use lib.Dec.{ltb, eqb}
@@ -26,7 +26,7 @@ use Rattle.capture.proofs.Says.{reads, reads-once}
 use Rattle.node.specs.Refusals.{isPending as nodePending}
 use Rattle.node.specs.Settings.{statusIn}
 use Rattle.node.specs.declared.Answer.{Answer}
-use Rattle.demands.specs.Events.{Event as Call, Host as NodeHost, Awaited, asked, sentNext, answeredBy, silentBy, Heards, heards}
+use Rattle.demands.specs.Events.{Event as Call, Host as NodeHost, Awaited, asked, sentNext, answeredBy, silentBy, Heards, heards, holdsEvent}
 use Rattle.demands.specs.Groups.{packetsStored, atLast as nodeLast, said as nodeSaid}
 use Rattle.demands.proofs.Groups.{stands as nodeStands}
 use Rattle.demands.proofs.Captures.{sent-data}
@@ -42,7 +42,7 @@ use Rattle.border.specs.Events.{Event, callsOf, AllInC, isPending}
 use Rattle.border.specs.Groups.{atLast, slaves, set}
 use Rattle.border.specs.Captures.{captureEntry, SaysCapture, CapturesRead, DataIsAccepted}
 use Rattle.border.proofs.Runs.{words-of-below}
-use Rattle.border.proofs.GroupSteps.{length-reply, pending-is}
+use Rattle.border.proofs.LentRuns.{length-reply, pending-is}
 use Rattle.border.proofs.Groups.{run, nodes, last-is, said-is, all-heard}
 
 -- nothing of a place is cut
@@ -66,8 +66,9 @@ captures-read mask bytes below =
 
 IsWire : Call → Type 0
 IsWire (Call.Requested clock link bc errors packet m x) = Unit {0}
-IsWire (Call.Replied clock slave bc errors status address words) = (status < 65536) × (address < 65536) × Below 65536 words
-IsWire (Call.Polled clock) = Unit {0}
+IsWire (Call.Replied clock slave bc errors status address words events) = (status < 65536) × (address < 65536) × Below 65536 words
+IsWire (Call.Polled clock events) = Unit {0}
+IsWire (Call.Built clock events) = Unit {0}
 IsWire (Call.Erased budget) = Unit {0}
 IsWire (Call.Slowed clock list) = Unit {0}
 
@@ -79,13 +80,14 @@ calls-wire : (es : List Event) → AllInC es → AreWire (callsOf es)
 unfolding AllInC callsOf AreWire IsWire
 calls-wire [] h = tt
 calls-wire (Event.Requested clock link bc errors packet m x ∷ es) h = (tt, calls-wire es (h .1))
-calls-wire (Event.Replied clock slave bc errors status address packet ∷ es) h =
+calls-wire (Event.Replied clock slave bc errors status address packet events ∷ es) h =
     go (ltb 32768 (length packet / 2)) (calls-wire es (h .1))
   where
-    go : (t : Bool) → AreWire (callsOf es) → AreWire (pick t [] (Call.Replied clock slave bc (isSet errors) status address (wordsOf 2 packet) ∷ []) ++ callsOf es)
+    go : (t : Bool) → AreWire (callsOf es) → AreWire (pick t [] (Call.Replied clock slave bc (isSet errors) status address (wordsOf 2 packet) (replyWords events) ∷ []) ++ callsOf es)
     go true rest = rest
     go false rest = ((h .0 .4, h .0 .5, words-of-below packet (h .0 .6)), rest)
-calls-wire (Event.Polled clock ∷ es) h = (tt, calls-wire es (h .1))
+calls-wire (Event.Polled clock events ∷ es) h = (tt, calls-wire es (h .1))
+calls-wire (Event.Built clock events ∷ es) h = (tt, calls-wire es (h .1))
 calls-wire (Event.Erased budget ∷ es) h = (tt, calls-wire es (h .1))
 calls-wire (Event.Slowed clock list ∷ es) h = (tt, calls-wire es (h .1))
 
@@ -105,20 +107,21 @@ unfolding heards AreWire IsWire AllOnWire
 heard-wire x [] w cs d e = tt
 heard-wire x (s ∷ ss) w [] d e = tt
 heard-wire x (s ∷ ss) w (Call.Requested clock link bc errors packet m y ∷ cs) d e = heard-wire x (s ∷ ss) w cs d (e .1)
-heard-wire x (s ∷ ss) w (Call.Replied clock slave bc errors status address words ∷ cs) d e =
+heard-wire x (s ∷ ss) w (Call.Replied clock slave bc errors status address words events ∷ cs) d e =
     let a : SlaveAnswer = answeredBy x clock bc errors status address words in
     let on : OnWire a = record { status = e .0 .0; address = e .0 .1; words = e .0 .2; earlier = d .earlier; kept = d .kept } in
     let more : Wired (sentNext clock a) = record { earlier = below-append (x .earlier) words (d .earlier) (e .0 .2); kept = e .0 .0 } in
-    pick-case Wire (eqb s slave)
+    pick-case Wire (holdsEvent events && eqb s slave)
     (λ _. pick-case Wire (isPart a w (length ss)) (λ _. heard-wire (sentNext clock a) (s ∷ ss) w cs more (e .1))
     (λ _. (on, heard-wire (asked clock) ss (w + length (fragmentOf s a w (length ss))) cs (fresh-wire clock) (e .1))))
     (λ _. heard-wire x (s ∷ ss) w cs d (e .1))
-heard-wire x (s ∷ ss) w (Call.Polled clock ∷ cs) d e =
+heard-wire x (s ∷ ss) w (Call.Polled clock events ∷ cs) d e =
     let on : OnWire (silentBy x) =
     record { status = omega arith; address = omega arith; words = below-none (omega arith); earlier = d .earlier; kept = d .kept } in
-    pick-case Wire (isLate clock (x .at))
+    pick-case Wire (holdsEvent events && isLate clock (x .at))
     (λ _. (on, heard-wire (asked clock) ss (w + length (fragmentOf s (silentBy x) w (length ss))) cs (fresh-wire clock) (e .1)))
     (λ _. heard-wire x (s ∷ ss) w cs d (e .1))
+heard-wire x (s ∷ ss) w (Call.Built clock events ∷ cs) d e = heard-wire x (s ∷ ss) w cs d (e .1)
 heard-wire x (s ∷ ss) w (Call.Erased budget ∷ cs) d e = heard-wire x (s ∷ ss) w cs d (e .1)
 heard-wire x (s ∷ ss) w (Call.Slowed clock list ∷ cs) d e = heard-wire x (s ∷ ss) w cs d (e .1)
 

@@ -37,8 +37,21 @@ use Rattle.border.proofs.Steps.{Made, done-made, done-taken}
 pub memories-kept : (m : Memories) → U8s (m .pm) → U8s (m .dm) → U8s (m .io) → memoriesLeft (memoryWords m) m ≡ m
 memories-kept m p d o i = memories (bytes-kept 4 (m .pm) p i) (bytes-kept 2 (m .dm) d i) (bytes-kept 2 (m .io) o i)
 
-pub further-kept : (x : Further) → U8s (x .area) → U8s (x .list) → furtherLeft (furtherWords x) x ≡ x
-further-kept x a l i = further (bytes-kept 2 (x .area) a i) (bytes-kept 2 (x .list) l i)
+-- the bytes of a reply buffer or an event area, its words stored back
+pub reply-back : (reply : List ℕ) → U8s reply → storeWords 2 (replyWords reply) reply ≡ reply
+reply-back reply b =
+    let front : List ℕ = take 24576 reply in
+    let rest : List ℕ = drop 24576 reply in
+    let new : List ℕ = bytesOf 2 (wordsOf 2 front) in
+    let split : front ++ rest ≡ reply = take-append-drop 24576 reply in
+    let count = length-words-of 2 front in
+    ap (λ (x : List ℕ). laid x 0 new) (sym split)
+    ∙ laid-append-left front rest 0 new (omega (arith, length-bytes 2 (wordsOf 2 front)))
+    ∙ ap (λ (x : List ℕ). x ++ rest) (bytes-kept 2 front (below-take 24576 reply b))
+    ∙ split
+
+pub further-kept : (x : Further) → U8s (x .area) → U8s (x .list) → U8s (x .events) → furtherLeft (furtherWords x) x ≡ x
+further-kept x a l e i = further (bytes-kept 2 (x .area) a i) (bytes-kept 2 (x .list) l i) (reply-back (x .events) e i)
 
 pub reply-laid : (reply ws : List ℕ) → U8s reply → 12288 ≤ length reply / 2 → length ws ≤ 12288 → storeWords 2 (laid (replyWords reply) 0 ws) reply ≡ laid reply 0 (bytesOf 2 ws)
 reply-laid reply ws b long short =
@@ -94,10 +107,10 @@ module _ (clock link bc errors : ℕ) (packet : List ℕ) (m : Memories) (x : Fu
     pub handed-bytes : InC asked → U8s flash → (ws : List ℕ) → length ws ≤ 12286 → does ≡ handedWords (nodeIn state) l ws
         → answerOf entries asked state flash ≡ handed state (lent flash m x reply) ws
     handed-bytes c b ws short e =
-        let fine = request-fine link _ state _ _ _ _ _ _ _ (made .fine) in
+        let fine = request-fine link _ state _ _ _ _ _ _ _ _ (made .fine) in
         let ws′ : List ℕ = sealedWords (statusIn (nodeIn state)) ws in
         let n = length-append ws (trailer ws (statusIn (nodeIn state))) in
         made .does
         ∙ ap (λ (o : Outcome). told (inBytes o (lent flash m x reply))) e
         ∙ (λ i. answered (wholeNumber (length ws + 2)) (encoded-decoded state (fine .bytes) i)
-        (lent (bytes-kept 2 flash b i) (memories-kept m (c .5) (c .6) (c .7) i) (further-kept x (c .8) (c .9) i) (reply-laid reply ws′ (c .10) (fine .buffer) (omega arith) i)))
+        (lent (bytes-kept 2 flash b i) (memories-kept m (c .5) (c .6) (c .7) i) (further-kept x (c .8) (c .9) (c .10) i) (reply-laid reply ws′ (c .11) (fine .buffer) (omega arith) i)))

@@ -9,6 +9,8 @@ use Rattle.border.proofs.ReadsBack.{reads-back}
 use Rattle.border.proofs.NeverCorrupted.{never-corrupted}
 use Rattle.border.proofs.Erasing.{erasure-follows, erases, flash-follows}
 use Rattle.border.proofs.GroupAsked.{group-is-asked}
+use Rattle.border.proofs.BuildRuns.{event-is-its-fragments, builds-end}
+use Rattle.border.proofs.Built.{event-numbers, handed-out-once, build-errors}
 use Rattle.border.proofs.Groups.{group-is-its-fragments}
 use Rattle.border.proofs.Captures.{data-is-accepted}
 use Rattle.border.proofs.Ends.{each-lowers-or-stores, always-ends, never-asked-twice, settled-in-time, dead-end-in-time, all-end-in-time}
@@ -40,6 +42,11 @@ demands =
       settled-in-time = settled-in-time;
       dead-end-in-time = dead-end-in-time;
       all-end-in-time = all-end-in-time;
+      event-is-its-fragments = event-is-its-fragments;
+      builds-end = builds-end;
+      event-numbers = event-numbers;
+      handed-out-once = handed-out-once;
+      build-errors = build-errors;
       repetitions-conserved = repetitions-conserved;
       listed-lent = listed-lent;
       repetitions-at = repetitions-at;

@@ -19,7 +19,8 @@ use Rattle.border.specs.Answers.{Says}
 use Rattle.border.specs.Events.{Event, callOf, Host, stepped, isPending}
 use Rattle.border.specs.Groups.{GroupRun, begun, atLast}
 use Rattle.border.specs.Ends.{wordsIn, StepsAs, EachLowersOrStores, takenBy, takenIn, HasReply, AlwaysEnds, NeverAskedTwice, Timed, askedTick, SettledInTime, DeadEndInTime, AllEndInTime}
-use Rattle.border.proofs.GroupSteps.{pending-is, inWords, Called, wordOf, Same}
+use Rattle.border.proofs.LentRuns.{pending-is}
+use Rattle.border.proofs.GroupSteps.{inWords, Called, wordOf, Same}
 use Rattle.border.proofs.Groups.{Means, means, called, run, nodes, last-is, said-is, asked-is}
 
 module _ (r : GroupRun entries) where

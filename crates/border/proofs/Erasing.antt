@@ -198,25 +198,33 @@ erasure-follows state flash hosted (Entry.Start kind ports subdetector program v
         (ap (λ (n : Node). n .erasing) (made-moves start state flash c (hosted-stands hosted) m .node ∙ sym (no _ taken refl))
         ∙ words-follow .start kind ports subdetector program version tests clock (wordsOf 2 flash))
 erasure-follows state flash hosted (Entry.Request clock link bc errors packet m x reply) c = request-follows state flash (hosted-stands hosted) clock link bc errors packet m x reply c
-erasure-follows state flash hosted (Entry.Reply clock slave bc errors status address packet reply) c = by (entry-step replies state flash)
+erasure-follows state flash hosted (Entry.Reply clock slave bc errors status address packet events reply) c = by (entry-step replies state flash)
   where
     replies : Entry
-    replies = Entry.Reply clock slave bc errors status address packet reply
+    replies = Entry.Reply clock slave bc errors status address packet events reply
 
     by : Step replies state flash → erasingIn (stateAfter entries replies state flash) ≡ erasingIn state
     by (Step.Leaves l) = ap erasingIn (l .node)
     by (Step.Makes m) =
         erasing-after replies state flash c (hosted-stands hosted) m
-        ∙ words-follow .reply (nodeIn state) clock slave bc (isSet errors) status address (wordsOf 2 packet) (replyWords reply)
+        ∙ words-follow .reply (nodeIn state) clock slave bc (isSet errors) status address (wordsOf 2 packet) (replyWords events) (replyWords reply)
         ∙ erasing-is state
-erasure-follows state flash hosted (Entry.Poll clock reply) c = by (entry-step polls state flash)
+erasure-follows state flash hosted (Entry.Poll clock events reply) c = by (entry-step polls state flash)
   where
     polls : Entry
-    polls = Entry.Poll clock reply
+    polls = Entry.Poll clock events reply
 
     by : Step polls state flash → erasingIn (stateAfter entries polls state flash) ≡ erasingIn state
     by (Step.Leaves l) = ap erasingIn (l .node)
-    by (Step.Makes m) = erasing-after polls state flash c (hosted-stands hosted) m ∙ words-follow .poll (nodeIn state) clock (replyWords reply) ∙ erasing-is state
+    by (Step.Makes m) = erasing-after polls state flash c (hosted-stands hosted) m ∙ words-follow .poll (nodeIn state) clock (replyWords events) (replyWords reply) ∙ erasing-is state
+erasure-follows state flash hosted (Entry.Build clock events) c = by (entry-step begins state flash)
+  where
+    begins : Entry
+    begins = Entry.Build clock events
+
+    by : Step begins state flash → erasingIn (stateAfter entries begins state flash) ≡ erasingIn state
+    by (Step.Leaves l) = ap erasingIn (l .node)
+    by (Step.Makes m) = erasing-after begins state flash c (hosted-stands hosted) m ∙ words-follow .build (nodeIn state) clock (replyWords events) ∙ erasing-is state
 erasure-follows state flash hosted (Entry.Erase budget) c = erase-goes-on state flash (hosted-stands hosted) budget c
 erasure-follows state flash hosted (Entry.Slow clock list) c = by (entry-step steps state flash)
   where
@@ -266,6 +274,9 @@ count-is-answer e state flash done = by (answerIn e state flash) (nothing-cut e 
     by (Answer.Erased count) q = counts 0 count (q .kind) (q .words)
     by (Answer.Slow (Slow.Handed place)) q = counts 6 place (q .kind) (q .words)
     by (Answer.Slow Slow.Nothing) q = counts 7 0 (q .kind) (q .words)
+    by (Answer.AskEvent s) q = counts 9 0 (q .kind) (q .words)
+    by Answer.NoEvent q = counts 10 0 (q .kind) (q .words)
+    by (Answer.Built words) q = counts 11 words (q .kind) (q .words)
 
 -- an entry that is refused counts nothing
 low-counts : (number : ℕ) → number < 256 → countOf number ≡ 0
@@ -290,6 +301,9 @@ undone-counts e state flash h = by (entry-step e state flash)
         refused Answer.Waiting n q = absurd (false≢true (sym q ∙ eq-eqb (answerNumber Answer.Waiting % 256) 0 (done-low Answer.Waiting refl)))
         refused (Answer.Erased count) n q = absurd (false≢true (sym q ∙ eq-eqb (answerNumber (Answer.Erased count) % 256) 0 (done-low (Answer.Erased count) refl)))
         refused (Answer.Slow t) n q = absurd (false≢true (sym q ∙ eq-eqb (answerNumber (Answer.Slow t) % 256) 0 (done-low (Answer.Slow t) refl)))
+        refused (Answer.AskEvent s) n q = absurd (false≢true (sym q ∙ eq-eqb (answerNumber (Answer.AskEvent s) % 256) 0 (done-low (Answer.AskEvent s) refl)))
+        refused Answer.NoEvent n q = absurd (false≢true (sym q ∙ eq-eqb (answerNumber Answer.NoEvent % 256) 0 (done-low Answer.NoEvent refl)))
+        refused (Answer.Built words) n q = absurd (false≢true (sym q ∙ eq-eqb (answerNumber (Answer.Built words) % 256) 0 (done-low (Answer.Built words) refl)))
 
 -- words stored again are the last ones stored
 store-again : (a b bytes : List ℕ) → length a ≡ length b → storeWords 2 a (storeWords 2 b bytes) ≡ storeWords 2 a bytes
@@ -314,16 +328,18 @@ record Carried (size : ℕ) (state flash later after : List ℕ) (given counted 
 budget-is : (e : Entry) → budgetOf e ≡ budgetWords (onWords e)
 budget-is (Entry.Start kind ports subdetector program version tests clock) = refl
 budget-is (Entry.Request clock link bc errors packet m x reply) = refl
-budget-is (Entry.Reply clock slave bc errors status address packet reply) = refl
-budget-is (Entry.Poll clock reply) = refl
+budget-is (Entry.Reply clock slave bc errors status address packet events reply) = refl
+budget-is (Entry.Poll clock events reply) = refl
+budget-is (Entry.Build clock events) = refl
 budget-is (Entry.Erase budget) = refl
 budget-is (Entry.Slow clock list) = refl
 
 start-is : (e : Entry) → isStart e ≡ isStartWords (onWords e)
 start-is (Entry.Start kind ports subdetector program version tests clock) = refl
 start-is (Entry.Request clock link bc errors packet m x reply) = refl
-start-is (Entry.Reply clock slave bc errors status address packet reply) = refl
-start-is (Entry.Poll clock reply) = refl
+start-is (Entry.Reply clock slave bc errors status address packet events reply) = refl
+start-is (Entry.Poll clock events reply) = refl
+start-is (Entry.Build clock events) = refl
 start-is (Entry.Erase budget) = refl
 start-is (Entry.Slow clock list) = refl
 
@@ -374,8 +390,9 @@ module _ (size : ℕ) (state flash : List ℕ) where
       none : (x : Entry) → isDone (numberAfter entries x later now) ≡ false → budgetOf x ≡ 0
       none (Entry.Start kind ports subdetector program version tests clock) q = refl
       none (Entry.Request clock link bc errors packet m x reply) q = refl
-      none (Entry.Reply clock slave bc errors status address packet reply) q = refl
-      none (Entry.Poll clock reply) q = refl
+      none (Entry.Reply clock slave bc errors status address packet events reply) q = refl
+      none (Entry.Poll clock events reply) q = refl
+      none (Entry.Build clock events) q = refl
       none (Entry.Erase budget) q = absurd (false≢true (sym q ∙ erase-done later now (k .stands) budget))
       none (Entry.Slow clock list) q = refl
 

@@ -11,7 +11,7 @@ use lib.Dec.{ltb, eqb}
 use borrow.Author.Tests.{ltb-false, not-false}
 use Rattle.node.specs.Effect.{Lent}
 use Rattle.node.specs.Valid.{sizeOk, kindOk, portsOk}
-use Rattle.node.specs.Refusals.{cause, flashCause, replyCause, memoryCause, areaCause, listCause, linkCause, slaveCause, stateCause, busyCause, pollCause, unaskedCause, requestVerdict, replyVerdict, pollVerdict, eraseVerdict, slowVerdict, startVerdict}
+use Rattle.node.specs.Refusals.{cause, flashCause, replyCause, memoryCause, areaCause, listCause, eventsCause, linkCause, slaveCause, stateCause, busyCause, buildingCause, pollCause, unaskedCause, requestVerdict, replyVerdict, pollVerdict, buildVerdict, eraseVerdict, slowVerdict, startVerdict}
 use Rattle.node.specs.declared.Refusal.{Refusal}
 use Rattle.node.specs.declared.Verdict.{Verdict}
 use Rattle.node.proofs.Verdicts.{fine-tells}
@@ -19,7 +19,7 @@ use Rattle.qlist.specs.Words.{recordsIn}
 use Rattle.demands.proofs.Taken.{verdictOn}
 use Rattle.codec.specs.Bytes.{wordsOf}
 use Rattle.codec.specs.StateBytes.{nodeIn}
-use Rattle.logodwen.specs.Causes.{bytesOk, flashCause as sizeCause, memoriesCause, lengthCause, recordsCause, portCause, bytesCause, requestCheck, replyCheck, pollCheck, eraseCheck, slowCheck, startCheck}
+use Rattle.logodwen.specs.Causes.{bytesOk, flashCause as sizeCause, memoriesCause, lengthCause, recordsCause, portCause, bytesCause, requestCheck, replyCheck, pollCheck, buildCheck, eraseCheck, slowCheck, startCheck}
 use Rattle.touch.specs.InBytes.{replyWords, runWords}
 use Rattle.codec.proofs.Runs.{length-words-of}
 use Rattle.touch.proofs.Beside.{none-refuses}
@@ -35,16 +35,20 @@ reply-long reply h =
 buffer-no : (reply : List ℕ) → replyCause (length reply / 2) .holds ≡ false → replyCause (length (replyWords reply)) .holds ≡ false
 buffer-no reply h = ap (λ (n : ℕ). ltb n 12288) (reply-long reply h)
 
+-- and so is that of an event area that passes refusal 11
+area-no : (events : List ℕ) → eventsCause (length events / 2) .holds ≡ false → eventsCause (length (replyWords events)) .holds ≡ false
+area-no events h = ap (λ (n : ℕ). ltb n 12288) (reply-long events h)
+
 -- a record is seven words, 14 bytes
 pub records-are : (list : List ℕ) → recordsIn (wordsOf 2 list) ≡ length list / 14
 records-are list = omega (arith, length-words-of 2 list)
 
--- the six entries
+-- the seven entries
 
 pub request-fine : (link : ℕ) (packet state : List ℕ) (runs : Lent)
     → requestCheck link (length packet / 2) state (length (runs .flash)) (length (runs .memories .pm) / 4)
     (length (runs .memories .dm) / 2) (length (runs .memories .io) / 2) (length (runs .further .area) / 2)
-    (length (runs .further .list) / 14) (length (runs .reply) / 2)
+    (length (runs .further .list) / 14) (length (runs .further .events) / 2) (length (runs .reply) / 2)
     ≡ Verdict.Fine
     → verdictOn (nodeIn state) link (wordsOf 2 packet) (runWords runs) ≡ Verdict.Fine
 unfolding requestCheck requestVerdict
@@ -58,43 +62,54 @@ request-fine link packet state runs h =
     let records = length (runs .further .list) / 14 in
     let none =
     fine-tells
-    (sizeCause state flash ∷ replyCause (length (runs .reply) / 2) ∷ memoriesCause pm dm io ∷ areaCause area ∷ recordsCause state records ∷ portCause state link
+    (sizeCause state flash ∷ replyCause (length (runs .reply) / 2) ∷ memoriesCause pm dm io ∷ areaCause area ∷ recordsCause state records ∷ eventsCause (length (runs .further .events) / 2) ∷ portCause state link
     ∷ bytesCause state ∷ busyCause n (length packet / 2) ∷ [])
     h in
-    let s = none .1 .1 .1 .1 .1 .1 .0 in
+    let s = none .1 .1 .1 .1 .1 .1 .1 .0 in
     (λ i. requestVerdict n link (length-words-of 2 packet i) (length-words-of 2 (runs .flash) i) (length-words-of 4 (runs .memories .pm) i)
     (length-words-of 2 (runs .memories .dm) i) (length-words-of 2 (runs .memories .io) i) (length-words-of 2 (runs .further .area) i)
-    (records-are (runs .further .list) i) (length (replyWords (runs .reply))))
+    (records-are (runs .further .list) i) (length (replyWords (runs .further .events))) (length (replyWords (runs .reply))))
     ∙ none-refuses
-    (flashCause n (flash / 2) ∷ replyCause (length (replyWords (runs .reply))) ∷ memoryCause pm dm io ∷ areaCause area ∷ listCause n records ∷ linkCause n link
+    (flashCause n (flash / 2) ∷ replyCause (length (replyWords (runs .reply))) ∷ memoryCause pm dm io ∷ areaCause area ∷ listCause n records ∷ eventsCause (length (replyWords (runs .further .events))) ∷ linkCause n link
     ∷ stateCause n ∷ busyCause n (length packet / 2) ∷ []) (
       flash-no state flash s (none .0),
       (
         buffer-no (runs .reply) (none .1 .0),
-        (memory-no pm dm io (none .1 .1 .0), (none .1 .1 .1 .0, (records-no state records s (none .1 .1 .1 .1 .0), (link-no state link s (none .1 .1 .1 .1 .1 .0), (state-no state s, (none .1 .1 .1 .1 .1 .1 .1 .0, tt)))))),
+        (memory-no pm dm io (none .1 .1 .0), (none .1 .1 .1 .0, (records-no state records s (none .1 .1 .1 .1 .0), (area-no (runs .further .events) (none .1 .1 .1 .1 .1 .0), (link-no state link s (none .1 .1 .1 .1 .1 .1 .0), (state-no state s, (none .1 .1 .1 .1 .1 .1 .1 .1 .0, tt))))))),
       ),
     )
 
-pub reply-fine : (slave : ℕ) (packet state reply : List ℕ) → replyCheck slave (length packet / 2) state (length reply / 2) ≡ Verdict.Fine
-    → replyVerdict (nodeIn state) slave (length (replyWords reply)) ≡ Verdict.Fine
+pub reply-fine : (slave : ℕ) (packet state events reply : List ℕ)
+    → replyCheck slave (length packet / 2) state (length events / 2) (length reply / 2) ≡ Verdict.Fine
+    → replyVerdict (nodeIn state) slave (length (replyWords events)) (length (replyWords reply)) ≡ Verdict.Fine
 unfolding replyCheck replyVerdict
-reply-fine slave packet state reply h =
+reply-fine slave packet state events reply h =
     let n = nodeIn state in
     let none =
     fine-tells
-    (replyCause (length reply / 2) ∷ lengthCause (length packet / 2) ∷ slaveCause slave ∷ bytesCause state ∷ unaskedCause n slave ∷ [])
+    (replyCause (length reply / 2) ∷ lengthCause (length packet / 2) ∷ eventsCause (length events / 2) ∷ slaveCause slave ∷ bytesCause state ∷ unaskedCause n slave ∷ [])
     h in
-    none-refuses (replyCause (length (replyWords reply)) ∷ slaveCause slave ∷ stateCause n ∷ unaskedCause n slave ∷ [])
-    (buffer-no reply (none .0), (none .1 .1 .0, (state-no state (none .1 .1 .1 .0), (none .1 .1 .1 .1 .0, tt))))
+    none-refuses
+    (replyCause (length (replyWords reply)) ∷ eventsCause (length (replyWords events)) ∷ slaveCause slave ∷ stateCause n ∷ unaskedCause n slave ∷ [])
+    (buffer-no reply (none .0), (area-no events (none .1 .1 .0), (none .1 .1 .1 .0, (state-no state (none .1 .1 .1 .1 .0), (none .1 .1 .1 .1 .1 .0, tt)))))
 
-pub poll-fine : (state reply : List ℕ) → pollCheck state (length reply / 2) ≡ Verdict.Fine
-    → pollVerdict (nodeIn state) (length (replyWords reply)) ≡ Verdict.Fine
+pub poll-fine : (state events reply : List ℕ) → pollCheck state (length events / 2) (length reply / 2) ≡ Verdict.Fine
+    → pollVerdict (nodeIn state) (length (replyWords events)) (length (replyWords reply)) ≡ Verdict.Fine
 unfolding pollCheck pollVerdict
-poll-fine state reply h =
+poll-fine state events reply h =
     let n = nodeIn state in
-    let none = fine-tells (replyCause (length reply / 2) ∷ bytesCause state ∷ pollCause n ∷ []) h in
-    none-refuses (replyCause (length (replyWords reply)) ∷ stateCause n ∷ pollCause n ∷ [])
-    (buffer-no reply (none .0), (state-no state (none .1 .0), (none .1 .1 .0, tt)))
+    let none = fine-tells (replyCause (length reply / 2) ∷ eventsCause (length events / 2) ∷ bytesCause state ∷ pollCause n ∷ []) h in
+    none-refuses (replyCause (length (replyWords reply)) ∷ eventsCause (length (replyWords events)) ∷ stateCause n ∷ pollCause n ∷ [])
+    (buffer-no reply (none .0), (area-no events (none .1 .0), (state-no state (none .1 .1 .0), (none .1 .1 .1 .0, tt))))
+
+pub build-fine : (state events : List ℕ) → buildCheck state (length events / 2) ≡ Verdict.Fine
+    → buildVerdict (nodeIn state) (length (replyWords events)) ≡ Verdict.Fine
+unfolding buildCheck buildVerdict
+build-fine state events h =
+    let n = nodeIn state in
+    let none = fine-tells (eventsCause (length events / 2) ∷ bytesCause state ∷ buildingCause n ∷ []) h in
+    none-refuses (eventsCause (length (replyWords events)) ∷ stateCause n ∷ buildingCause n ∷ [])
+    (area-no events (none .0), (state-no state (none .1 .0), (none .1 .1 .0, tt)))
 
 pub erase-fine : (state flash : List ℕ) → eraseCheck state (length flash) ≡ Verdict.Fine
     → eraseVerdict (nodeIn state) (length (wordsOf 2 flash)) ≡ Verdict.Fine
@@ -117,7 +132,7 @@ start-sized kind ports subdetector state flash h =
     let none =
     fine-tells
     (cause Refusal.FlashSize (not (bytesOk (length flash))) ∷ cause Refusal.Number numbers
-    ∷ cause Refusal.State (not (eqb (length state) 192)) ∷ [])
+    ∷ cause Refusal.State (not (eqb (length state) 208)) ∷ [])
     h in
     not-false (bytesOk (length flash)) (none .0)
 
@@ -130,7 +145,7 @@ start-fine kind ports subdetector state flash h =
     let none =
     fine-tells
     (cause Refusal.FlashSize (not (bytesOk (length flash))) ∷ cause Refusal.Number numbers
-    ∷ cause Refusal.State (not (eqb (length state) 192)) ∷ [])
+    ∷ cause Refusal.State (not (eqb (length state) 208)) ∷ [])
     h in
     let sized : not (sizeOk (length flash / 2)) ≡ false = ap not (bytes-size (length flash) (start-sized kind ports subdetector state flash h)) in
     ap (startVerdict kind ports subdetector) (length-words-of 2 flash)

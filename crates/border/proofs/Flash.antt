@@ -118,8 +118,9 @@ module _ (n : Node) (link bc : ℕ) (packet : List ℕ) (l : Lent) (b : Below 65
 abbrev pub Areas16 : Call → Type 0
 Areas16 (Call.Start kind ports subdetector program version tests clock) = Unit {0}
 Areas16 (Call.Request clock link bc errors packet m x reply) = Below 65536 (x .area)
-Areas16 (Call.Reply clock slave bc errors status address words reply) = Unit {0}
-Areas16 (Call.Poll clock reply) = Unit {0}
+Areas16 (Call.Reply clock slave bc errors status address words events reply) = Unit {0}
+Areas16 (Call.Poll clock events reply) = Unit {0}
+Areas16 (Call.Build clock events) = Unit {0}
 Areas16 (Call.Erase budget) = Unit {0}
 Areas16 (Call.Slow clock list) = Unit {0}
 
@@ -134,8 +135,9 @@ flash-below (Call.Request clock link bc errors packet m x reply) n flash b a h =
     by : (v : Verdict) → Below 65536 (judged v n (lent flash m x reply) e .after .flash)
     by Verdict.Fine = why-below n link bc packet (lent flash m x reply) b a h (e .change) (request-why n link bc packet (lent flash m x reply) clock errors .0)
     by (Verdict.No r) = h
-flash-below (Call.Reply clock slave bc errors status address words reply) n flash b a h = h
-flash-below (Call.Poll clock reply) n flash b a h = h
+flash-below (Call.Reply clock slave bc errors status address words events reply) n flash b a h = h
+flash-below (Call.Poll clock events reply) n flash b a h = h
+flash-below (Call.Build clock events) n flash b a h = h
 flash-below (Call.Erase budget) n flash b a h = by (eraseVerdict n (length flash))
   where
     by : (v : Verdict) → Below 65536 (judged v n (lentFlash flash) (eraseEffect n budget flash) .after .flash)
@@ -155,8 +157,9 @@ flash-size (Call.Request clock link bc errors packet m x reply) n flash = by (ve
     by : (v : Verdict) → length (judged v n (lent flash m x reply) e .after .flash) ≡ length flash
     by Verdict.Fine = change-size (e .change) (n .erasing) flash
     by (Verdict.No r) = refl
-flash-size (Call.Reply clock slave bc errors status address words reply) n flash = refl
-flash-size (Call.Poll clock reply) n flash = refl
+flash-size (Call.Reply clock slave bc errors status address words events reply) n flash = refl
+flash-size (Call.Poll clock events reply) n flash = refl
+flash-size (Call.Build clock events) n flash = refl
 flash-size (Call.Erase budget) n flash = by (eraseVerdict n (length flash))
   where
     by : (v : Verdict) → length (judged v n (lentFlash flash) (eraseEffect n budget flash) .after .flash) ≡ length flash

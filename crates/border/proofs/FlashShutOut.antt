@@ -32,11 +32,11 @@ use Rattle.border.proofs.SameContents.{same-words, as-words}
 
 -- the third of the four bytes at 20, in which a start keeps the flash's size, in words
 size-byte : (words : List ℕ) → sizeOk (length words) ≡ true
-    → getD (stateLeft (startOf 2 4 0 0 0 0 0 words) (zeros 192)) 22 0 ≡ length words / 256 / 256 % 256
+    → getD (stateLeft (startOf 2 4 0 0 0 0 0 words) (zeros 208)) 22 0 ≡ length words / 256 / 256 % 256
 unfolding startOf startVerdict encodeOf packed digitsOf
 size-byte words h =
     let fine : Verdict.Fine ≡ startVerdict 2 4 0 (length words) = no _ (ap not h) refl in
-    ap (λ (v : Verdict). getD (stateLeft (startBy v (given 2 4 0 0 0 0 0 (length words)) words) (zeros 192)) 22 0) (sym fine)
+    ap (λ (v : Verdict). getD (stateLeft (startBy v (given 2 4 0 0 0 0 0 (length words)) words) (zeros 208)) 22 0) (sym fine)
 
 -- what sees the first 65,536 bytes of a full flash keeps the size of a bench flash
 bench-kept : (flash : List ℕ) → length flash ≡ 524288 → AsWords benching → ⊥
@@ -45,8 +45,8 @@ bench-kept flash long h =
     let few : length part ≡ 65536 = length-take-le 65536 flash (omega arith) in
     let all : length (wordsOf 2 flash) ≡ 262144 = length-words-of 2 flash ∙ omega arith in
     let some : length (wordsOf 2 part) ≡ 32768 = length-words-of 2 part ∙ omega arith in
-    let seen = as-words .start 2 4 0 0 0 0 0 (wordsOf 2 part) part (zeros 192) (same-words part (omega arith)) refl .state in
-    let said = h .start 2 4 0 0 0 0 0 (wordsOf 2 flash) flash (zeros 192) (same-words flash (omega arith)) refl .state in
+    let seen = as-words .start 2 4 0 0 0 0 0 (wordsOf 2 part) part (zeros 208) (same-words part (omega arith)) refl .state in
+    let said = h .start 2 4 0 0 0 0 0 (wordsOf 2 flash) flash (zeros 208) (same-words flash (omega arith)) refl .state in
     let same = ap (λ (l : List ℕ). getD l 22 0) (sym seen ∙ said) in
     omega (arith, size-byte (wordsOf 2 part) (ap sizeOk some), size-byte (wordsOf 2 flash) (ap sizeOk all), same, all, some)
 
@@ -62,15 +62,15 @@ even : length marked % 2 ≡ 0
 unfolding laid
 even = refl
 
-is-low : getD (stateLeft (startOf 2 4 0 0 0 0 0 (wordsOf 2 marked)) (zeros 192)) 108 0 ≡ 0x34
+is-low : getD (stateLeft (startOf 2 4 0 0 0 0 0 (wordsOf 2 marked)) (zeros 208)) 108 0 ≡ 0x34
 unfolding laid fcsBit fcsBits fcsWord fcsFrom headerOk memoryOf pageOf lengthOk pageOk spanOf bodyOk segmentOk segmentEnd walk fileEnd isSector bySector sectorOf isEmpty statusOf statusIn fourthWord entryOf entryFor entriesFrom directoryOf startVerdict startOf valueOf digitsOf wordsIn wordsOf bytesOf packed encodeOf
 is-low = refl
 
-is-high : getD (startEntry 2 4 0 0 0 0 0 (swapped marked) (zeros 192) .state) 108 0 ≡ 0x12
+is-high : getD (startEntry 2 4 0 0 0 0 0 (swapped marked) (zeros 208) .state) 108 0 ≡ 0x12
 unfolding laid fcsBit fcsBits fcsWord fcsFrom headerOk memoryOf pageOf lengthOk pageOk spanOf bodyOk segmentOk segmentEnd walk fileEnd isSector bySector sectorOf isEmpty statusOf statusIn fourthWord entryOf entryFor entriesFrom directoryOf startVerdict startOf valueOf digitsOf wordsIn wordsOf bytesOf packed encodeOf startCheck startEntry swapped
 is-high = refl
 
 pub reads-high-first : AsWords swapping → ⊥
 reads-high-first h =
-    let said = h .start 2 4 0 0 0 0 0 (wordsOf 2 marked) marked (zeros 192) (same-words marked even) refl .state in
+    let said = h .start 2 4 0 0 0 0 0 (wordsOf 2 marked) marked (zeros 208) (same-words marked even) refl .state in
     omega (arith, is-low, is-high, ap (λ (l : List ℕ). getD l 108 0) said)

@@ -30,11 +30,14 @@ use Rattle.group.proofs.Changes.{end-changes, passed-changes}
 use Rattle.group.proofs.Status.{status-fits}
 use Rattle.group.proofs.Takes.{taken-changes}
 use Rattle.report.specs.Status.{ownStatus}
+use Rattle.building.specs.Build.{Moved, hearsIn}
+use Rattle.building.specs.declared.Progress.{Progress}
 use Rattle.qlist.specs.Words.{recordsIn}
 use Rattle.node.specs.Effect.{Effect, Lent, Outcome, Did}
+use Rattle.node.specs.Events.{numberIn}
 use Rattle.node.specs.Refusals.{isPending, replyVerdict, pollVerdict}
 use Rattle.node.specs.Settings.{statusIn}
-use Rattle.node.specs.Slaves.{heard, silent, goesOn, packetIn, yetToAsk, awaits, hears, askedAt, replyEffect, pollEffect}
+use Rattle.node.specs.Slaves.{heard, silent, goesOn, packetIn, yetToAsk, awaits, comesTo, hears, askedAt, replyEffect, pollEffect}
 use Rattle.node.specs.Calls.{judged, lentReply, routed, requestOf, replyOf, pollOf}
 use Rattle.node.specs.declared.Answer.{Answer}
 use Rattle.node.specs.declared.Asking.{Asking}
@@ -70,7 +73,7 @@ rx-below a s = pick-case (λ (x : ℕ). x < 65536) (a .heard .late) (λ _. s .ke
 received-below : (a : SlaveAnswer) → SmallAnswer a → Below 65536 (receivedOf a)
 received-below a s = pick-case (λ (x : List ℕ). Below 65536 x) (a .heard .late) (λ _. s .earlier) (λ _. joined-below a s)
 
-data-below : (kind : Kind) (a : SlaveAnswer) → SmallAnswer a → Below 65536 (dataOf kind a)
+pub data-below : (kind : Kind) (a : SlaveAnswer) → SmallAnswer a → Below 65536 (dataOf kind a)
 data-below Kind.Late a s = below-none (omega arith)
 data-below Kind.Errors a s = below-two (a .heard .«rx_status») (a .heard .«rx_address») (s .status) (s .address)
 data-below (Kind.Zero z) a s = below-none (omega arith)
@@ -80,7 +83,7 @@ data-below (Kind.Faulty f) a s =
     below-cons (rxOf a) (words ∷ first ∷ []) (rx-below a s) (below-two words first (omega arith) (received-below a s 0))
 data-below Kind.Whole a s = below-take (length (joinedOf a) - 2) (joinedOf a) (joined-below a s)
 
-data-short : (kind : Kind) (a : SlaveAnswer) → SmallAnswer a → length (dataOf kind a) ≤ 45056
+pub data-short : (kind : Kind) (a : SlaveAnswer) → SmallAnswer a → length (dataOf kind a) ≤ 45056
 data-short Kind.Late a s = omega arith
 data-short Kind.Errors a s = omega arith
 data-short (Kind.Zero z) a s = omega arith
@@ -125,7 +128,7 @@ module _ (a : SlaveAnswer) (s : SmallAnswer a) where
 
 -- the end of a group
 
-own-below : (n : Node) → statusIn n < 65536
+pub own-below : (n : Node) → statusIn n < 65536
 unfolding ownStatus
 own-below n = by (eqb (n .given .«start_tests» / 256 % 16) 0)
   where
@@ -133,14 +136,14 @@ own-below n = by (eqb (n .given .«start_tests» / 256 % 16) 0)
     by true = omega arith
     by false = omega arith
 
-group-below : (t : Tally) (own : ℕ) → own < 65536 → groupStatus t own < 65536
+pub group-below : (t : Tally) (own : ℕ) → own < 65536 → groupStatus t own < 65536
 unfolding groupStatus
 group-below Tally.Nothing own h = omega arith
 group-below (Tally.Zero z) own h = omega arith
 group-below Tally.Whole own h = omega arith
 group-below Tally.Mixed own h = omega arith
 
-sealed-below : (buffer : List ℕ) (w status : ℕ) → Below 65536 buffer → status < 65536 → Below 65536 (sealed buffer w status .buffer)
+pub sealed-below : (buffer : List ℕ) (w status : ℕ) → Below 65536 buffer → status < 65536 → Below 65536 (sealed buffer w status .buffer)
 unfolding sealed
 sealed-below buffer w status h g =
     let fcs : ℕ = fcsOf (take w buffer ++ (status ∷ [])) in
@@ -164,7 +167,7 @@ end-kept m n h = record { size = end-changes m (statusIn n) .size; below = below
 
 -- what is heard of a slave
 
-stays : (buffer : List ℕ) → Below 65536 buffer → Kept buffer buffer
+pub stays : (buffer : List ℕ) → Below 65536 buffer → Kept buffer buffer
 stays buffer h = record { size = refl; below = h }
 
 -- a packet that is heard, behind what is received
@@ -184,11 +187,11 @@ small-packet g h words buffer s short kept b long =
       kept = kept;
     }
 
-hears-kept : (p : Pending) (n : Node) (clock : ℕ) (h : Heard) (words buffer : List ℕ) → SmallAnswer (answer h words) → length words ≤ 32768
-    → waitOf p .«rx_status» < 65536 → Below 65536 buffer → length buffer ≡ 12288 → Kept buffer (hears p n clock h words buffer .reply)
-hears-kept Pending.Nothing n clock h words buffer s short kept b long = stays buffer b
-hears-kept (Pending.Slave a) n clock h words buffer s short kept b long = passed-kept (answer h words) s buffer b
-hears-kept (Pending.Group a g) n clock h words buffer s short kept b long =
+hears-kept : (p : Pending) (n : Node) (clock : ℕ) (h : Heard) (words events buffer : List ℕ) → SmallAnswer (answer h words) → length words ≤ 32768
+    → waitOf p .«rx_status» < 65536 → Below 65536 buffer → length buffer ≡ 12288 → Kept buffer (hears p n clock h words events buffer .reply)
+hears-kept Pending.Nothing n clock h words events buffer s short kept b long = stays buffer b
+hears-kept (Pending.Slave a) n clock h words events buffer s short kept b long = passed-kept (answer h words) s buffer b
+hears-kept (Pending.Group a g) n clock h words events buffer s short kept b long =
     pick-case (λ (e : Effect). Kept buffer (e .reply)) (partBy h (g .received .words) (length words) (g .built .words) (yetToAsk a g))
     stored (λ _. by (nextOf (above (g .set) (a .slave))))
   where
@@ -211,30 +214,42 @@ hears-kept (Pending.Group a g) n clock h words buffer s short kept b long =
     by Next.Nobody =
         let e = end-kept after n (so-far .below) in record { size = e .size ∙ so-far .size; below = e .below }
     by (Next.Slave s′) = so-far
+hears-kept (Pending.Build q) n clock h words events buffer s short kept b long = by (moved .progress)
+  where
+    moved : Moved
+    moved = hearsIn (numberIn n) (statusIn n) clock q h words events
 
-judged-kept : (v : Verdict) (n : Node) (buffer : List ℕ) (e : Effect) → Below 65536 buffer → Kept buffer (e .reply)
-    → Kept buffer (judged v n (lentReply buffer) e .after .reply)
-judged-kept Verdict.Fine n buffer e b k = k
-judged-kept (Verdict.No r) n buffer e b k = stays buffer b
+    -- a build goes into the event area
+    by : (p : Progress) → Kept buffer (comesTo p n (moved .events) buffer .reply)
+    by (Progress.Asks q′) = stays buffer b
+    by (Progress.Awaits q′) = stays buffer b
+    by Progress.NoEvent = stays buffer b
+    by (Progress.Event count error) = stays buffer b
+
+judged-kept : (v : Verdict) (n : Node) (events buffer : List ℕ) (e : Effect) → Below 65536 buffer → Kept buffer (e .reply)
+    → Kept buffer (judged v n (lentReply events buffer) e .after .reply)
+judged-kept Verdict.Fine n events buffer e b k = k
+judged-kept (Verdict.No r) n events buffer e b k = stays buffer b
 
 -- a slave's reply, and a poll
 
-pub reply-kept : (n : Node) (clock slave bc : ℕ) (errors : Bool) (status address : ℕ) (words buffer : List ℕ)
+pub reply-kept : (n : Node) (clock slave bc : ℕ) (errors : Bool) (status address : ℕ) (words events buffer : List ℕ)
     → Below 65536 words → length words ≤ 32768 → status < 65536 → address < 65536 → waitOf (n .pending) .«rx_status» < 65536 → Below 65536 buffer
-    → length buffer ≡ 12288 → Kept buffer (replyOf n clock slave bc errors status address words buffer .after .reply)
+    → length buffer ≡ 12288 → Kept buffer (replyOf n clock slave bc errors status address words events buffer .after .reply)
 unfolding replyOf replyEffect
-reply-kept n clock slave bc errors status address words buffer w l s d r b long =
+reply-kept n clock slave bc errors status address words events buffer w l s d r b long =
     let h : Heard = heard (isLate clock (askedAt (n .pending))) errors status address bc in
-    judged-kept (replyVerdict n slave (length buffer)) n buffer (replyEffect n clock errors status address bc words buffer) b
-    (hears-kept (n .pending) n clock h words buffer
+    judged-kept (replyVerdict n slave (length events) (length buffer)) n events buffer (replyEffect n clock errors status address bc words events buffer) b
+    (hears-kept (n .pending) n clock h words events buffer
     (record { words = w; earlier = below-none (omega arith); short = omega arith; status = s; address = d; kept = omega arith }) l r b long)
 
-pub poll-kept : (n : Node) (clock : ℕ) (buffer : List ℕ) → waitOf (n .pending) .«rx_status» < 65536 → Below 65536 buffer → length buffer ≡ 12288 → Kept buffer (pollOf n clock buffer .after .reply)
+pub poll-kept : (n : Node) (clock : ℕ) (events buffer : List ℕ) → waitOf (n .pending) .«rx_status» < 65536 → Below 65536 buffer → length buffer ≡ 12288
+    → Kept buffer (pollOf n clock events buffer .after .reply)
 unfolding pollOf pollEffect
-poll-kept n clock buffer r b long =
-    judged-kept (pollVerdict n (length buffer)) n buffer (pollEffect n clock buffer) b
+poll-kept n clock events buffer r b long =
+    judged-kept (pollVerdict n (length events) (length buffer)) n events buffer (pollEffect n clock events buffer) b
     (pick-case (λ (e : Effect). Kept buffer (e .reply)) (isLate clock (askedAt (n .pending)))
-    (λ _. hears-kept (n .pending) n clock silent [] buffer
+    (λ _. hears-kept (n .pending) n clock silent [] events buffer
     (record {
       words = below-none (omega arith);
       earlier = below-none (omega arith);
@@ -291,7 +306,7 @@ module _ (n : Node) (clock link bc : ℕ) (errors : Bool) (packet : List ℕ) (l
       empty e h =
           let m = l .memories in
           let free =
-          request-fine n link (length packet) (length (l .flash)) (length (m .pm)) (length (m .dm)) (length (m .io)) (length (l .further .area)) (recordsIn (l .further .list)) (length (l .reply)) e
+          request-fine n link (length packet) (length (l .flash)) (length (m .pm)) (length (m .dm)) (length (m .io)) (length (l .further .area)) (recordsIn (l .further .list)) (length (l .further .events)) (length (l .reply)) e
           .free in
           let none : leb 1 (length packet) ≡ false = ap (λ (t : Bool). t && leb 1 (length packet)) (sym p) ∙ free in
           omega (arith, leb-false 1 (length packet) none)

@@ -52,7 +52,7 @@ use Rattle.border.proofs.Steps.{checkOf}
 use Rattle.border.proofs.ClosedRun.{tested, none, blank-bytes, starts-in, closed-run}
 use Rattle.border.proofs.GroupAsked.{node-asks, group-is-asked}
 use Rattle.border.proofs.GroupBuffers.{asks-leaves}
-use Rattle.border.proofs.GroupSteps.{kept-reply}
+use Rattle.border.proofs.LentRuns.{kept-reply}
 
 -- a request to slave 0 alone, by the mask in its packet, and the 0-length reply END of that slave
 
@@ -66,10 +66,10 @@ abbrev nothing : Memories
 nothing = memories [] [] []
 
 abbrev runs : Lent
-runs = lent blank nothing (further (zeros 65536) []) (zeros 24576)
+runs = lent blank nothing (further (zeros 65536) [] (zeros 24576)) (zeros 24576)
 
 abbrev reply : Event
-reply = Event.Replied 0 0 3 0 0 0 []
+reply = Event.Replied 0 0 3 0 0 0 [] (zeros 24576)
 
 abbrev calls : List Call
 calls = callsOf (reply ∷ [])
@@ -80,12 +80,12 @@ zero-bytes = tested (zeros 24576) refl
 
 ask-in : InC (sends packet)
 unfolding allBelow
-ask-in = (omega arith, omega arith, omega arith, omega arith, tested packet refl, none, none, none, tested (zeros 65536) refl, none, zero-bytes)
+ask-in = (omega arith, omega arith, omega arith, omega arith, tested packet refl, none, none, none, tested (zeros 65536) refl, none, zero-bytes, zero-bytes)
 
 has : Hosted forgetful fresh blank
 has =
     subst (λ (x : List ℕ). Hosted forgetful x blank) (closed-run .begun)
-    (Hosted.First 2 4 0 0 0 0 0 (zeros 192) blank starts-in blank-bytes (closed-run .begins))
+    (Hosted.First 2 4 0 0 0 0 0 (zeros 208) blank starts-in blank-bytes (closed-run .begins))
 
 set-is : setAsked (nodeIn fresh) words ≡ 1
 unfolding valueOf wordsIn wordsOf
@@ -98,7 +98,7 @@ slaves-are = ap slavesOf set-is ∙ slaves-up 24 0 1
 -- the request is done ..
 
 abbrev l : Lent
-l = lent (wordsOf 2 blank) (memoryWords nothing) (furtherWords (further (zeros 65536) [])) (replyWords (zeros 24576))
+l = lent (wordsOf 2 blank) (memoryWords nothing) (furtherWords (further (zeros 65536) [] (zeros 24576))) (replyWords (zeros 24576))
 
 abbrev o : Outcome
 o = requestOf (nodeIn fresh) 0 0 3 false words l
@@ -138,7 +138,7 @@ none-stands s = eqb-false 0 1 refl (sym no-write ∙ s .0)
 asks : InBits (numberAfter forgetful (sends packet) fresh blank) 2 0 (stripped words) 0
 asks =
     let k = length-words-of 2 packet in
-    group-is-asked 0 0 3 packet nothing (further (zeros 65536) []) (zeros 24576) fresh blank 0 [] ask-done refl none-stands (facts .0) (facts .1) (facts .3)
+    group-is-asked 0 0 3 packet nothing (further (zeros 65536) [] (zeros 24576)) (zeros 24576) fresh blank 0 [] ask-done refl none-stands (facts .0) (facts .1) (facts .3)
     (omega (arith, k, facts .2)) (omega (arith, k)) slaves-are
 
 -- .. and leaves the reply buffer
@@ -147,7 +147,7 @@ ask-leaves =
     let k = length-words-of 2 packet in
     let n : length (zeros 24576) ≡ 24576 = refl in
     let asked =
-    node-asks 0 0 3 packet nothing (further (zeros 65536) []) (zeros 24576) fresh blank 0 [] ask-done refl none-stands (facts .0) (facts .1) (facts .3)
+    node-asks 0 0 3 packet nothing (further (zeros 65536) [] (zeros 24576)) (zeros 24576) fresh blank 0 [] ask-done refl none-stands (facts .0) (facts .1) (facts .3)
     (omega (arith, k, facts .2)) (omega (arith, k)) slaves-are in
     ap (λ (a : Answered). a .runs .reply) answers
     ∙ ap (λ (ws : List ℕ). storeWords 2 ws (zeros 24576))
@@ -162,7 +162,7 @@ kept = (refl, tt)
 
 typed : AllInC (reply ∷ [])
 unfolding AllInC
-typed = ((omega arith, omega arith, omega arith, omega arith, omega arith, omega arith, none, none), tt)
+typed = ((omega arith, omega arith, omega arith, omega arith, omega arith, omega arith, none, zero-bytes, none), tt)
 
 abbrev run : GroupRun forgetful
 run =
@@ -176,7 +176,7 @@ run =
       errors = 0;
       packet = packet;
       memories = nothing;
-      further = further (zeros 65536) [];
+      further = further (zeros 65536) [] (zeros 24576);
       buffer = zeros 24576;
       typed = ask-in;
       group = facts .0;

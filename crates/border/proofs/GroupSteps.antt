@@ -1,126 +1,49 @@
 -- One entry of a group's host: it is the node's call on the words, or it is refused, and nothing to the group. Assumes nothing.
-use Prim.Native.Nat.{ℕ, _+_, _/_, _%_, _≤_, _<_}
+use Prim.Native.Nat.{ℕ, _/_, _%_, _≤_, _<_}
 use native.Mathlib.Omega.{arith}
 use mathlib.Core.Path.{_≡_, refl, sym, ap, _∙_, subst}
-use mathlib.Core.Bool.{Bool, true, false, _&&_, _||_, not, false≢true}
+use mathlib.Core.Bool.{Bool, true, false, _&&_, false≢true}
 use mathlib.Core.List.{List, [], _∷_, _++_, append-nil}
 use lib.Dec.{ltb, eqb}
-use lib.ListN.{length, take, drop, take-append-drop}
-use lib.Seq.{take-all, drop-at, length-take-le}
+use lib.ListN.{length}
 use borrow.Author.Tests.{eq-eqb, eqb-false, le-ltb}
 use Rattle.base.specs.Pick.{pick}
-use Rattle.base.specs.Words.{laid, Below}
-use Rattle.base.proofs.Part.{below-take}
-use Rattle.base.proofs.Laid.{length-laid, laid-append-left}
+use Rattle.base.specs.Words.{Below}
 use Rattle.memory.specs.Segment.{Memories}
-use Rattle.group.specs.Fragment.{built}
 use Rattle.node.specs.State.{turn}
-use Rattle.node.specs.Refusals.{firstOf, slaveCause, unaskedCause, isAsked, replyVerdict, pollVerdict}
+use Rattle.node.specs.Refusals.{firstOf, eventsCause, slaveCause, unaskedCause, replyVerdict, pollVerdict}
 use Rattle.node.specs.Refusals.{isPending as nodePending}
 use Rattle.qlist.specs.declared.Slow.{Slow}
 use Rattle.node.specs.Effect.{Effect, Lent, lent, Outcome, Further}
-use Rattle.node.specs.Slaves.{ask, received, gathering, replyEffect, pollEffect}
+use Rattle.node.specs.Slaves.{ask, received, replyEffect, pollEffect}
 use Rattle.node.specs.Calls.{judged, lentReply, replyOf, pollOf}
 use Rattle.node.specs.declared.Answer.{Answer}
 use Rattle.node.specs.declared.Ask.{Ask}
-use Rattle.node.specs.declared.Gathering.{Gathering}
 use Rattle.node.specs.declared.Node.{Node}
-use Rattle.node.specs.declared.Pending.{Pending}
 use Rattle.node.specs.declared.Refusal.{Refusal}
 use Rattle.node.specs.declared.Verdict.{Verdict}
 use Rattle.demands.specs.Machine.{logodwen, flashOf, isRefused}
 use Rattle.demands.specs.Reached.{stateAfter as nodeAfter}
 use Rattle.demands.specs.Events.{Event as Call, Host as NodeHost, host as nodeHost, slaveIn as slaveAsked, stepped as nodeStepped}
 use Rattle.demands.proofs.Taken.{reply-taken, poll-taken}
-use Rattle.codec.specs.Bytes.{wordsIn, wordsOf, bytesOf, storeWords}
-use Rattle.codec.specs.StateBytes.{tallyOf, waitOf, waitIn, nodeIn, areState}
+use Rattle.codec.specs.Bytes.{wordsOf, storeWords}
+use Rattle.codec.specs.StateBytes.{waitOf, nodeIn}
 use Rattle.logodwen.specs.Number.{answerNumber}
 use Rattle.logodwen.specs.Causes.{bytesCause, replyCheck, pollCheck}
 use Rattle.touch.specs.InBytes.{memoryWords, replyWords, furtherWords}
 use Rattle.logodwen.specs.Entry.{Answered, entered, isSet, replyEntry, pollEntry}
-use Rattle.codec.specs.declared.Wait.{Wait}
-use Rattle.codec.proofs.Runs.{length-words-of, length-bytes, length-store, store-words, words-take}
-use Rattle.codec.proofs.ThereAndBack.{words-read}
+use Rattle.codec.proofs.Runs.{length-words-of, length-store}
 use Rattle.border.specs.Exactly.{entries, Stays}
 use Rattle.border.specs.Host.{Entry, InC, onWords, isDone}
 use Rattle.border.specs.Answers.{Says, answerIn}
 use Rattle.border.specs.Events.{Event, entryOf, Host, slaveIn, stepped, isPending}
-use Rattle.border.proofs.Runs.{words-of-below, stored-below, laid-front, store-laid, store-front}
-use Rattle.logodwen.proofs.Fine.{state-sound}
+use Rattle.border.proofs.Runs.{words-of-below, stored-below}
 use Rattle.border.proofs.Exactly.{done-low, refused-exactly}
 use Rattle.border.proofs.Steps.{Made, outcomeOf, done-made}
 use Rattle.border.proofs.Stands.{Stands, made-moves, stands-typed}
 use Rattle.border.proofs.Answers.{nothing-cut}
+use Rattle.border.proofs.LentRuns.{length-reply, reply-below, left, stored-reply, stored-twice, kept-reply, pending-is, same-reply, same-poll}
 use Rattle.border.proofs.GroupBuffers.{Kept, reply-kept, poll-kept, busy-leaves}
-
--- the words of a reply buffer
-
-pub length-reply : (buffer : List ℕ) → 24576 ≤ length buffer → length (replyWords buffer) ≡ 12288
-length-reply buffer h = length-words-of 2 (take 24576 buffer) ∙ ap (_/ 2) (length-take-le 24576 buffer h)
-
-reply-below : (buffer : List ℕ) → Below 256 buffer → Below 65536 (replyWords buffer)
-reply-below buffer h = words-of-below (take 24576 buffer) (below-take 24576 buffer h)
-
--- left as they were
-pub left : (buffer : List ℕ) {after : List ℕ} → Below 256 buffer → after ≡ replyWords buffer → Kept (replyWords buffer) after
-left buffer h e = record { size = ap length e; below = subst (λ (x : List ℕ). Below 65536 x) (sym e) (reply-below buffer h) }
-
--- words stored over all of them are then its words, whatever was stored before
-stored-reply : (ws buffer : List ℕ) → length ws ≡ 12288 → Below 65536 ws → replyWords (storeWords 2 ws buffer) ≡ ws
-stored-reply ws buffer n h =
-    let all : take 12288 ws ≡ ws = take-all 12288 ws (omega (arith, n)) in
-    ap (wordsOf 2) (store-front ws buffer 12288 (omega (arith, n)) ∙ ap (bytesOf 2) all) ∙ words-read 2 (omega arith) ws h
-
-stored-twice : (new old buffer : List ℕ) → length new ≡ length old → storeWords 2 new (storeWords 2 old buffer) ≡ storeWords 2 new buffer
-stored-twice new old buffer e =
-    let x : List ℕ = bytesOf 2 old in
-    let y : List ℕ = bytesOf 2 new in
-    let n : length x ≡ length y = omega (arith, length-bytes 2 old, length-bytes 2 new, e) in
-    let rest : List ℕ = drop (0 + length x) buffer in
-    laid-front (laid buffer 0 x) y
-    ∙ ap (λ (l : List ℕ). y ++ drop (0 + length y) l) (laid-front buffer x)
-    ∙ ap (λ (l : List ℕ). y ++ l) (drop-at x rest (0 + length y) (omega (arith, n)))
-    ∙ ap (λ (k : ℕ). y ++ drop (0 + k) buffer) n
-    ∙ sym (laid-front buffer y)
-
-pub kept-reply : (buffer : List ℕ) → 24576 ≤ length buffer → Below 256 buffer → storeWords 2 (replyWords buffer) buffer ≡ buffer
-unfolding wordsOf
-kept-reply buffer long h =
-    let n : length (take 24576 buffer) / 2 ≡ 12288 = ap (_/ 2) (length-take-le 24576 buffer long) in
-    ap (λ (k : ℕ). storeWords 2 (wordsIn 2 k (take 24576 buffer)) buffer) n
-    ∙ ap (λ (ws : List ℕ). storeWords 2 ws buffer) (words-take 2 12288 buffer)
-    ∙ store-words 2 12288 buffer long h
-
--- words laid at their front are bytes laid at its front
-pub laid-reply : (ws buffer : List ℕ) → 24576 ≤ length buffer → Below 256 buffer → length ws ≤ 12288
-    → storeWords 2 (laid (replyWords buffer) 0 ws) buffer ≡ storeWords 2 ws buffer
-laid-reply ws buffer long h fits =
-    let a : List ℕ = take 24576 buffer in
-    let c : List ℕ = drop 24576 buffer in
-    let all : List ℕ = laid (replyWords buffer) 0 ws in
-    let la : length a ≡ 24576 = length-take-le 24576 buffer long in
-    let lw = length-reply buffer long in
-    let lall : length all ≡ 12288 = length-laid (replyWords buffer) 0 ws (omega (arith, lw, fits)) ∙ lw in
-    let whole : a ++ c ≡ buffer = take-append-drop 24576 buffer in
-    ap (storeWords 2 all) (sym whole)
-    ∙ laid-append-left a c 0 (bytesOf 2 all) (omega (arith, la, lall, length-bytes 2 all))
-    ∙ ap (λ (l : List ℕ). l ++ c) (store-laid a 0 ws (below-take 24576 buffer h) (omega (arith, lw, fits)))
-    ∙ sym (laid-append-left a c 0 (bytesOf 2 ws) (omega (arith, la, fits, length-bytes 2 ws)))
-    ∙ ap (storeWords 2 ws) whole
-
--- something is pending in the bytes where it is in the state that they stand for
-pub pending-is : (state : List ℕ) → nodePending (nodeIn state .pending) ≡ isPending state
-unfolding nodeIn
-pending-is state =
-    let w : Wait = waitIn state in
-    by (eqb (w .pending) 1) (eqb (w .pending) 2) (ask (w .link) (w .slave) (w .at))
-    (gathering (w .set) (w .from) (built (w .words) (tallyOf (w .tally))) (received (w .received) (w .«rx_status»)))
-  where
-    by : (t u : Bool) (a : Ask) (g : Gathering)
-        → nodePending (pick t (Pending.Slave a) (pick u (Pending.Group a g) Pending.Nothing)) ≡ (t || u)
-    by true u a g = refl
-    by false true a g = refl
-    by false false a g = refl
 
 -- the host of the words
 abbrev pub inWords : Answer → Host → NodeHost
@@ -148,9 +71,10 @@ pub record Called (first : List ℕ) (w : Call) (e : Event) (h : Host) : Type 0 
 
 abbrev pub wordOf : Event → Call
 wordOf (Event.Requested clock link bc errors packet m x) = Call.Requested clock link bc (isSet errors) (wordsOf 2 packet) (memoryWords m) (furtherWords x)
-wordOf (Event.Replied clock slave bc errors status address packet) =
-    Call.Replied clock slave bc (isSet errors) status address (wordsOf 2 packet)
-wordOf (Event.Polled clock) = Call.Polled clock
+wordOf (Event.Replied clock slave bc errors status address packet events) =
+    Call.Replied clock slave bc (isSet errors) status address (wordsOf 2 packet) (replyWords events)
+wordOf (Event.Polled clock events) = Call.Polled clock (replyWords events)
+wordOf (Event.Built clock events) = Call.Built clock (replyWords events)
 wordOf (Event.Erased budget) = Call.Erased budget
 wordOf (Event.Slowed clock list) = Call.Slowed clock (wordsOf 2 list)
 
@@ -159,9 +83,10 @@ does e h = outcomeOf (entryOf e (h .buffer)) (h .state) (h .flash)
 
 abbrev pub bufferOf : Event → Host → List ℕ
 bufferOf (Event.Requested clock link bc errors packet m x) h = does (Event.Requested clock link bc errors packet m x) h .after .reply
-bufferOf (Event.Replied clock slave bc errors status address packet) h =
-    does (Event.Replied clock slave bc errors status address packet) h .after .reply
-bufferOf (Event.Polled clock) h = does (Event.Polled clock) h .after .reply
+bufferOf (Event.Replied clock slave bc errors status address packet events) h =
+    does (Event.Replied clock slave bc errors status address packet events) h .after .reply
+bufferOf (Event.Polled clock events) h = does (Event.Polled clock events) h .after .reply
+bufferOf (Event.Built clock events) h = replyWords (h .buffer)
 bufferOf (Event.Erased budget) h = replyWords (h .buffer)
 bufferOf (Event.Slowed clock list) h = replyWords (h .buffer)
 
@@ -170,38 +95,43 @@ stepped-is : (e : Event) (h : Host) (a : Answer)
     ≡ nodeHost (h .asked) (does e h .turn)
     (flashOf logodwen (onWords (entryOf e (h .buffer))) (nodeIn (h .state)) (wordsOf 2 (h .flash))) (bufferOf e h)
 stepped-is (Event.Requested clock link bc errors packet m x) h a = refl
-stepped-is (Event.Replied clock slave bc errors status address packet) h a = refl
-stepped-is (Event.Polled clock) h a = refl
+stepped-is (Event.Replied clock slave bc errors status address packet events) h a = refl
+stepped-is (Event.Polled clock events) h a = refl
+stepped-is (Event.Built clock events) h a = refl
 stepped-is (Event.Erased budget) h a = refl
 stepped-is (Event.Slowed clock list) h a = refl
 
 node-is : (e : Event) (h : Host)
     → nodeAfter logodwen (onWords (entryOf e (h .buffer))) (nodeIn (h .state)) (wordsOf 2 (h .flash)) ≡ does e h .turn .node
 node-is (Event.Requested clock link bc errors packet m x) h = refl
-node-is (Event.Replied clock slave bc errors status address packet) h = refl
-node-is (Event.Polled clock) h = refl
+node-is (Event.Replied clock slave bc errors status address packet events) h = refl
+node-is (Event.Polled clock events) h = refl
+node-is (Event.Built clock events) h = refl
 node-is (Event.Erased budget) h = refl
 node-is (Event.Slowed clock list) h = refl
 
 answer-is : (e : Event) (h : Host) → answerIn (entryOf e (h .buffer)) (h .state) (h .flash) ≡ does e h .turn .answer
 answer-is (Event.Requested clock link bc errors packet m x) h = refl
-answer-is (Event.Replied clock slave bc errors status address packet) h = refl
-answer-is (Event.Polled clock) h = refl
+answer-is (Event.Replied clock slave bc errors status address packet events) h = refl
+answer-is (Event.Polled clock events) h = refl
+answer-is (Event.Built clock events) h = refl
 answer-is (Event.Erased budget) h = refl
 answer-is (Event.Slowed clock list) h = refl
 
 buffer-is : {first : List ℕ} (e : Event) (h : Host) → Holds first h → Made (entryOf e (h .buffer)) (h .state) (h .flash)
     → stepped entries e h .buffer ≡ storeWords 2 (bufferOf e h) (h .buffer)
 buffer-is (Event.Requested clock link bc errors packet m x) h k made = ap (λ (a : Answered). a .runs .reply) (made .does)
-buffer-is (Event.Replied clock slave bc errors status address packet) h k made = ap (λ (a : Answered). a .runs .reply) (made .does)
-buffer-is (Event.Polled clock) h k made = ap (λ (a : Answered). a .runs .reply) (made .does)
+buffer-is (Event.Replied clock slave bc errors status address packet events) h k made = ap (λ (a : Answered). a .runs .reply) (made .does)
+buffer-is (Event.Polled clock events) h k made = ap (λ (a : Answered). a .runs .reply) (made .does)
+buffer-is (Event.Built clock events) h k made = sym (kept-reply (h .buffer) (k .long) (k .bytes))
 buffer-is (Event.Erased budget) h k made = sym (kept-reply (h .buffer) (k .long) (k .bytes))
 buffer-is (Event.Slowed clock list) h k made = sym (kept-reply (h .buffer) (k .long) (k .bytes))
 
 in-c : (e : Event) (buffer : List ℕ) → InC (entryOf e []) → Below 256 buffer → InC (entryOf e buffer)
-in-c (Event.Requested clock link bc errors packet m x) buffer c b = (c .0, c .1, c .2, c .3, c .4, c .5, c .6, c .7, c .8, c .9, b)
-in-c (Event.Replied clock slave bc errors status address packet) buffer c b = (c .0, c .1, c .2, c .3, c .4, c .5, c .6, b)
-in-c (Event.Polled clock) buffer c b = (c .0, b)
+in-c (Event.Requested clock link bc errors packet m x) buffer c b = (c .0, c .1, c .2, c .3, c .4, c .5, c .6, c .7, c .8, c .9, c .10, b)
+in-c (Event.Replied clock slave bc errors status address packet events) buffer c b = (c .0, c .1, c .2, c .3, c .4, c .5, c .6, c .7, b)
+in-c (Event.Polled clock events) buffer c b = (c .0, c .1, b)
+in-c (Event.Built clock events) buffer c b = c
 in-c (Event.Erased budget) buffer c b = c
 in-c (Event.Slowed clock list) buffer c b = c
 
@@ -216,6 +146,9 @@ says-asks number Answer.Waiting s = λ i. pick (eqb (s .done i) 0 && eqb (s .kin
 says-asks number (Answer.Erased count) s = λ i. pick (eqb (s .done i) 0 && eqb (s .kind i) 2) (number / 65536 % 256 ∷ []) []
 says-asks number (Answer.Slow (Slow.Handed place)) s = λ i. pick (eqb (s .done i) 0 && eqb (s .kind i) 2) (number / 65536 % 256 ∷ []) []
 says-asks number (Answer.Slow Slow.Nothing) s = λ i. pick (eqb (s .done i) 0 && eqb (s .kind i) 2) (number / 65536 % 256 ∷ []) []
+says-asks number (Answer.AskEvent who) s = λ i. pick (eqb (s .done i) 0 && eqb (s .kind i) 2) (number / 65536 % 256 ∷ []) []
+says-asks number Answer.NoEvent s = λ i. pick (eqb (s .done i) 0 && eqb (s .kind i) 2) (number / 65536 % 256 ∷ []) []
+says-asks number (Answer.Built words) s = λ i. pick (eqb (s .done i) 0 && eqb (s .kind i) 2) (number / 65536 % 256 ∷ []) []
 
 -- an entry that is done is its call
 pub done-called : (first : List ℕ) (e : Event) (h : Host) → Holds first h → InC (entryOf e [])
@@ -274,12 +207,20 @@ undone-same (Event.Requested clock link bc errors packet m x) h u =
       buffer = ap (λ (l : Lent). l .reply) (s .lent);
       asked = none-asked (Event.Requested clock link bc errors packet m x) h u;
     }
-undone-same (Event.Replied clock slave bc errors status address packet) h u =
-    let s = refused-exactly .reply clock slave bc errors status address packet (h .state) (h .buffer) .1 (eqb-false _ 0 u) in
-    record { state = s .bytes; flash = refl; buffer = ap (λ (l : Lent). l .reply) (s .lent); asked = none-asked (Event.Replied clock slave bc errors status address packet) h u }
-undone-same (Event.Polled clock) h u =
-    let s = refused-exactly .poll clock (h .state) (h .buffer) .1 (eqb-false _ 0 u) in
-    record { state = s .bytes; flash = refl; buffer = ap (λ (l : Lent). l .reply) (s .lent); asked = none-asked (Event.Polled clock) h u }
+undone-same (Event.Replied clock slave bc errors status address packet events) h u =
+    let s = refused-exactly .reply clock slave bc errors status address packet (h .state) events (h .buffer) .1 (eqb-false _ 0 u) in
+    record {
+      state = s .bytes;
+      flash = refl;
+      buffer = ap (λ (l : Lent). l .reply) (s .lent);
+      asked = none-asked (Event.Replied clock slave bc errors status address packet events) h u;
+    }
+undone-same (Event.Polled clock events) h u =
+    let s = refused-exactly .poll clock (h .state) events (h .buffer) .1 (eqb-false _ 0 u) in
+    record { state = s .bytes; flash = refl; buffer = ap (λ (l : Lent). l .reply) (s .lent); asked = none-asked (Event.Polled clock events) h u }
+undone-same (Event.Built clock events) h u =
+    let s = refused-exactly .build clock (h .state) events .1 (eqb-false _ 0 u) in
+    record { state = s .bytes; flash = refl; buffer = refl; asked = none-asked (Event.Built clock events) h u }
 undone-same (Event.Erased budget) h u =
     let s = refused-exactly .erase budget (h .state) (h .flash) .1 (eqb-false _ 0 u) in
     record { state = s .bytes; flash = ap (λ (l : Lent). l .flash) (s .lent); buffer = refl; asked = none-asked (Event.Erased budget) h u }
@@ -317,44 +258,18 @@ refused-called k p s r =
     let a : Answer = Answer.Refused (r .refusal) in
     record { answer = a; is = λ b. r .is b ∙ sym (same-words s a); holds = same-holds s k; told = same-told s a p }
 
--- the causes of the border are then those of the node
-same-reply : (slave : ℕ) (packet state buffer : List ℕ) → areState state ≡ true → 24576 ≤ length buffer → length packet / 2 ≤ 32768
-    → replyCheck slave (length packet / 2) state (length buffer / 2) ≡ replyVerdict (nodeIn state) slave (length (replyWords buffer))
-unfolding replyCheck replyVerdict
-same-reply slave packet state buffer ok long short =
-    let asked : Verdict = pick (not (isAsked (nodeIn state .pending) slave)) (Verdict.No Refusal.Unasked) Verdict.Fine in
-    let room : ltb (length buffer / 2) 12288 ≡ false = le-ltb (length buffer / 2) 12288 (omega arith) in
-    let fits : ltb 32768 (length packet / 2) ≡ false = le-ltb 32768 (length packet / 2) short in
-    let space : ltb (length (replyWords buffer)) 12288 ≡ false =
-    le-ltb (length (replyWords buffer)) 12288 (omega (arith, length-reply buffer long)) in
-    (λ i. pick (room i) (Verdict.No Refusal.ReplySize) (pick (fits i) (Verdict.No Refusal.MemorySize)
-    (pick (ltb 23 slave) (Verdict.No Refusal.Number) (pick (not (ok i)) (Verdict.No Refusal.State) asked))))
-    ∙ sym (λ i. pick (space i) (Verdict.No Refusal.ReplySize)
-    (pick (ltb 23 slave) (Verdict.No Refusal.Number) (pick (not (state-sound state ok i)) (Verdict.No Refusal.State) asked)))
-
-same-poll : (state buffer : List ℕ) → areState state ≡ true → 24576 ≤ length buffer
-    → pollCheck state (length buffer / 2) ≡ pollVerdict (nodeIn state) (length (replyWords buffer))
-unfolding pollCheck pollVerdict
-same-poll state buffer ok long =
-    let waits : Verdict = pick (not (nodePending (nodeIn state .pending))) (Verdict.No Refusal.Unasked) Verdict.Fine in
-    let room : ltb (length buffer / 2) 12288 ≡ false = le-ltb (length buffer / 2) 12288 (omega arith) in
-    let space : ltb (length (replyWords buffer)) 12288 ≡ false =
-    le-ltb (length (replyWords buffer)) 12288 (omega (arith, length-reply buffer long)) in
-    (λ i. pick (room i) (Verdict.No Refusal.ReplySize) (pick (not (ok i)) (Verdict.No Refusal.State) waits))
-    ∙ sym (λ i. pick (space i) (Verdict.No Refusal.ReplySize) (pick (not (state-sound state ok i)) (Verdict.No Refusal.State) waits))
-
 -- an entry whose verdict is the node's, and that isn't done: the node refuses
-refuses : (w : Call) (h : Host) (check v : Verdict) (e : Effect) → check ≡ v → isRefused (e .answer) ≡ false
-    → let o : Outcome = judged v (nodeIn (h .state)) (lentReply (replyWords (h .buffer))) e in
-    isDone (entered check (h .state) (lentReply (h .buffer)) o .number) ≡ false
+refuses : (w : Call) (h : Host) (events : List ℕ) (check v : Verdict) (e : Effect) → check ≡ v → isRefused (e .answer) ≡ false
+    → let o : Outcome = judged v (nodeIn (h .state)) (lentReply (replyWords events) (replyWords (h .buffer))) e in
+    isDone (entered check (h .state) (lentReply events (h .buffer)) o .number) ≡ false
     → ((a : Answer) → nodeStepped logodwen w (inWords a h) ≡ nodeHost (h .asked) (o .turn) (wordsOf 2 (h .flash)) (o .after .reply))
     → Refuses w h
-refuses w h check Verdict.Fine e q t u is =
-    let o : Outcome = judged Verdict.Fine (nodeIn (h .state)) (lentReply (replyWords (h .buffer))) e in
+refuses w h events check Verdict.Fine e q t u is =
+    let o : Outcome = judged Verdict.Fine (nodeIn (h .state)) (lentReply (replyWords events) (replyWords (h .buffer))) e in
     let done = eq-eqb (answerNumber (e .answer) % 256) 0 (done-low (e .answer) t) in
-    let path = ap (λ (c : Verdict). isDone (entered c (h .state) (lentReply (h .buffer)) o .number)) q in
+    let path = ap (λ (c : Verdict). isDone (entered c (h .state) (lentReply events (h .buffer)) o .number)) q in
     absurd (false≢true (sym u ∙ path ∙ done))
-refuses w h check (Verdict.No r) e q t u is =
+refuses w h events check (Verdict.No r) e q t u is =
     record {
       refusal = r;
       is = λ a. is a
@@ -380,15 +295,15 @@ module _ {first : List ℕ} (h : Host) (k : Holds first h) (p : isPending (h .st
   kept-status : waitOf (n .pending) .«rx_status» < 65536
   kept-status = stands-typed (h .state) (h .flash) (k .stands) .received
 
-  -- the five kinds of entries: a reply and a poll are calls ..
-  pub reply-called : (clock slave bc errors status address : ℕ) (packet : List ℕ)
-      → let e : Event = Event.Replied clock slave bc errors status address packet in
+  -- the six kinds of entries: a reply and a poll are calls ..
+  pub reply-called : (clock slave bc errors status address : ℕ) (packet events : List ℕ)
+      → let e : Event = Event.Replied clock slave bc errors status address packet events in
       InC (entryOf e []) → length packet / 2 ≤ 32768 → Called first (wordOf e) e h
   unfolding replyEntry replyOf
-  reply-called clock slave bc errors status address packet c short = by (isDone (stepped entries e h .number)) refl
+  reply-called clock slave bc errors status address packet events c short = by (isDone (stepped entries e h .number)) refl
     where
       e : Event
-      e = Event.Replied clock slave bc errors status address packet
+      e = Event.Replied clock slave bc errors status address packet events
 
       words : List ℕ
       words = wordsOf 2 packet
@@ -396,42 +311,46 @@ module _ {first : List ℕ} (h : Host) (k : Holds first h) (p : isPending (h .st
       by : (t : Bool) → isDone (stepped entries e h .number) ≡ t → Called first (wordOf e) e h
       by true d =
           done-called first e h k c d
-          (reply-kept n clock slave bc (isSet errors) status address words buffer (words-of-below packet (c .6))
+          (reply-kept n clock slave bc (isSet errors) status address words (replyWords events) buffer (words-of-below packet (c .6))
           (omega (arith, length-words-of 2 packet, short)) (c .4) (c .5) kept-status (reply-below (h .buffer) (k .bytes)) (length-reply (h .buffer) (k .long)))
       by false u =
           refused-called k p (undone-same e h u)
-          (refuses (wordOf e) h (replyCheck slave (length packet / 2) (h .state) (length (h .buffer) / 2))
-          (replyVerdict n slave (length buffer)) (replyEffect n clock (isSet errors) status address bc words buffer)
-          (same-reply slave packet (h .state) (h .buffer) (k .stands .bytes) (k .long) short)
-          (reply-taken n clock (isSet errors) status address bc words buffer) u (λ a. refl))
+          (refuses (wordOf e) h events (replyCheck slave (length packet / 2) (h .state) (length events / 2) (length (h .buffer) / 2))
+          (replyVerdict n slave (length (replyWords events)) (length buffer))
+          (replyEffect n clock (isSet errors) status address bc words (replyWords events) buffer)
+          (same-reply slave packet (h .state) events (h .buffer) (k .stands .bytes) short)
+          (reply-taken n clock (isSet errors) status address bc words (replyWords events) buffer) u (λ a. refl))
 
   -- one that is too long isn't done
-  pub long-undone : (clock slave bc errors status address : ℕ) (packet : List ℕ) → ltb 32768 (length packet / 2) ≡ true
-      → isDone (stepped entries (Event.Replied clock slave bc errors status address packet) h .number) ≡ false
+  pub long-undone : (clock slave bc errors status address : ℕ) (packet events : List ℕ) → ltb 32768 (length packet / 2) ≡ true
+      → isDone (stepped entries (Event.Replied clock slave bc errors status address packet events) h .number) ≡ false
   unfolding replyEntry replyCheck
-  long-undone clock slave bc errors status address packet long =
-      let e : Event = Event.Replied clock slave bc errors status address packet in
+  long-undone clock slave bc errors status address packet events long =
+      let e : Event = Event.Replied clock slave bc errors status address packet events in
       let room : ltb (length (h .buffer) / 2) 12288 ≡ false = le-ltb (length (h .buffer) / 2) 12288 (omega (arith, k .long)) in
-      let rest : Verdict = firstOf (slaveCause slave ∷ bytesCause (h .state) ∷ unaskedCause n slave ∷ []) in
-      let check : replyCheck slave (length packet / 2) (h .state) (length (h .buffer) / 2) ≡ Verdict.No Refusal.MemorySize =
+      let rest : Verdict = firstOf (eventsCause (length events / 2) ∷ slaveCause slave ∷ bytesCause (h .state) ∷ unaskedCause n slave ∷ []) in
+      let check : replyCheck slave (length packet / 2) (h .state) (length events / 2) (length (h .buffer) / 2) ≡ Verdict.No Refusal.MemorySize =
       λ i. pick (room i) (Verdict.No Refusal.ReplySize) (pick (long i) (Verdict.No Refusal.MemorySize) rest) in
-      ap (λ (v : Verdict). isDone (entered v (h .state) (lentReply (h .buffer)) (does e h) .number)) check
+      ap (λ (v : Verdict). isDone (entered v (h .state) (lentReply events (h .buffer)) (does e h) .number)) check
 
-  pub poll-called : (clock : ℕ) → let e : Event = Event.Polled clock in InC (entryOf e []) → Called first (wordOf e) e h
+  pub poll-called : (clock : ℕ) (events : List ℕ) → let e : Event = Event.Polled clock events in InC (entryOf e []) → Called first (wordOf e) e h
   unfolding pollEntry pollOf
-  poll-called clock c = by (isDone (stepped entries e h .number)) refl
+  poll-called clock events c = by (isDone (stepped entries e h .number)) refl
     where
       e : Event
-      e = Event.Polled clock
+      e = Event.Polled clock events
 
       by : (t : Bool) → isDone (stepped entries e h .number) ≡ t → Called first (wordOf e) e h
-      by true d = done-called first e h k c d (poll-kept n clock buffer kept-status (reply-below (h .buffer) (k .bytes)) (length-reply (h .buffer) (k .long)))
+      by true d =
+          done-called first e h k c d
+          (poll-kept n clock (replyWords events) buffer kept-status (reply-below (h .buffer) (k .bytes)) (length-reply (h .buffer) (k .long)))
       by false u =
           refused-called k p (undone-same e h u)
-          (refuses (wordOf e) h (pollCheck (h .state) (length (h .buffer) / 2)) (pollVerdict n (length buffer)) (pollEffect n clock buffer)
-          (same-poll (h .state) (h .buffer) (k .stands .bytes) (k .long)) (poll-taken n clock buffer) u (λ a. refl))
+          (refuses (wordOf e) h events (pollCheck (h .state) (length events / 2) (length (h .buffer) / 2))
+          (pollVerdict n (length (replyWords events)) (length buffer)) (pollEffect n clock (replyWords events) buffer)
+          (same-poll (h .state) events (h .buffer) (k .stands .bytes)) (poll-taken n clock (replyWords events) buffer) u (λ a. refl))
 
-  -- .. a request, erase progress and a slow-control step are, if they are done
+  -- .. a request, a build, erase progress and a slow-control step are, if they are done
   pub request-called : (clock link bc errors : ℕ) (packet : List ℕ) (m : Memories) (x : Further)
       → let e : Event = Event.Requested clock link bc errors packet m x in
       InC (entryOf e []) → isDone (stepped entries e h .number) ≡ true → Called first (wordOf e) e h
@@ -440,6 +359,10 @@ module _ {first : List ℕ} (h : Host) (k : Holds first h) (p : isPending (h .st
       let l : Lent = lent (wordsOf 2 (h .flash)) (memoryWords m) (furtherWords x) buffer in
       done-called first e h k c d
       (left (h .buffer) (k .bytes) (busy-leaves n clock link bc (isSet errors) (wordsOf 2 packet) l pending))
+
+  pub build-called : (clock : ℕ) (events : List ℕ) → let e : Event = Event.Built clock events in
+      InC (entryOf e []) → isDone (stepped entries e h .number) ≡ true → Called first (wordOf e) e h
+  build-called clock events c d = done-called first (Event.Built clock events) h k c d (left (h .buffer) (k .bytes) refl)
 
   pub erase-called : (budget : ℕ) → let e : Event = Event.Erased budget in
       InC (entryOf e []) → isDone (stepped entries e h .number) ≡ true → Called first (wordOf e) e h

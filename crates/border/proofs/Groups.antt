@@ -4,7 +4,7 @@ use Prim.Native.Nat.{ℕ, _+_, _/_, _%_, _≤_, _<_}
 use native.Mathlib.Nat.{zero-add}
 use native.Mathlib.Omega.{arith}
 use mathlib.Core.Path.{_≡_, refl, sym, ap, _∙_, subst}
-use mathlib.Core.Bool.{Bool, true, false, _||_, false≢true}
+use mathlib.Core.Bool.{Bool, true, false, _&&_, _||_, false≢true}
 use mathlib.Core.List.{List, [], _∷_, _++_}
 use lib.Dec.{ltb, eqb}
 use lib.ListN.{length, take}
@@ -25,7 +25,7 @@ use Rattle.node.specs.declared.Answer.{Answer}
 use Rattle.node.specs.declared.Asking.{Asking}
 use Rattle.node.specs.declared.Pending.{Pending}
 use Rattle.demands.specs.Machine.{logodwen}
-use Rattle.demands.specs.Events.{Event as Call, Host as NodeHost, stepped as nodeStepped, hosted as nodeHosted, Undropped, Awaited, asked, sentNext, answeredBy, silentBy, Heards, endedBy, heards}
+use Rattle.demands.specs.Events.{Event as Call, Host as NodeHost, stepped as nodeStepped, hosted as nodeHosted, Undropped, Awaited, asked, sentNext, answeredBy, silentBy, Heards, endedBy, heards, holdsEvent}
 use Rattle.demands.specs.Groups.{packetsStored, GroupRun as NodeRun, atLast as nodeLast, said as nodeSaid, Sends as NodeSends, EndsBy, ExactlyThose}
 use Rattle.demands.specs.Ends.{isTaken, unfinishedIn, receivedIn, settles, takenIn as nodeTaken, ComesAt as NodeComesAt, polledBy as nodePolledBy, Ticking as NodeTicking, askedTick as nodeAsked, Silent as NodeSilent}
 use Rattle.demands.proofs.Groups.{group-is-its-fragments as node-fragments, so-far as node-so-far, asked-in-order, each-asked-once}
@@ -45,7 +45,8 @@ use Rattle.border.proofs.Steps.{Made, done-made}
 use Rattle.border.proofs.Stands.{hosted-stands}
 use Rattle.border.proofs.Answers.{nothing-cut}
 use Rattle.border.proofs.GroupBuffers.{asks-leaves}
-use Rattle.border.proofs.GroupSteps.{left, kept-reply, pending-is, inWords, Holds, Told, Called, wordOf, does, done-called, Same, undone-same, same-words, same-holds, same-told, reply-called, long-undone, poll-called, request-called, erase-called, slow-called}
+use Rattle.border.proofs.LentRuns.{left, kept-reply, pending-is}
+use Rattle.border.proofs.GroupSteps.{inWords, Holds, Told, Called, wordOf, does, done-called, Same, undone-same, same-words, same-holds, same-told, reply-called, long-undone, poll-called, request-called, build-called, erase-called, slow-called}
 
 -- a run of calls that hears the same after one call more does so before it
 heards-on : (c : Call) (cs ds : List Call) → ((x : Awaited) (ss : List ℕ) (w : ℕ) → heards x ss w cs ≡ heards x ss w ds)
@@ -53,15 +54,16 @@ heards-on : (c : Call) (cs ds : List Call) → ((x : Awaited) (ss : List ℕ) (w
 unfolding heards
 heards-on c cs ds q x [] w = refl
 heards-on (Call.Requested clock link bc errors packet m y) cs ds q x (s ∷ ss) w = q x (s ∷ ss) w
-heards-on (Call.Replied clock slave bc errors status address words) cs ds q x (s ∷ ss) w =
+heards-on (Call.Replied clock slave bc errors status address words events) cs ds q x (s ∷ ss) w =
     let a : SlaveAnswer = answeredBy x clock bc errors status address words in
-    λ i. pick (eqb s slave)
+    λ i. pick (holdsEvent events && eqb s slave)
     (pick (isPart a w (length ss)) (q (sentNext clock a) (s ∷ ss) w i)
     (endedBy a (q (asked clock) ss (w + length (fragmentOf s a w (length ss))) i)))
     (q x (s ∷ ss) w i)
-heards-on (Call.Polled clock) cs ds q x (s ∷ ss) w =
-    λ i. pick (isLate clock (x .at))
+heards-on (Call.Polled clock events) cs ds q x (s ∷ ss) w =
+    λ i. pick (holdsEvent events && isLate clock (x .at))
     (endedBy (silentBy x) (q (asked clock) ss (w + length (fragmentOf s (silentBy x) w (length ss))) i)) (q x (s ∷ ss) w i)
+heards-on (Call.Built clock events) cs ds q x (s ∷ ss) w = q x (s ∷ ss) w
 heards-on (Call.Erased budget) cs ds q x (s ∷ ss) w = q x (s ∷ ss) w
 heards-on (Call.Slowed clock list) cs ds q x (s ∷ ss) w = q x (s ∷ ss) w
 
@@ -78,6 +80,11 @@ unheard-request : (clock link bc : ℕ) (errors : Bool) (packet : List ℕ) (m :
 unfolding Unheard heards
 unheard-request clock link bc errors packet m x cs y [] w = refl
 unheard-request clock link bc errors packet m x cs y (s ∷ ss) w = refl
+
+unheard-build : (clock : ℕ) (events : List ℕ) → Unheard (Call.Built clock events ∷ [])
+unfolding Unheard heards
+unheard-build clock events cs x [] w = refl
+unheard-build clock events cs x (s ∷ ss) w = refl
 
 unheard-erase : (budget : ℕ) → Unheard (Call.Erased budget ∷ [])
 unfolding Unheard heards
@@ -128,15 +135,17 @@ silent-none (c ∷ cs) h f = λ p. absurd (false≢true (sym f ∙ p))
 -- an entry's clock and poll are its call's
 comes-at : (tick : ℕ) (e : Event) → ComesAt tick e → NodeComesAt tick (wordOf e)
 comes-at tick (Event.Requested clock link bc errors packet m x) c = c
-comes-at tick (Event.Replied clock slave bc errors status address packet) c = c
-comes-at tick (Event.Polled clock) c = c
+comes-at tick (Event.Replied clock slave bc errors status address packet events) c = c
+comes-at tick (Event.Polled clock events) c = c
+comes-at tick (Event.Built clock events) c = c
 comes-at tick (Event.Erased budget) c = c
 comes-at tick (Event.Slowed clock list) c = c
 
 polled-by : (polled tick : ℕ) (e : Event) → polledBy polled tick e ≡ nodePolledBy polled tick (wordOf e)
 polled-by polled tick (Event.Requested clock link bc errors packet m x) = refl
-polled-by polled tick (Event.Replied clock slave bc errors status address packet) = refl
-polled-by polled tick (Event.Polled clock) = refl
+polled-by polled tick (Event.Replied clock slave bc errors status address packet events) = refl
+polled-by polled tick (Event.Polled clock events) = refl
+polled-by polled tick (Event.Built clock events) = refl
 polled-by polled tick (Event.Erased budget) = refl
 polled-by polled tick (Event.Slowed clock list) = refl
 
@@ -341,6 +350,14 @@ means first (Event.Requested clock l bc errors packet m x) h p k c = by (isDone 
     by false d =
         Means.Naught (unheard-request clock l bc (isSet errors) (wordsOf 2 packet) (memoryWords m) (furtherWords x)) refl (λ _ _. refl)
         (undone-same e h d)
+means first (Event.Built clock events) h p k c = by (isDone (stepped entries e h .number)) refl
+  where
+    e : Event
+    e = Event.Built clock events
+
+    by : (t : Bool) → isDone (stepped entries e h .number) ≡ t → Means first e h
+    by true d = Means.ACall refl (build-called h k p clock events c d)
+    by false d = Means.Naught (unheard-build clock (replyWords events)) refl (λ _ _. refl) (undone-same e h d)
 means first (Event.Erased budget) h p k c = by (isDone (stepped entries e h .number)) refl
   where
     e : Event
@@ -357,20 +374,20 @@ means first (Event.Slowed clock list) h p k c = by (isDone (stepped entries e h 
     by : (t : Bool) → isDone (stepped entries e h .number) ≡ t → Means first e h
     by true d = Means.ACall refl (slow-called h k p clock list c d)
     by false d = Means.Naught (unheard-slow clock (wordsOf 2 list)) refl (λ _ _. refl) (undone-same e h d)
-means first (Event.Polled clock) h p k c = Means.ACall refl (poll-called h k p clock c)
-means first (Event.Replied clock slave bc errors status address packet) h p k c = by (ltb 32768 (length packet / 2)) refl
+means first (Event.Polled clock events) h p k c = Means.ACall refl (poll-called h k p clock events c)
+means first (Event.Replied clock slave bc errors status address packet events) h p k c = by (ltb 32768 (length packet / 2)) refl
   where
     e : Event
-    e = Event.Replied clock slave bc errors status address packet
+    e = Event.Replied clock slave bc errors status address packet events
 
     by : (t : Bool) → ltb 32768 (length packet / 2) ≡ t → Means first e h
     by true l =
         let none = ap (λ (t : Bool). pick t [] (wordOf e ∷ [])) l in
         Means.Naught (subst Unheard (sym none) unheard-none) (ap (λ (cs : List Call). takenBy cs (nodeIn (h .state) .pending)) none) (λ _ _. refl)
-        (undone-same e h (long-undone h k p clock slave bc errors status address packet l))
+        (undone-same e h (long-undone h k p clock slave bc errors status address packet events l))
     by false l =
         Means.ACall (ap (λ (t : Bool). pick t [] (wordOf e ∷ [])) l)
-        (reply-called h k p clock slave bc errors status address packet c (ltb-false 32768 (length packet / 2) l))
+        (reply-called h k p clock slave bc errors status address packet events c (ltb-false 32768 (length packet / 2) l))
 
 -- one entry
 carry : (link : ℕ) (first : List ℕ) (e : Event) (es : List Event) (h : Host) (a : Answer) → isPending (h .state) ≡ true
@@ -439,6 +456,9 @@ says-ask number Answer.Waiting s k = let z : ⊥ = omega (arith, s .kind, k) in 
 says-ask number (Answer.Erased count) s k = let z : ⊥ = omega (arith, s .kind, k) in absurd z
 says-ask number (Answer.Slow (Slow.Handed place)) s k = let z : ⊥ = omega (arith, s .kind, k) in absurd z
 says-ask number (Answer.Slow Slow.Nothing) s k = let z : ⊥ = omega (arith, s .kind, k) in absurd z
+says-ask number (Answer.AskEvent who) s k = let z : ⊥ = omega (arith, s .kind, k) in absurd z
+says-ask number Answer.NoEvent s k = let z : ⊥ = omega (arith, s .kind, k) in absurd z
+says-ask number (Answer.Built words) s k = let z : ⊥ = omega (arith, s .kind, k) in absurd z
 
 -- a way to send is another way to send
 ends-so : {P Q : Reply → List ℕ → Type 0} {ss : List ℕ} {hs : List SlaveAnswer} {own : ℕ} → ((x : Reply) (ws : List ℕ) → P x ws → Q x ws)
@@ -464,7 +484,7 @@ module _ (r : GroupRun entries) where
       let m = r .memories in
       let f =
       request-fine (r .link) (length (r .packet) / 2) (r .state) (length (r .flash)) (length (m .pm) / 4) (length (m .dm) / 2)
-      (length (m .io) / 2) (length (r .further .area) / 2) (length (r .further .list) / 14) (length (r .buffer) / 2) (made .fine) in
+      (length (m .io) / 2) (length (r .further .area) / 2) (length (r .further .list) / 14) (length (r .further .events) / 2) (length (r .buffer) / 2) (made .fine) in
       omega (arith, f .buffer)
 
   pub holds : Holds (r .buffer) before
@@ -472,8 +492,8 @@ module _ (r : GroupRun entries) where
       record {
         stands = hosted-stands (r .has);
         long = long;
-        bytes = r .typed .10;
-        front = sym (kept-reply (r .buffer) long (r .typed .10));
+        bytes = r .typed .11;
+        front = sym (kept-reply (r .buffer) long (r .typed .11));
       }
 
   -- it asks, and so leaves the reply buffer
@@ -485,8 +505,8 @@ module _ (r : GroupRun entries) where
   pub called : Called (r .buffer) (wordOf request) request before
   called =
       let c = r .typed in
-      done-called (r .buffer) request before holds (c .0, c .1, c .2, c .3, c .4, c .5, c .6, c .7, c .8, c .9, λ i. omega arith) done
-      (left (r .buffer) (r .typed .10)
+      done-called (r .buffer) request before holds (c .0, c .1, c .2, c .3, c .4, c .5, c .6, c .7, c .8, c .9, c .10, λ i. omega arith) done
+      (left (r .buffer) (r .typed .11)
       (asks-leaves (nodeIn (r .state)) (r .clock) (r .link) (r .bc) (isSet (r .errors)) (wordsOf 2 (r .packet))
       (lent (wordsOf 2 (r .flash)) (memoryWords (r .memories)) (furtherWords (r .further)) (replyWords (r .buffer))) (asks .asking) (asks .is)))
 

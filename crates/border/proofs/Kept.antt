@@ -42,8 +42,8 @@ directory-bytes n t =
     let masks = bytesOf 4 (n .masks) in
     let long : length (numbers ++ masks) ≡ 108 =
     length-append numbers masks ∙ omega (arith, length-numbers n, length-bytes 4 (n .masks), t .masks) in
-    ap (λ (x : List ℕ). part x 108 64) (sym (append-assoc numbers masks (bytesOf 2 (n .directory) ++ tailBytes (n .writing) (n .pending) (n .listing))))
-    ∙ part-append (numbers ++ masks) (bytesOf 2 (n .directory)) (tailBytes (n .writing) (n .pending) (n .listing)) 108 64 long (omega (arith, length-bytes 2 (n .directory), t .directory))
+    ap (λ (x : List ℕ). part x 108 64) (sym (append-assoc numbers masks (bytesOf 2 (n .directory) ++ tailBytes (n .writing) (n .pending) (n .listing) (n .events))))
+    ∙ part-append (numbers ++ masks) (bytesOf 2 (n .directory)) (tailBytes (n .writing) (n .pending) (n .listing) (n .events)) 108 64 long (omega (arith, length-bytes 2 (n .directory), t .directory))
 
 pub always-state : AlwaysState entries
 always-state state flash h = hosted-stands h .bytes

@@ -21,14 +21,14 @@ use Rattle.qlist.specs.declared.Slow.{Slow}
 use Rattle.qlist.proofs.Lengths.{length-step, close-count, length-write, length-delete}
 use Rattle.qlist.proofs.Writing.{can-tells}
 use Rattle.qlist.proofs.Ranges.{below-step, below-write, below-delete}
-use Rattle.node.specs.Refusals.{replyVerdict, pollVerdict, eraseVerdict, slowVerdict, startVerdict}
+use Rattle.node.specs.Refusals.{replyVerdict, pollVerdict, buildVerdict, eraseVerdict, slowVerdict, startVerdict}
 use Rattle.node.specs.Effect.{Effect, Lent, lent, further, Relist, listingAfter, listAfter as relistedTo}
 use Rattle.node.specs.Slaves.{replyEffect, pollEffect}
-use Rattle.node.specs.Calls.{judged, lentReply, lentFlash, lentList, given, startBy, startOf, requestOf, replyOf, pollOf, eraseEffect, eraseOf, slowEffect, slowOf}
+use Rattle.node.specs.Calls.{judged, lentReply, lentEvents, lentFlash, lentList, given, startBy, startOf, requestOf, replyOf, pollOf, buildEffect, buildOf, eraseEffect, eraseOf, slowEffect, slowOf}
 use Rattle.node.specs.declared.Answer.{Answer}
 use Rattle.node.specs.declared.Node.{Node}
 use Rattle.node.specs.declared.Verdict.{Verdict}
-use Rattle.node.proofs.Why.{Relists, Relisted, request-why, reply-quiet, poll-quiet}
+use Rattle.node.proofs.Why.{Relists, Relisted, request-why, reply-quiet, poll-quiet, build-quiet}
 use Rattle.demands.specs.Machine.{Call, logodwen, isRefused}
 use Rattle.demands.specs.Requests.{isCommand}
 use Rattle.demands.specs.Reached.{Lends16, stateAfter as nodeAfter}
@@ -55,16 +55,18 @@ use Rattle.border.proofs.Answers.{nothing-cut}
 lent-words : (list : List ℕ) (e : Entry) → onWords (lending list e) ≡ lendingWords (wordsOf 2 list) (onWords e)
 lent-words list (Entry.Start kind ports subdetector program version tests clock) = refl
 lent-words list (Entry.Request clock link bc errors packet m x reply) = refl
-lent-words list (Entry.Reply clock slave bc errors status address packet reply) = refl
-lent-words list (Entry.Poll clock reply) = refl
+lent-words list (Entry.Reply clock slave bc errors status address packet events reply) = refl
+lent-words list (Entry.Poll clock events reply) = refl
+lent-words list (Entry.Build clock events) = refl
 lent-words list (Entry.Erase budget) = refl
 lent-words list (Entry.Slow clock other) = refl
 
 lent-in : (list : List ℕ) (e : Entry) → U8s list → InC e → InC (lending list e)
 lent-in list (Entry.Start kind ports subdetector program version tests clock) b c = c
-lent-in list (Entry.Request clock link bc errors packet m x reply) b c = (c .0, c .1, c .2, c .3, c .4, c .5, c .6, c .7, c .8, b, c .10)
-lent-in list (Entry.Reply clock slave bc errors status address packet reply) b c = c
-lent-in list (Entry.Poll clock reply) b c = c
+lent-in list (Entry.Request clock link bc errors packet m x reply) b c = (c .0, c .1, c .2, c .3, c .4, c .5, c .6, c .7, c .8, b, c .10, c .11)
+lent-in list (Entry.Reply clock slave bc errors status address packet events reply) b c = c
+lent-in list (Entry.Poll clock events reply) b c = c
+lent-in list (Entry.Build clock events) b c = c
 lent-in list (Entry.Erase budget) b c = c
 lent-in list (Entry.Slow clock other) b c = (c .0, b)
 
@@ -94,7 +96,7 @@ module _ (n : Node) (clock link bc : ℕ) (errors : Bool) (packet : List ℕ) (l
       e = requestEffect n clock link bc errors packet l
 
       by : (v : Verdict) → Fits list (judged v n l e .after .further .list)
-      by Verdict.Fine = relisted-fits (e .list) (request-why n link bc packet l clock errors .1 .1)
+      by Verdict.Fine = relisted-fits (e .list) (request-why n link bc packet l clock errors .1 .1 .0)
       by (Verdict.No r) = record { size = refl; below = b }
 
 slow-fits : (n : Node) (clock : ℕ) (list : List ℕ) → Below 65536 list → Fits list (slowOf n clock list .after .further .list)
@@ -108,9 +110,10 @@ slow-fits n clock list b = by (slowVerdict n (recordsIn list))
 call-fits : (c : Call) (n : Node) (flash list : List ℕ) → Lends16 c → Below 65536 list → Fits list (listOf logodwen c n flash list)
 call-fits (Call.Start kind ports subdetector program version tests clock) n flash list p b = record { size = refl; below = b }
 call-fits (Call.Request clock link bc errors packet m x reply) n flash list p b =
-    request-fits n clock link bc errors packet (lent flash m (further (x .area) list) reply) p b
-call-fits (Call.Reply clock slave bc errors status address words reply) n flash list p b = record { size = refl; below = b }
-call-fits (Call.Poll clock reply) n flash list p b = record { size = refl; below = b }
+    request-fits n clock link bc errors packet (lent flash m (further (x .area) list (x .events)) reply) p b
+call-fits (Call.Reply clock slave bc errors status address words events reply) n flash list p b = record { size = refl; below = b }
+call-fits (Call.Poll clock events reply) n flash list p b = record { size = refl; below = b }
+call-fits (Call.Build clock events) n flash list p b = record { size = refl; below = b }
 call-fits (Call.Erase budget) n flash list p b = record { size = refl; below = b }
 call-fits (Call.Slow clock other) n flash list p b = slow-fits n clock list b
 
@@ -159,28 +162,33 @@ start-lent kind ports subdetector program version tests clock flash list = by (s
     by (Verdict.No r) = omega arith
 
 call-lent : (c : Call) (n : Node) (flash list : List ℕ) → LentAfter n list → LentAfter (nodeAfter logodwen (lendingWords list c) n flash) list
-unfolding requestOf replyOf pollOf eraseOf slowOf
+unfolding requestOf replyOf pollOf buildOf eraseOf slowOf
 call-lent (Call.Start kind ports subdetector program version tests clock) n flash list h =
     pick-case (λ (m : Node). LentAfter m list) (isRefused (startOf kind ports subdetector program version tests clock flash .answer)) (λ _. h)
     (λ _. start-lent kind ports subdetector program version tests clock flash list)
 call-lent (Call.Request clock link bc errors packet m x reply) n flash list h = by (verdictOn n link packet l)
   where
     l : Lent
-    l = lent flash m (further (x .area) list) reply
+    l = lent flash m (further (x .area) list (x .events)) reply
 
     by : (v : Verdict) → LentAfter (judged v n l (requestEffect n clock link bc errors packet l) .turn .node) list
-    by Verdict.Fine = relist-lent n clock packet list h (requestEffect n clock link bc errors packet l .list) (request-why n link bc packet l clock errors .1 .1)
+    by Verdict.Fine = relist-lent n clock packet list h (requestEffect n clock link bc errors packet l .list) (request-why n link bc packet l clock errors .1 .1 .0)
     by (Verdict.No r) = h
-call-lent (Call.Reply clock slave bc errors status address words reply) n flash list h = by (replyVerdict n slave (length reply))
+call-lent (Call.Reply clock slave bc errors status address words events reply) n flash list h = by (replyVerdict n slave (length events) (length reply))
   where
-    by : (v : Verdict) → LentAfter (judged v n (lentReply reply) (replyEffect n clock errors status address bc words reply) .turn .node) list
+    by : (v : Verdict) → LentAfter (judged v n (lentReply events reply) (replyEffect n clock errors status address bc words events reply) .turn .node) list
     by Verdict.Fine =
-        subst (λ (x : Relist). listingAfter x (n .listing) .entries ≤ recordsIn list) (sym (reply-quiet n clock errors status address bc words reply .list)) h
+        subst (λ (x : Relist). listingAfter x (n .listing) .entries ≤ recordsIn list) (sym (reply-quiet n clock errors status address bc words events reply .list)) h
     by (Verdict.No r) = h
-call-lent (Call.Poll clock reply) n flash list h = by (pollVerdict n (length reply))
+call-lent (Call.Poll clock events reply) n flash list h = by (pollVerdict n (length events) (length reply))
   where
-    by : (v : Verdict) → LentAfter (judged v n (lentReply reply) (pollEffect n clock reply) .turn .node) list
-    by Verdict.Fine = subst (λ (x : Relist). listingAfter x (n .listing) .entries ≤ recordsIn list) (sym (poll-quiet n clock reply .list)) h
+    by : (v : Verdict) → LentAfter (judged v n (lentReply events reply) (pollEffect n clock events reply) .turn .node) list
+    by Verdict.Fine = subst (λ (x : Relist). listingAfter x (n .listing) .entries ≤ recordsIn list) (sym (poll-quiet n clock events reply .list)) h
+    by (Verdict.No r) = h
+call-lent (Call.Build clock events) n flash list h = by (buildVerdict n (length events))
+  where
+    by : (v : Verdict) → LentAfter (judged v n (lentEvents events) (buildEffect n clock) .turn .node) list
+    by Verdict.Fine = subst (λ (x : Relist). listingAfter x (n .listing) .entries ≤ recordsIn list) (sym (build-quiet n clock .list)) h
     by (Verdict.No r) = h
 call-lent (Call.Erase budget) n flash list h = by (eraseVerdict n (length flash))
   where
@@ -198,8 +206,9 @@ list-is : (e : Entry) (state flash list : List ℕ) → Below 256 list → Made 
     → listAfter entries e state flash list ≡ storeWords 2 (listOf logodwen (onWords e) (nodeIn state) (wordsOf 2 flash) (wordsOf 2 list)) list
 list-is (Entry.Start kind ports subdetector program version tests clock) state flash list b m = sym (bytes-kept 2 list b)
 list-is (Entry.Request clock link bc errors packet mem x reply) state flash list b m = ap (λ (a : Answered). a .runs .further .list) (m .does)
-list-is (Entry.Reply clock slave bc errors status address packet reply) state flash list b m = sym (bytes-kept 2 list b)
-list-is (Entry.Poll clock reply) state flash list b m = sym (bytes-kept 2 list b)
+list-is (Entry.Reply clock slave bc errors status address packet events reply) state flash list b m = sym (bytes-kept 2 list b)
+list-is (Entry.Poll clock events reply) state flash list b m = sym (bytes-kept 2 list b)
+list-is (Entry.Build clock events) state flash list b m = sym (bytes-kept 2 list b)
 list-is (Entry.Erase budget) state flash list b m = sym (bytes-kept 2 list b)
 list-is (Entry.Slow clock other) state flash list b m = ap (λ (a : Answered). a .runs .further .list) (m .does)
 
@@ -209,15 +218,16 @@ undone-list : (e : Entry) (state flash list : List ℕ) → isDone (numberAfter 
 undone-list (Entry.Start kind ports subdetector program version tests clock) state flash list h = refl
 undone-list (Entry.Request clock link bc errors packet m x reply) state flash list h =
     ap (λ (l : Lent). l .further .list)
-    (refused-exactly .request clock link bc errors packet state (lent flash m (further (x .area) list) reply) .1 (eqb-false _ 0 h) .lent)
-undone-list (Entry.Reply clock slave bc errors status address packet reply) state flash list h = refl
-undone-list (Entry.Poll clock reply) state flash list h = refl
+    (refused-exactly .request clock link bc errors packet state (lent flash m (further (x .area) list (x .events)) reply) .1 (eqb-false _ 0 h) .lent)
+undone-list (Entry.Reply clock slave bc errors status address packet events reply) state flash list h = refl
+undone-list (Entry.Poll clock events reply) state flash list h = refl
+undone-list (Entry.Build clock events) state flash list h = refl
 undone-list (Entry.Erase budget) state flash list h = refl
 undone-list (Entry.Slow clock other) state flash list h =
     ap (λ (l : Lent). l .further .list) (refused-exactly .slow clock state list .1 (eqb-false _ 0 h) .lent)
 
 -- a number is END's where the answer is END ..
-said-end : (number : ℕ) (a : Answer) → Says number a → eqb number endNumber ≡ isEnd a
+pub said-end : (number : ℕ) (a : Answer) → Says number a → eqb number endNumber ≡ isEnd a
 said-end number (Answer.Refused r) s = absurd s
 said-end number Answer.Started s = ne-eqb number endNumber (λ e. omega (arith, e, s .kind))
 said-end number (Answer.Reply r) s = by (eqb (r .bc) 3) (eqb (r .words) 0) refl refl
@@ -233,6 +243,9 @@ said-end number Answer.Waiting s = ne-eqb number endNumber (λ e. omega (arith, 
 said-end number (Answer.Erased count) s = ne-eqb number endNumber (λ e. omega (arith, e, s .kind))
 said-end number (Answer.Slow (Slow.Handed place)) s = ne-eqb number endNumber (λ e. omega (arith, e, s .kind))
 said-end number (Answer.Slow Slow.Nothing) s = ne-eqb number endNumber (λ e. omega (arith, e, s .kind))
+said-end number (Answer.AskEvent t) s = ne-eqb number endNumber (λ e. omega (arith, e, s .kind))
+said-end number Answer.NoEvent s = ne-eqb number endNumber (λ e. omega (arith, e, s .kind))
+said-end number (Answer.Built words) s = ne-eqb number endNumber (λ e. omega (arith, e, s .kind))
 
 -- .. and hands out what the answer does
 said-hands : (number : ℕ) (a : Answer) → Says number a → handsOut number ≡ handsOutWords a
@@ -245,6 +258,9 @@ said-hands number Answer.Waiting s = λ i. pick (eqb (s .done i) 0 && eqb (s .ki
 said-hands number (Answer.Erased count) s = λ i. pick (eqb (s .done i) 0 && eqb (s .kind i) 6) 1 0
 said-hands number (Answer.Slow (Slow.Handed place)) s = λ i. pick (eqb (s .done i) 0 && eqb (s .kind i) 6) 1 0
 said-hands number (Answer.Slow Slow.Nothing) s = λ i. pick (eqb (s .done i) 0 && eqb (s .kind i) 6) 1 0
+said-hands number (Answer.AskEvent t) s = λ i. pick (eqb (s .done i) 0 && eqb (s .kind i) 6) 1 0
+said-hands number Answer.NoEvent s = λ i. pick (eqb (s .done i) 0 && eqb (s .kind i) 6) 1 0
+said-hands number (Answer.Built words) s = λ i. pick (eqb (s .done i) 0 && eqb (s .kind i) 6) 1 0
 
 -- so the tally after an entry that is done is the call's
 tallied-is : (e : Entry) (state flash list : List ℕ) (t : Tally) → isDone (numberAfter entries (lending list e) state flash) ≡ true
@@ -263,8 +279,9 @@ tallied-is (Entry.Request clock link bc errors packet m x reply) state flash lis
     let listed : ℕ = pick (eqb (getD words 0 0) 0xFFFF) (listedTotal state list) (entryIn (wordsOf 2 list) (getD words 0 0) .repetitions) in
     λ i. tally (t .written + pick (isCommand 0x5C bc (wordsOf 2 packet) && ended i) (brings (countIn words) words) 0) (t .handed)
     (t .cleared + pick (isCommand 0x5B bc (wordsOf 2 packet) && (eqb (length words) 1 && ended i)) listed 0)
-tallied-is (Entry.Reply clock slave bc errors status address packet reply) state flash list t done = refl
-tallied-is (Entry.Poll clock reply) state flash list t done = refl
+tallied-is (Entry.Reply clock slave bc errors status address packet events reply) state flash list t done = refl
+tallied-is (Entry.Poll clock events reply) state flash list t done = refl
+tallied-is (Entry.Build clock events) state flash list t done = refl
 tallied-is (Entry.Erase budget) state flash list t done = refl
 tallied-is (Entry.Slow clock other) state flash list t done =
     let steps : Entry = Entry.Slow clock list in
@@ -292,8 +309,9 @@ undone-tally (Entry.Request clock link bc errors packet m x reply) number state 
     none-of true true x = refl
     none-of true false x = refl
     none-of false d x = refl
-undone-tally (Entry.Reply clock slave bc errors status address packet reply) number state list t h = refl
-undone-tally (Entry.Poll clock reply) number state list t h = refl
+undone-tally (Entry.Reply clock slave bc errors status address packet events reply) number state list t h = refl
+undone-tally (Entry.Poll clock events reply) number state list t h = refl
+undone-tally (Entry.Build clock events) number state list t h = refl
 undone-tally (Entry.Erase budget) number state list t h = refl
 undone-tally (Entry.Slow clock other) number state list t h =
     (λ i. tally (t .written) (t .handed + pick (h i && eqb (number / 256 % 256) 6) 1 0) (t .cleared)) ∙ (λ i. tally (t .written) (add-zero (t .handed) i) (t .cleared))

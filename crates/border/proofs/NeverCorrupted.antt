@@ -193,8 +193,8 @@ module _ (clock link bc errors : ℕ) (packet state flash : List ℕ) (m : Memor
   abbrev asks : Entry
   asks = Entry.Request clock link bc errors packet m x reply
 
-  fine : Made asks state flash → RequestFine state (length flash) (length (m .pm) / 4) (length (m .dm) / 2) (length (m .io) / 2) (length (x .area) / 2) (length (x .list) / 14) (length reply / 2)
-  fine made = request-fine link _ state _ _ _ _ _ _ _ (made .fine)
+  fine : Made asks state flash → RequestFine state (length flash) (length (m .pm) / 4) (length (m .dm) / 2) (length (m .io) / 2) (length (x .area) / 2) (length (x .list) / 14) (length (x .events) / 2) (length reply / 2)
+  fine made = request-fine link _ state _ _ _ _ _ _ _ _ (made .fine)
 
   -- nothing laid leaves the reply
   reply-stays : U8s reply → 12288 ≤ length reply / 2 → storeWords 2 (replyWords reply) reply ≡ reply
@@ -223,7 +223,7 @@ aborts clock link bc packet header state flash m x reply s c b p one whole free 
     made .does
     ∙ ap (λ (o : Outcome). told (inBytes o (lent flash m x reply))) does
     ∙ (λ i. answered abortNumber (fault-bytes state (f .bytes) i)
-    (lent (bytes-kept 2 flash b i) (memories-kept m (c .5) (c .6) (c .7) i) (further-kept x (c .8) (c .9) i) (reply-stays clock link bc 0 packet state flash m x reply (c .10) (f .buffer) i)))
+    (lent (bytes-kept 2 flash b i) (memories-kept m (c .5) (c .6) (c .7) i) (further-kept x (c .8) (c .9) (c .10) i) (reply-stays clock link bc 0 packet state flash m x reply (c .11) (f .buffer) i)))
 
 -- what Read hands out, in bytes
 hands-out : (clock link bc errors : ℕ) (header state flash : List ℕ) (m : Memories) (x : Further) (reply : List ℕ) (code words : ℕ)
@@ -272,6 +272,9 @@ hands-out clock link bc errors header state flash m x reply code words c b whole
     by done (Answer.Erased k) e q = absurd (omega (arith, n .kind, q .0 .kind))
     by done (Answer.Slow (Slow.Handed place)) e q = absurd (omega (arith, n .kind, q .0 .kind))
     by done (Answer.Slow Slow.Nothing) e q = absurd (omega (arith, n .kind, q .0 .kind))
+    by done (Answer.AskEvent s) e q = absurd (omega (arith, n .kind, q .0 .kind))
+    by done Answer.NoEvent e q = absurd (omega (arith, n .kind, q .0 .kind))
+    by done (Answer.Built k) e q = absurd (omega (arith, n .kind, q .0 .kind))
 
 -- an entry that is refused leaves the memories
 left-memories : (clock link bc errors : ℕ) (packet state flash : List ℕ) (m : Memories) (x : Further) (reply : List ℕ)
@@ -309,7 +312,7 @@ loads clock link bc errors header state flash m x reply c b whole h = by (isDone
               made .does
               ∙ ap (λ (o : Outcome). told (inBytes o (lent flash m x reply))) (did .is)
               ∙ (λ i. answered endNumber (encoded-decoded state (f .bytes) i)
-              (lent (bytes-kept 2 flash b i) (memoriesLeft (allStored (fileSegments (did .file)) (memoryWords m)) m) (further-kept x (c .8) (c .9) i) (reply-stays clock link bc errors (fileLoad header) state flash m x reply (c .10) (f .buffer) i)))
+              (lent (bytes-kept 2 flash b i) (memoriesLeft (allStored (fileSegments (did .file)) (memoryWords m)) m) (further-kept x (c .8) (c .9) (c .10) i) (reply-stays clock link bc errors (fileLoad header) state flash m x reply (c .11) (f .buffer) i)))
               ∙ ap (loaded state (lent flash m x reply)) (sym (file-is state flash (f .bytes) b (did .sector) (fileLoad header) header 0x462E (load-words header) (did .file) (did .names)));
         }
 

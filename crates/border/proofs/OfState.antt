@@ -35,9 +35,9 @@ below-packed (k ∷ ks) (x ∷ xs) i = below-append (digitsOf k x) (packed ks xs
 pub below-encoded : (n : Node) → Below 256 (encodeOf n)
 unfolding encodeOf
 below-encoded n =
-    below-append (packed sizes (numbersOf n)) (bytesOf 4 (n .masks) ++ (bytesOf 2 (n .directory) ++ tailBytes (n .writing) (n .pending) (n .listing))) (below-packed sizes (numbersOf n))
-    (below-append (bytesOf 4 (n .masks)) (bytesOf 2 (n .directory) ++ tailBytes (n .writing) (n .pending) (n .listing)) (below-bytes 4 (n .masks))
-    (below-append (bytesOf 2 (n .directory)) (tailBytes (n .writing) (n .pending) (n .listing)) (below-bytes 2 (n .directory)) (below-packed tailSizes (tailNumbers (standingOf (n .writing)) (waitOf (n .pending)) (n .listing)))))
+    below-append (packed sizes (numbersOf n)) (bytesOf 4 (n .masks) ++ (bytesOf 2 (n .directory) ++ tailBytes (n .writing) (n .pending) (n .listing) (n .events))) (below-packed sizes (numbersOf n))
+    (below-append (bytesOf 4 (n .masks)) (bytesOf 2 (n .directory) ++ tailBytes (n .writing) (n .pending) (n .listing) (n .events)) (below-bytes 4 (n .masks))
+    (below-append (bytesOf 2 (n .directory)) (tailBytes (n .writing) (n .pending) (n .listing) (n .events)) (below-bytes 2 (n .directory)) (below-packed tailSizes (tailNumbers (standingOf (n .writing)) (waitOf (n .pending)) (n .listing) (n .events)))))
 
 -- what is read has the size of its bytes
 
@@ -48,13 +48,15 @@ asked-below : (bytes : List ℕ) → Below 256 bytes → waitOf (pendingOf (wait
 asked-below bytes h =
     let P : Pending → Type 0 = λ p. waitOf p .at < 4294967296 in
     let at : numberAt 4 36 bytes < 4294967296 = number-below 4 36 bytes h in
-    pick-case P (eqb (numberAt 1 15 bytes) 1) (λ _. at) (λ _. pick-case P (eqb (numberAt 1 15 bytes) 2) (λ _. at) (λ _. omega arith))
+    pick-case P (eqb (numberAt 1 15 bytes) 1) (λ _. at) (λ _. pick-case P (eqb (numberAt 1 15 bytes) 2) (λ _. at)
+    (λ _. pick-case P (eqb (numberAt 1 15 bytes) 3) (λ _. at) (λ _. omega arith)))
 
 status-below : (bytes : List ℕ) → Below 256 bytes → waitOf (pendingOf (waitIn bytes)) .«rx_status» < 65536
 status-below bytes h =
     let P : Pending → Type 0 = λ p. waitOf p .«rx_status» < 65536 in
     pick-case P (eqb (numberAt 1 15 bytes) 1) (λ _. omega arith)
-    (λ _. pick-case P (eqb (numberAt 1 15 bytes) 2) (λ _. number-below 2 184 bytes h) (λ _. omega arith))
+    (λ _. pick-case P (eqb (numberAt 1 15 bytes) 2) (λ _. number-below 2 184 bytes h)
+    (λ _. pick-case P (eqb (numberAt 1 15 bytes) 3) (λ _. number-below 2 184 bytes h) (λ _. omega arith)))
 
 pub typed-in : (bytes : List ℕ) → Below 256 bytes → Typed (nodeIn bytes)
 unfolding nodeIn
@@ -71,6 +73,8 @@ typed-in bytes h =
       flash = number-below 2 12 bytes h;
       asked = asked-below bytes h;
       received = status-below bytes h;
+      number = number-below 2 192 bytes h;
+      errors = number-below 2 194 bytes h;
     }
 
 -- both ways

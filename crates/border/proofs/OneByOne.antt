@@ -63,6 +63,9 @@ on-is k f (Answer.Next slave) = refl
 on-is k f Answer.Waiting = refl
 on-is k f (Answer.Erased count) = refl
 on-is k f (Answer.Slow slow) = refl
+on-is k f (Answer.AskEvent slave) = refl
+on-is k f Answer.NoEvent = refl
+on-is k f (Answer.Built words) = refl
 
 -- words stored back leave a run as long as it was
 stored-long : (k : ℕ) (ws bytes : List ℕ) → length ws * k ≤ length bytes → length (storeWords k ws bytes) / k ≡ length bytes / k
@@ -155,6 +158,9 @@ module _ (clock : ℕ) (packets : List ℕ) (k : Kept) (p : Packet) where
     answer-after Answer.Waiting e q = absurd (false≢true q)
     answer-after (Answer.Erased count) e q = absurd (false≢true q)
     answer-after (Answer.Slow slow) e q = absurd (false≢true q)
+    answer-after (Answer.AskEvent slave) e q = absurd (false≢true q)
+    answer-after Answer.NoEvent e q = absurd (false≢true q)
+    answer-after (Answer.Built count) e q = absurd (false≢true q)
 
     step-after : stepIn clock packets k p .on ≡ true → inHost (stepIn clock packets k p .after) ≡ after (inHost k) entry
     unfolding stepIn
@@ -258,7 +264,7 @@ module _ (clock : ℕ) (packets state : List ℕ) (runs : Lent) where
 
       by : (v : Verdict) → checkOn (p .link) bytes state lends0 ≡ v → isReply (entered v state lends0 o .number) ≡ false
       by Verdict.Fine q =
-          let fine = request-fine (p .link) _ state _ _ _ _ _ _ _ q in
+          let fine = request-fine (p .link) _ state _ _ _ _ _ _ _ _ q in
           absurd (false≢true (sym h ∙ (λ i. fine .sized i && le-leb (length (runs .memories .pm) / 4) 8192 (fine .pm-short) i
           && le-leb (length (runs .memories .dm) / 2) 8192 (fine .dm-short) i && fine .bytes i)))
       by (Verdict.No r) q = refusal-none r

@@ -146,8 +146,9 @@ pub one-sector : OneSector entries
 one-sector (Entry.Start kind ports subdetector program version tests clock) state flash b = refl
 one-sector (Entry.Request clock link bc errors packet m x reply) state flash b =
     made-within (Entry.Request clock link bc errors packet m x reply) state flash b
-one-sector (Entry.Reply clock slave bc errors status address packet reply) state flash b = refl
-one-sector (Entry.Poll clock reply) state flash b = refl
+one-sector (Entry.Reply clock slave bc errors status address packet events reply) state flash b = refl
+one-sector (Entry.Poll clock events reply) state flash b = refl
+one-sector (Entry.Build clock events) state flash b = refl
 one-sector (Entry.Erase budget) state flash b = made-within (Entry.Erase budget) state flash b
 one-sector (Entry.Slow clock list) state flash b = refl
 
@@ -172,8 +173,9 @@ set-bytes : (e : Entry) (state flash : List ℕ) (i : ℕ) → SetWords (onWords
     → SetByErasing e state flash i
 set-bytes (Entry.Start kind ports subdetector program version tests clock) state flash i h = h
 set-bytes (Entry.Request clock link bc errors packet m x reply) state flash i h = h
-set-bytes (Entry.Reply clock slave bc errors status address packet reply) state flash i h = h
-set-bytes (Entry.Poll clock reply) state flash i h = h
+set-bytes (Entry.Reply clock slave bc errors status address packet events reply) state flash i h = h
+set-bytes (Entry.Poll clock events reply) state flash i h = h
+set-bytes (Entry.Build clock events) state flash i h = h
 set-bytes (Entry.Erase budget) state flash i h = step-bytes budget state flash i h
 set-bytes (Entry.Slow clock list) state flash i h = h
 

@@ -158,5 +158,5 @@ pub reads-back : ReadsBack entries
 reads-back state flash hosted clock link bc errors packet m x reply c file b even h =
     let st = hosted-stands hosted in
     let made = done-made (Entry.Request clock link bc errors packet m x reply) state flash (ap isDone h) in
-    let room = request-fine link _ state _ _ _ _ _ _ _ (made .fine) .room in
+    let room = request-fine link _ state _ _ _ _ _ _ _ _ (made .fine) .room in
     file-written state flash st clock link bc errors packet m x reply c file (brings-told state link bc packet x (c .4) (c .8) even (st .bytes) room file b) h

@@ -41,6 +41,7 @@ refusal-none Refusal.Unasked = refl
 refusal-none Refusal.AreaSize = refl
 refusal-none Refusal.ListSize = refl
 refusal-none Refusal.Overrun = refl
+refusal-none Refusal.EventsSize = refl
 
 number-replies : (a : Answer) → isReply (answerNumber a) ≡ repliesWith a
 number-replies (Answer.Refused r) = refusal-none r
@@ -52,6 +53,9 @@ number-replies Answer.Waiting = refl
 number-replies (Answer.Erased count) = ne-eqb (fields 0 0 0 count % 65536) 256 (λ e. omega arith)
 number-replies (Answer.Slow (Slow.Handed place)) = ne-eqb (fields 6 0 0 place % 65536) 256 (λ e. omega arith)
 number-replies (Answer.Slow Slow.Nothing) = refl
+number-replies (Answer.AskEvent s) = ne-eqb (fields 9 s 0 0 % 65536) 256 (λ e. omega arith)
+number-replies Answer.NoEvent = refl
+number-replies (Answer.Built words) = ne-eqb (fields 11 0 0 words % 65536) 256 (λ e. omega arith)
 
 -- and has the reply's BC and length
 

@@ -48,7 +48,7 @@ use Rattle.border.proofs.OfState.{state-bytes-exactly}
 use Rattle.border.proofs.Refused.{checkOn}
 use Rattle.border.proofs.Verdicts.{start-same, erase-same, request-same}
 use Rattle.border.proofs.Stands.{lends, areas}
-use Rattle.border.proofs.Delivered.{memories-kept, further-kept}
+use Rattle.border.proofs.Delivered.{memories-kept, further-kept, reply-back}
 
 -- reading one word: bytes of the same contents are read as the words
 
@@ -76,31 +76,18 @@ same-stored words bytes b e even =
     subst (λ (ws : List ℕ). SameContents ws (storeWords 2 words bytes)) (stored-words words bytes b count)
     (same-words (storeWords 2 words bytes) (omega arith))
 
--- the bytes of a reply buffer, its words stored back
-pub reply-back : (reply : List ℕ) → U8s reply → storeWords 2 (replyWords reply) reply ≡ reply
-reply-back reply b =
-    let front : List ℕ = take 24576 reply in
-    let rest : List ℕ = drop 24576 reply in
-    let new : List ℕ = bytesOf 2 (wordsOf 2 front) in
-    let split : front ++ rest ≡ reply = take-append-drop 24576 reply in
-    let count = length-words-of 2 front in
-    ap (λ (x : List ℕ). laid x 0 new) (sym split)
-    ∙ laid-append-left front rest 0 new (omega (arith, length-bytes 2 (wordsOf 2 front)))
-    ∙ ap (λ (x : List ℕ). x ++ rest) (bytes-kept 2 front (below-take 24576 reply b))
-    ∙ split
-
 -- bytes of a state pass the border's test
 passes : (state : List ℕ) → OfState state → areState state ≡ true
 passes state o = state-bytes-exactly .passes state .1 o
 
 -- start
 
-start-answers : (kind ports subdetector program version tests clock : ℕ) (flash state : List ℕ) → length flash % 2 ≡ 0 → length state ≡ 192
+start-answers : (kind ports subdetector program version tests clock : ℕ) (flash state : List ℕ) → length flash % 2 ≡ 0 → length state ≡ 208
     → Answers (startOf kind ports subdetector program version tests clock (wordsOf 2 flash)) state
     (startEntry kind ports subdetector program version tests clock flash state)
 unfolding startEntry startOf
 start-answers kind ports subdetector program version tests clock flash state even long =
-    subst (λ (v : Verdict). Answers (startBy v g words) state (entered check state (lentReply []) (outcome (startBy v g words) (lentReply []))))
+    subst (λ (v : Verdict). Answers (startBy v g words) state (entered check state (lentReply [] []) (outcome (startBy v g words) (lentReply [] []))))
     same (by check)
   where
     words : List ℕ
@@ -115,7 +102,7 @@ start-answers kind ports subdetector program version tests clock flash state eve
     same : check ≡ startVerdict kind ports subdetector (length words)
     same = start-same kind ports subdetector state flash long even
 
-    by : (v : Verdict) → Answers (startBy v g words) state (entered v state (lentReply []) (outcome (startBy v g words) (lentReply [])))
+    by : (v : Verdict) → Answers (startBy v g words) state (entered v state (lentReply [] []) (outcome (startBy v g words) (lentReply [] [])))
     by Verdict.Fine = record { number = refl; state = refl }
     by (Verdict.No r) = record { number = refl; state = refl }
 
@@ -155,8 +142,8 @@ module _ (clock link bc errors : ℕ) (packet flash state : List ℕ) (m : Memor
     record {
       flash = same-words flash even;
       memories = sym (memories-kept m (c .5) (c .6) (c .7));
-      further = sym (further-kept x (c .8) (c .9));
-      reply = sym (reply-back reply (c .10));
+      further = sym (further-kept x (c .8) (c .9) (c .10));
+      reply = sym (reply-back reply (c .11));
     },
   )
 
@@ -247,6 +234,9 @@ if-words (Answer.Next slave) f g k e = refl
 if-words Answer.Waiting f g k e = refl
 if-words (Answer.Erased count) f g k e = refl
 if-words (Answer.Slow slow) f g k e = refl
+if-words (Answer.AskEvent slave) f g k e = refl
+if-words Answer.NoEvent f g k e = refl
+if-words (Answer.Built words) f g k e = refl
 
 pick-words : (t : Bool) (x y : Row) → pick t (rowWords x) (rowWords y) ≡ rowWords (pick t x y)
 pick-words true x y = refl

@@ -8,10 +8,11 @@ pub entries-settled : EntriesSettled
 entries-settled =
     record {
       start = λ κs given x y v w p q. (ap (λ (a : Answered). a .number) (p ∙ sym q), λ i. (v .0, (v .1 .0, (v .1 .1 .0, (v .1 .1 .1 .0, (v .1 .1 .1 .1 .0, (v .1 .1 .1 .1 .1 .0, (v .1 .1 .1 .1 .1 .1 .0, (v .1 .1 .1 .1 .1 .1 .1 .0, ((p ∙ sym q) i .state, v .1 .1 .1 .1 .1 .1 .1 .1 .1))))))))));
-      request = λ κs given x y v w p q. (ap (λ (a : Answered). a .number) (p ∙ sym q), λ i. (v .0, (v .1 .0, (v .1 .1 .0, (v .1 .1 .1 .0, (v .1 .1 .1 .1 .0, ((p ∙ sym q) i .state, ((p ∙ sym q) i .runs .flash, ((p ∙ sym q) i .runs .memories .pm, ((p ∙ sym q) i .runs .memories .dm, ((p ∙ sym q) i .runs .memories .io, ((p ∙ sym q) i .runs .further .area, ((p ∙ sym q) i .runs .further .list, ((p ∙ sym q) i .runs .reply, v .1 .1 .1 .1 .1 .1 .1 .1 .1 .1 .1 .1 .1))))))))))))));
-      requests = λ κs given x y v w p q. (ap (λ (a : Answered). a .number) (p ∙ sym q), λ i. (v .0, (v .1 .0, ((p ∙ sym q) i .state, ((p ∙ sym q) i .runs .flash, ((p ∙ sym q) i .runs .memories .pm, ((p ∙ sym q) i .runs .memories .dm, ((p ∙ sym q) i .runs .memories .io, ((p ∙ sym q) i .runs .further .area, ((p ∙ sym q) i .runs .further .list, ((p ∙ sym q) i .runs .reply, v .1 .1 .1 .1 .1 .1 .1 .1 .1 .1)))))))))));
-      reply = λ κs given x y v w p q. (ap (λ (a : Answered). a .number) (p ∙ sym q), λ i. (v .0, (v .1 .0, (v .1 .1 .0, (v .1 .1 .1 .0, (v .1 .1 .1 .1 .0, (v .1 .1 .1 .1 .1 .0, (v .1 .1 .1 .1 .1 .1 .0, ((p ∙ sym q) i .state, ((p ∙ sym q) i .runs .reply, v .1 .1 .1 .1 .1 .1 .1 .1 .1))))))))));
-      poll = λ κs given x y v w p q. (ap (λ (a : Answered). a .number) (p ∙ sym q), λ i. (v .0, ((p ∙ sym q) i .state, ((p ∙ sym q) i .runs .reply, v .1 .1 .1))));
+      request = λ κs given x y v w p q. (ap (λ (a : Answered). a .number) (p ∙ sym q), λ i. (v .0, (v .1 .0, (v .1 .1 .0, (v .1 .1 .1 .0, (v .1 .1 .1 .1 .0, ((p ∙ sym q) i .state, ((p ∙ sym q) i .runs .flash, ((p ∙ sym q) i .runs .memories .pm, ((p ∙ sym q) i .runs .memories .dm, ((p ∙ sym q) i .runs .memories .io, ((p ∙ sym q) i .runs .further .area, ((p ∙ sym q) i .runs .further .list, (v .1 .1 .1 .1 .1 .1 .1 .1 .1 .1 .1 .1 .0, ((p ∙ sym q) i .runs .reply, v .1 .1 .1 .1 .1 .1 .1 .1 .1 .1 .1 .1 .1 .1)))))))))))))));
+      requests = λ κs given x y v w p q. (ap (λ (a : Answered). a .number) (p ∙ sym q), λ i. (v .0, (v .1 .0, ((p ∙ sym q) i .state, ((p ∙ sym q) i .runs .flash, ((p ∙ sym q) i .runs .memories .pm, ((p ∙ sym q) i .runs .memories .dm, ((p ∙ sym q) i .runs .memories .io, ((p ∙ sym q) i .runs .further .area, ((p ∙ sym q) i .runs .further .list, (v .1 .1 .1 .1 .1 .1 .1 .1 .1 .0, ((p ∙ sym q) i .runs .reply, v .1 .1 .1 .1 .1 .1 .1 .1 .1 .1 .1))))))))))));
+      reply = λ κs given x y v w p q. (ap (λ (a : Answered). a .number) (p ∙ sym q), λ i. (v .0, (v .1 .0, (v .1 .1 .0, (v .1 .1 .1 .0, (v .1 .1 .1 .1 .0, (v .1 .1 .1 .1 .1 .0, (v .1 .1 .1 .1 .1 .1 .0, ((p ∙ sym q) i .state, ((p ∙ sym q) i .runs .further .events, ((p ∙ sym q) i .runs .reply, v .1 .1 .1 .1 .1 .1 .1 .1 .1 .1)))))))))));
+      poll = λ κs given x y v w p q. (ap (λ (a : Answered). a .number) (p ∙ sym q), λ i. (v .0, ((p ∙ sym q) i .state, ((p ∙ sym q) i .runs .further .events, ((p ∙ sym q) i .runs .reply, v .1 .1 .1 .1)))));
+      build = λ κs given x y v w p q. (ap (λ (a : Answered). a .number) (p ∙ sym q), λ i. (v .0, ((p ∙ sym q) i .state, (v .1 .1 .0, v .1 .1 .1))));
       fcs = λ κs given x y v w p q. (p ∙ sym q, refl);
       capture = λ κs given x y v w p q. (p ∙ sym q, refl);
       erase = λ κs given x y v w p q. (ap (λ (a : Answered). a .number) (p ∙ sym q), λ i. (v .0, ((p ∙ sym q) i .state, ((p ∙ sym q) i .runs .flash, v .1 .1 .1))));

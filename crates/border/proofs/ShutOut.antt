@@ -59,11 +59,11 @@ refuses number c = let w = c .writes in let r = c .reads in omega arith
 first : (E : Entries) → started E ≡ started entries → Hosted E fresh blank
 first E e =
     subst (λ (x : List ℕ). Hosted E x blank) (ap (λ (a : Answered). a .state) e ∙ closed-run .begun)
-    (Hosted.First 2 4 0 0 0 0 0 (zeros 192) blank starts-in blank-bytes (ap (λ (a : Answered). a .number) e ∙ closed-run .begins))
+    (Hosted.First 2 4 0 0 0 0 0 (zeros 208) blank starts-in blank-bytes (ap (λ (a : Answered). a .number) e ∙ closed-run .begins))
 
 write-in : InC (sends (fileWrite file))
 unfolding allBelow
-write-in = (omega arith, omega arith, omega arith, omega arith, tested (fileWrite file) refl, none, none, none, tested (zeros 65536) refl, none, tested (zeros 24576) refl)
+write-in = (omega arith, omega arith, omega arith, omega arith, tested (fileWrite file) refl, none, none, none, tested (zeros 65536) refl, none, tested (zeros 24576) refl, tested (zeros 24576) refl)
 
 -- what scans at start only has an empty sector in its directory where the file now stands
 
@@ -129,11 +129,11 @@ erases-all says h =
 
 nothing-in : InC (sends (fileWrite []))
 unfolding allBelow
-nothing-in = (omega arith, omega arith, omega arith, omega arith, tested (fileWrite []) refl, none, none, none, tested (zeros 65536) refl, none, tested (zeros 24576) refl)
+nothing-in = (omega arith, omega arith, omega arith, omega arith, tested (fileWrite []) refl, none, none, none, tested (zeros 65536) refl, none, tested (zeros 24576) refl, tested (zeros 24576) refl)
 
 stores-nothing : ReadsBack lying → ⊥
 unfolding wordsOf wordsIn valueOf headerOk fileEnd
-stores-nothing w = no-file (w fresh blank (first lying refl) 0 0 3 0 (fileWrite []) (memories [] [] []) (further (zeros 65536) []) (zeros 24576) nothing-in [] (Brings.Whole [] refl refl) refl refl .valid)
+stores-nothing w = no-file (w fresh blank (first lying refl) 0 0 3 0 (fileWrite []) (memories [] [] []) (further (zeros 65536) [] (zeros 24576)) (zeros 24576) nothing-in [] (Brings.Whole [] refl refl) refl refl .valid)
   where
     no-file : End.Invalid ≡ End.At 0 → ⊥
     no-file e = let z : _≡_ {A = ℕ} 0 1 = cc in omega arith
@@ -145,7 +145,7 @@ modeRead = 0x2E ∷ 0x12 ∷ []
 
 mode-in : InC (sends modeRead)
 unfolding allBelow modeRead
-mode-in = (omega arith, omega arith, omega arith, omega arith, tested modeRead refl, none, none, none, tested (zeros 65536) refl, none, tested (zeros 24576) refl)
+mode-in = (omega arith, omega arith, omega arith, omega arith, tested modeRead refl, none, none, none, tested (zeros 65536) refl, none, tested (zeros 24576) refl, tested (zeros 24576) refl)
 
 erases-unasked : ErasureFollows rogue → ⊥
 unfolding modeRead laid wordsOf wordsIn valueOf

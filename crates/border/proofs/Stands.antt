@@ -75,24 +75,27 @@ reached-stands n words state flash r s b e w f k =
 pub lends : (e : Entry) → InC e → Lends16 (onWords e)
 lends (Entry.Start kind ports subdetector program version tests clock) c = tt
 lends (Entry.Request clock link bc errors packet m x reply) c = words-of-below packet (c .4)
-lends (Entry.Reply clock slave bc errors status address packet reply) c = tt
-lends (Entry.Poll clock reply) c = tt
+lends (Entry.Reply clock slave bc errors status address packet events reply) c = tt
+lends (Entry.Poll clock events reply) c = tt
+lends (Entry.Build clock events) c = tt
 lends (Entry.Erase budget) c = tt
 lends (Entry.Slow clock list) c = tt
 
 pub areas : (e : Entry) → InC e → Areas16 (onWords e)
 areas (Entry.Start kind ports subdetector program version tests clock) c = tt
 areas (Entry.Request clock link bc errors packet m x reply) c = words-of-below (x .area) (c .8)
-areas (Entry.Reply clock slave bc errors status address packet reply) c = tt
-areas (Entry.Poll clock reply) c = tt
+areas (Entry.Reply clock slave bc errors status address packet events reply) c = tt
+areas (Entry.Poll clock events reply) c = tt
+areas (Entry.Build clock events) c = tt
 areas (Entry.Erase budget) c = tt
 areas (Entry.Slow clock list) c = tt
 
 clocked : (e : Entry) → InC e → Clocked (onWords e)
 clocked (Entry.Start kind ports subdetector program version tests clock) c = (c .3, c .4, c .5, c .6)
 clocked (Entry.Request clock link bc errors packet m x reply) c = c .0
-clocked (Entry.Reply clock slave bc errors status address packet reply) c = (c .0, c .4)
-clocked (Entry.Poll clock reply) c = c .0
+clocked (Entry.Reply clock slave bc errors status address packet events reply) c = (c .0, c .4)
+clocked (Entry.Poll clock events reply) c = c .0
+clocked (Entry.Build clock events) c = c .0
 clocked (Entry.Erase budget) c = tt
 clocked (Entry.Slow clock list) c = tt
 

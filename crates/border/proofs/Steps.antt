@@ -9,7 +9,7 @@ use Rattle.base.specs.Words.{Below}
 use Rattle.base.proofs.Pick.{no}
 use Rattle.node.specs.State.{refusalNumber}
 use Rattle.node.specs.Effect.{Lent, lent, Outcome, outcome}
-use Rattle.node.specs.Calls.{lentReply, lentFlash, lentList, given, startBy, startOf, requestOf, replyOf, pollOf, eraseOf, slowOf}
+use Rattle.node.specs.Calls.{lentReply, lentEvents, lentFlash, lentList, given, startBy, startOf, requestOf, replyOf, pollOf, buildOf, eraseOf, slowOf}
 use Rattle.node.specs.declared.Answer.{Answer}
 use Rattle.node.specs.declared.Refusal.{Refusal}
 use Rattle.node.specs.declared.Verdict.{Verdict}
@@ -18,9 +18,9 @@ use Rattle.demands.specs.Reached.{stateAfter as nodeAfter}
 use Rattle.codec.specs.Bytes.{wordsOf, storeWords}
 use Rattle.codec.specs.StateBytes.{encodeOf, nodeIn}
 use Rattle.logodwen.specs.Number.{answerNumber}
-use Rattle.logodwen.specs.Causes.{requestCheck, replyCheck, pollCheck, eraseCheck, slowCheck, startCheck}
+use Rattle.logodwen.specs.Causes.{requestCheck, replyCheck, pollCheck, buildCheck, eraseCheck, slowCheck, startCheck}
 use Rattle.touch.specs.InBytes.{inBytes, replyWords, runWords}
-use Rattle.logodwen.specs.Entry.{Answered, answered, told, entered, isSet, startEntry, requestEntry, replyEntry, pollEntry, eraseEntry, slowEntry}
+use Rattle.logodwen.specs.Entry.{Answered, answered, told, entered, isSet, startEntry, requestEntry, replyEntry, pollEntry, buildEntry, eraseEntry, slowEntry}
 use Rattle.codec.proofs.ThereAndBack.{bytes-kept}
 use Rattle.border.specs.Exactly.{entries}
 use Rattle.border.specs.Host.{Entry, answerOf, numberAfter, stateAfter, flashLeft, flashAfter, onWords, isDone}
@@ -35,39 +35,43 @@ checkOf (Entry.Start kind ports subdetector program version tests clock) state f
     startCheck kind ports subdetector state (length flash)
 checkOf (Entry.Request clock link bc errors packet m x reply) state flash =
     requestCheck link (length packet / 2) state (length flash) (length (m .pm) / 4) (length (m .dm) / 2) (length (m .io) / 2)
-    (length (x .area) / 2) (length (x .list) / 14) (length reply / 2)
-checkOf (Entry.Reply clock slave bc errors status address packet reply) state flash =
-    replyCheck slave (length packet / 2) state (length reply / 2)
-checkOf (Entry.Poll clock reply) state flash = pollCheck state (length reply / 2)
+    (length (x .area) / 2) (length (x .list) / 14) (length (x .events) / 2) (length reply / 2)
+checkOf (Entry.Reply clock slave bc errors status address packet events reply) state flash =
+    replyCheck slave (length packet / 2) state (length events / 2) (length reply / 2)
+checkOf (Entry.Poll clock events reply) state flash = pollCheck state (length events / 2) (length reply / 2)
+checkOf (Entry.Build clock events) state flash = buildCheck state (length events / 2)
 checkOf (Entry.Erase budget) state flash = eraseCheck state (length flash)
 checkOf (Entry.Slow clock list) state flash = slowCheck state (length list / 14)
 
 abbrev pub runsOf : Entry → List ℕ → Lent
-runsOf (Entry.Start kind ports subdetector program version tests clock) flash = lentReply []
+runsOf (Entry.Start kind ports subdetector program version tests clock) flash = lentReply [] []
 runsOf (Entry.Request clock link bc errors packet m x reply) flash = lent flash m x reply
-runsOf (Entry.Reply clock slave bc errors status address packet reply) flash = lentReply reply
-runsOf (Entry.Poll clock reply) flash = lentReply reply
+runsOf (Entry.Reply clock slave bc errors status address packet events reply) flash = lentReply events reply
+runsOf (Entry.Poll clock events reply) flash = lentReply events reply
+runsOf (Entry.Build clock events) flash = lentEvents events
 runsOf (Entry.Erase budget) flash = lentFlash flash
 runsOf (Entry.Slow clock list) flash = lentList list
 
 abbrev pub outcomeOf : Entry → List ℕ → List ℕ → Outcome
 outcomeOf (Entry.Start kind ports subdetector program version tests clock) state flash =
-    outcome (startOf kind ports subdetector program version tests clock (wordsOf 2 flash)) (lentReply [])
+    outcome (startOf kind ports subdetector program version tests clock (wordsOf 2 flash)) (lentReply [] [])
 outcomeOf (Entry.Request clock link bc errors packet m x reply) state flash =
     requestOf (nodeIn state) clock link bc (isSet errors) (wordsOf 2 packet) (runWords (lent flash m x reply))
-outcomeOf (Entry.Reply clock slave bc errors status address packet reply) state flash =
-    replyOf (nodeIn state) clock slave bc (isSet errors) status address (wordsOf 2 packet) (replyWords reply)
-outcomeOf (Entry.Poll clock reply) state flash = pollOf (nodeIn state) clock (replyWords reply)
+outcomeOf (Entry.Reply clock slave bc errors status address packet events reply) state flash =
+    replyOf (nodeIn state) clock slave bc (isSet errors) status address (wordsOf 2 packet) (replyWords events) (replyWords reply)
+outcomeOf (Entry.Poll clock events reply) state flash = pollOf (nodeIn state) clock (replyWords events) (replyWords reply)
+outcomeOf (Entry.Build clock events) state flash = buildOf (nodeIn state) clock (replyWords events)
 outcomeOf (Entry.Erase budget) state flash = eraseOf (nodeIn state) budget (wordsOf 2 flash)
 outcomeOf (Entry.Slow clock list) state flash = slowOf (nodeIn state) clock (wordsOf 2 list)
 
 entry-is : (e : Entry) (state flash : List ℕ)
     → answerOf entries e state flash ≡ entered (checkOf e state flash) state (runsOf e flash) (outcomeOf e state flash)
-unfolding startEntry requestEntry replyEntry pollEntry eraseEntry slowEntry
+unfolding startEntry requestEntry replyEntry pollEntry buildEntry eraseEntry slowEntry
 entry-is (Entry.Start kind ports subdetector program version tests clock) state flash = refl
 entry-is (Entry.Request clock link bc errors packet m x reply) state flash = refl
-entry-is (Entry.Reply clock slave bc errors status address packet reply) state flash = refl
-entry-is (Entry.Poll clock reply) state flash = refl
+entry-is (Entry.Reply clock slave bc errors status address packet events reply) state flash = refl
+entry-is (Entry.Poll clock events reply) state flash = refl
+entry-is (Entry.Build clock events) state flash = refl
 entry-is (Entry.Erase budget) state flash = refl
 entry-is (Entry.Slow clock list) state flash = refl
 
@@ -75,8 +79,9 @@ entry-is (Entry.Slow clock list) state flash = refl
 answer-is : (e : Entry) (state flash : List ℕ) → outcomeOf e state flash .turn .answer ≡ answerIn e state flash
 answer-is (Entry.Start kind ports subdetector program version tests clock) state flash = refl
 answer-is (Entry.Request clock link bc errors packet m x reply) state flash = refl
-answer-is (Entry.Reply clock slave bc errors status address packet reply) state flash = refl
-answer-is (Entry.Poll clock reply) state flash = refl
+answer-is (Entry.Reply clock slave bc errors status address packet events reply) state flash = refl
+answer-is (Entry.Poll clock events reply) state flash = refl
+answer-is (Entry.Build clock events) state flash = refl
 answer-is (Entry.Erase budget) state flash = refl
 answer-is (Entry.Slow clock list) state flash = refl
 
@@ -100,8 +105,9 @@ node-is : (e : Entry) (state flash : List ℕ) → checkOf e state flash ≡ Ver
 node-is (Entry.Start kind ports subdetector program version tests clock) state flash h =
     no _ (start-taken kind ports subdetector program version tests clock state flash h) refl
 node-is (Entry.Request clock link bc errors packet m x reply) state flash h = refl
-node-is (Entry.Reply clock slave bc errors status address packet reply) state flash h = refl
-node-is (Entry.Poll clock reply) state flash h = refl
+node-is (Entry.Reply clock slave bc errors status address packet events reply) state flash h = refl
+node-is (Entry.Poll clock events reply) state flash h = refl
+node-is (Entry.Build clock events) state flash h = refl
 node-is (Entry.Erase budget) state flash h = refl
 node-is (Entry.Slow clock list) state flash h = refl
 
@@ -111,16 +117,18 @@ flash-is : (e : Entry) (state flash : List ℕ) → Below 256 flash
     ≡ storeWords 2 (flashOf logodwen (onWords e) (nodeIn state) (wordsOf 2 flash)) flash
 flash-is (Entry.Start kind ports subdetector program version tests clock) state flash b = sym (bytes-kept 2 flash b)
 flash-is (Entry.Request clock link bc errors packet m x reply) state flash b = refl
-flash-is (Entry.Reply clock slave bc errors status address packet reply) state flash b = sym (bytes-kept 2 flash b)
-flash-is (Entry.Poll clock reply) state flash b = sym (bytes-kept 2 flash b)
+flash-is (Entry.Reply clock slave bc errors status address packet events reply) state flash b = sym (bytes-kept 2 flash b)
+flash-is (Entry.Poll clock events reply) state flash b = sym (bytes-kept 2 flash b)
+flash-is (Entry.Build clock events) state flash b = sym (bytes-kept 2 flash b)
 flash-is (Entry.Erase budget) state flash b = refl
 flash-is (Entry.Slow clock list) state flash b = sym (bytes-kept 2 flash b)
 
 flash-left : (e : Entry) (number : ℕ) (state flash : List ℕ) → flashLeft e (answered number state (runsOf e flash)) flash ≡ flash
 flash-left (Entry.Start kind ports subdetector program version tests clock) number state flash = refl
 flash-left (Entry.Request clock link bc errors packet m x reply) number state flash = refl
-flash-left (Entry.Reply clock slave bc errors status address packet reply) number state flash = refl
-flash-left (Entry.Poll clock reply) number state flash = refl
+flash-left (Entry.Reply clock slave bc errors status address packet events reply) number state flash = refl
+flash-left (Entry.Poll clock events reply) number state flash = refl
+flash-left (Entry.Build clock events) number state flash = refl
 flash-left (Entry.Erase budget) number state flash = refl
 flash-left (Entry.Slow clock list) number state flash = refl
 
@@ -181,6 +189,7 @@ refusal-undone Refusal.Unasked = refl
 refusal-undone Refusal.AreaSize = refl
 refusal-undone Refusal.ListSize = refl
 refusal-undone Refusal.Overrun = refl
+refusal-undone Refusal.EventsSize = refl
 
 pub done-taken : (a : Answer) → isDone (answerNumber a) ≡ true → isRefused a ≡ false
 done-taken (Answer.Refused r) h = absurd (false≢true (sym (refusal-undone r) ∙ h))
@@ -191,6 +200,9 @@ done-taken (Answer.Next s) h = refl
 done-taken Answer.Waiting h = refl
 done-taken (Answer.Erased count) h = refl
 done-taken (Answer.Slow s) h = refl
+done-taken (Answer.AskEvent s) h = refl
+done-taken Answer.NoEvent h = refl
+done-taken (Answer.Built words) h = refl
 
 -- an entry that is done makes the node's call
 pub done-made : (e : Entry) (state flash : List ℕ) → isDone (numberAfter entries e state flash) ≡ true → Made e state flash
@@ -211,9 +223,10 @@ undone-left (Entry.Start kind ports subdetector program version tests clock) sta
     refused-exactly .start kind ports subdetector program version tests clock flash state .1 (undone _ h) .bytes
 undone-left (Entry.Request clock link bc errors packet m x reply) state flash h =
     refused-exactly .request clock link bc errors packet state (lent flash m x reply) .1 (undone _ h) .bytes
-undone-left (Entry.Reply clock slave bc errors status address packet reply) state flash h =
-    refused-exactly .reply clock slave bc errors status address packet state reply .1 (undone _ h) .bytes
-undone-left (Entry.Poll clock reply) state flash h = refused-exactly .poll clock state reply .1 (undone _ h) .bytes
+undone-left (Entry.Reply clock slave bc errors status address packet events reply) state flash h =
+    refused-exactly .reply clock slave bc errors status address packet state events reply .1 (undone _ h) .bytes
+undone-left (Entry.Poll clock events reply) state flash h = refused-exactly .poll clock state events reply .1 (undone _ h) .bytes
+undone-left (Entry.Build clock events) state flash h = refused-exactly .build clock state events .1 (undone _ h) .bytes
 undone-left (Entry.Erase budget) state flash h = refused-exactly .erase budget state flash .1 (undone _ h) .bytes
 undone-left (Entry.Slow clock list) state flash h = refused-exactly .slow clock state list .1 (undone _ h) .bytes
 
@@ -222,7 +235,8 @@ pub undone-flash : (e : Entry) (state flash : List ℕ) → isDone (numberAfter 
 undone-flash (Entry.Start kind ports subdetector program version tests clock) state flash h = refl
 undone-flash (Entry.Request clock link bc errors packet m x reply) state flash h =
     ap (λ (l : Lent). l .flash) (refused-exactly .request clock link bc errors packet state (lent flash m x reply) .1 (undone _ h) .lent)
-undone-flash (Entry.Reply clock slave bc errors status address packet reply) state flash h = refl
-undone-flash (Entry.Poll clock reply) state flash h = refl
+undone-flash (Entry.Reply clock slave bc errors status address packet events reply) state flash h = refl
+undone-flash (Entry.Poll clock events reply) state flash h = refl
+undone-flash (Entry.Build clock events) state flash h = refl
 undone-flash (Entry.Erase budget) state flash h = ap (λ (l : Lent). l .flash) (refused-exactly .erase budget state flash .1 (undone _ h) .lent)
 undone-flash (Entry.Slow clock list) state flash h = refl

@@ -51,9 +51,9 @@ half n a even = by (eqb n (a * 2)) refl
 bytes-same : (bytes : ℕ) → bytes % 2 ≡ 0 → bytesOk bytes ≡ sizeOk (bytes / 2)
 bytes-same bytes even i = half bytes 32768 even i || half bytes 262144 even i
 
--- what is read off 192 state bytes
-long-so : (state : List ℕ) (t : Bool) → length state ≡ 192 → pick (eqb (length state) 192) t true ≡ t
-long-so state t h i = pick (eq-eqb (length state) 192 h i) t true
+-- what is read off 208 state bytes
+long-so : (state : List ℕ) (t : Bool) → length state ≡ 208 → pick (eqb (length state) 208) t true ≡ t
+long-so state t h i = pick (eq-eqb (length state) 208 h i) t true
 
 reply-same : (reply : List ℕ) → ltb (length reply / 2) 12288 ≡ ltb (length (replyWords reply)) 12288
 reply-same reply = by (ltb (length reply / 2) 12288) refl
@@ -67,7 +67,7 @@ reply-same reply = by (ltb (length reply / 2) 12288) refl
 
 -- start
 
-pub start-same : (kind ports subdetector : ℕ) (state flash : List ℕ) → length state ≡ 192 → length flash % 2 ≡ 0
+pub start-same : (kind ports subdetector : ℕ) (state flash : List ℕ) → length state ≡ 208 → length flash % 2 ≡ 0
     → startCheck kind ports subdetector state (length flash) ≡ startVerdict kind ports subdetector (length (wordsOf 2 flash))
 unfolding startCheck startVerdict
 start-same kind ports subdetector state flash long even =
@@ -75,7 +75,7 @@ start-same kind ports subdetector state flash long even =
     λ i.
     firstOf
     (cause Refusal.FlashSize (not (size i)) ∷ cause Refusal.Number (not (portsOk ports) || not (kindOk kind) || ltb 7 subdetector)
-    ∷ cause Refusal.State (not (eq-eqb (length state) 192 long i)) ∷ [])
+    ∷ cause Refusal.State (not (eq-eqb (length state) 208 long i)) ∷ [])
 
 -- erase progress, and a request
 
@@ -126,5 +126,5 @@ module _ (state : List ℕ) (h : areState state ≡ true) where
       (cause Refusal.FlashSize (size-same (runs .flash) even i) ∷ cause Refusal.ReplySize (reply-same (runs .reply) i) ∷ cause Refusal.MemorySize (memory i)
       ∷ cause Refusal.AreaSize (ltb (sym area i) 32768)
       ∷ cause Refusal.ListSize (ltb 910 (sym list i) || (records-same (length (runs .further .list) / 14) ∙ ap (λ (k : ℕ). ltb k (nodeIn state .listing .entries)) (sym list)) i)
-      ∷ cause Refusal.Number (port-same link i) ∷ cause Refusal.State (state-same i)
+      ∷ cause Refusal.EventsSize (reply-same (runs .further .events) i) ∷ cause Refusal.Number (port-same link i) ∷ cause Refusal.State (state-same i)
       ∷ cause Refusal.Busy (isPending (nodeIn state .pending) && leb 1 (sym (length-words-of 2 packet) i)) ∷ [])

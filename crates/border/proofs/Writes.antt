@@ -29,7 +29,7 @@ use Rattle.border.proofs.ReadsBack.{name-words}
 pub writes : Writes entries
 writes state flash hosted quiet clock link bc packet m x reply c file b free done some few even valid unused s t =
     let st = hosted-stands hosted in
-    let fine = request-fine link _ state _ _ _ _ _ _ _ (done-made (Entry.Request clock link bc 0 packet m x reply) state flash done .fine) in
+    let fine = request-fine link _ state _ _ _ _ _ _ _ _ (done-made (Entry.Request clock link bc 0 packet m x reply) state flash done .fine) in
     let k = brings-told state link bc packet x (c .4) (c .8) even (st .bytes) (fine .room) file b in
     let sent : List ℕ = brought (nodeIn state) bc (wordsOf 2 packet) (furtherWords x) in
     let count : length file ≡ length sent * 2 = omega (arith, ap length (k .is), length-words-of 2 file, k .even) in

@@ -30,7 +30,7 @@ pub record InBits (number k w f n : ℕ) : Type 0 where
 
 -- The answer that a number says: a reply's BC and length; the slave to ask, and the word from which the request is sent on; the slave to send
 -- NEXT to (02, request 8); waiting; the words that an erase step set; the place of the entry that a slow-control step hands out, or that it hands
--- out none (02, request 7). A start says 0, and a refusal is not done.
+-- out none (02, request 7); the slave to ask for its event, that there is none to build, and an event's length (02, request 12). A start says 0, and a refusal is not done.
 abbrev pub Says : ℕ → Answer → Type 0
 Says number (Answer.Refused r) = ⊥
 Says number Answer.Started = InBits number 0 0 0 0
@@ -41,8 +41,11 @@ Says number Answer.Waiting = InBits number 3 0 0 0
 Says number (Answer.Erased count) = InBits number 0 0 0 count
 Says number (Answer.Slow (Slow.Handed place)) = InBits number 6 0 0 place
 Says number (Answer.Slow Slow.Nothing) = InBits number 7 0 0 0
+Says number (Answer.AskEvent s) = InBits number 9 s 0 0
+Says number Answer.NoEvent = InBits number 10 0 0 0
+Says number (Answer.Built words) = InBits number 11 0 0 words
 
--- How large they can be: BC is two bits, a reply has at most 12,288 words, a slave is at most 23, one or two words are stripped, an
+-- How large they can be: BC is two bits, a reply or an event has at most 12,288 words, a slave is at most 23, one or two words are stripped, an
 -- erase step sets at most a sector, which at full size has up to 32,768 words (02, request 11), and the place of an entry is below 910.
 abbrev pub Bounds : Answer → Type 0
 Bounds (Answer.Refused r) = ⊥
@@ -54,6 +57,9 @@ Bounds Answer.Waiting = Unit {0}
 Bounds (Answer.Erased count) = count ≤ 32768
 Bounds (Answer.Slow (Slow.Handed place)) = place < 910
 Bounds (Answer.Slow Slow.Nothing) = Unit {0}
+Bounds (Answer.AskEvent s) = s ≤ 23
+Bounds Answer.NoEvent = Unit {0}
+Bounds (Answer.Built words) = words ≤ 12288
 
 -- The node's answer to the call that an entry is.
 abbrev pub answerIn : Entry → List ℕ → List ℕ → Answer

@@ -33,12 +33,12 @@ abbrev pub empty : ℕ → List ℕ
 empty address = entry 0xFF 0xFF address 0
 
 -- The state bytes, by the entry of sector 3: kind 2, 4 ports, 32,768 words of flash, mask 0 full and the others 0, the
--- directory, no write standing and nothing listed.
+-- directory, no write standing, nothing listed and no event.
 abbrev pub stateWith : List ℕ → List ℕ
 stateWith third =
     2 ∷ 4
     ∷ (zeros 19 ++ (0x80 ∷ zeros 22) ++ (0xFF ∷ 0xFF ∷ 0xFF ∷ zeros 61)
-    ++ third ++ empty 0x04 ++ empty 0x08 ++ empty 0x0C ++ empty 0x10 ++ empty 0x14 ++ empty 0x18 ++ empty 0x1C ++ zeros 20)
+    ++ third ++ empty 0x04 ++ empty 0x08 ++ empty 0x0C ++ empty 0x10 ++ empty 0x14 ++ empty 0x18 ++ empty 0x1C ++ zeros 36)
 
 -- After the start, and after the File Write.
 abbrev pub fresh : List ℕ
@@ -47,12 +47,12 @@ fresh = stateWith (empty 0x02)
 abbrev pub full : List ℕ
 full = stateWith (entry 0x21 0x74 0x02 5)
 
--- A start on zeroed state bytes, and requests without memories, with BC 11, a zeroed area, no Q-List and a zeroed reply buffer.
+-- A start on zeroed state bytes, and requests without memories, with BC 11, a zeroed area, no Q-List, a zeroed event area and a zeroed reply buffer.
 abbrev pub sends : List ℕ → Entry
-sends packet = Entry.Request 0 0 3 0 packet (memories [] [] []) (further (zeros 65536) []) (zeros 24576)
+sends packet = Entry.Request 0 0 3 0 packet (memories [] [] []) (further (zeros 65536) [] (zeros 24576)) (zeros 24576)
 
 abbrev pub started : Entries → Answered
-started E = answerOf E (Entry.Start 2 4 0 0 0 0 0) (zeros 192) blank
+started E = answerOf E (Entry.Start 2 4 0 0 0 0 0) (zeros 208) blank
 
 abbrev pub written : Entries → Answered
 written E = answerOf E (sends (fileWrite file)) fresh blank

@@ -1,7 +1,7 @@
 -- What the house was promised of the C library, on one page: the sentences of the three demands in their order, and beneath each the
 -- statements that stand for it, over the bytes that a host lends and keeps, the flash in either of its sizes (02, request 11). They are those of
 -- the node (demands/specs/Demands), and the answer's number beside them. That every entry gets an answer, and that it is the node's call on the
--- words of the bytes, is the contract of the six entries and of the list of requests, which has no condition. Assumes nothing.
+-- words of the bytes, is the contract of the seven entries and of the list of requests, which has no condition. Assumes nothing.
 use Rattle.border.specs.Exactly.{Entries, RefusedExactly}
 use Rattle.border.specs.Kept.{AlwaysState, NoStaleRecord, LengthsShown, SummaryIsTrue}
 use Rattle.border.specs.Answers.{NothingCut}
@@ -9,6 +9,8 @@ use Rattle.border.specs.Writes.{Writes}
 use Rattle.border.specs.ReadsBack.{ReadsBack}
 use Rattle.border.specs.NeverCorrupted.{NeverCorrupted}
 use Rattle.border.specs.Erasing.{ErasureFollows, Erases, FlashFollows}
+use Rattle.border.specs.BuildRuns.{EventIsItsFragments, BuildsEnd}
+use Rattle.border.specs.Built.{EventNumbers, HandedOutOnce, BuildErrors}
 use Rattle.border.specs.Groups.{GroupIsAsked, GroupIsItsFragments}
 use Rattle.border.specs.Ends.{EachLowersOrStores, AlwaysEnds, NeverAskedTwice, SettledInTime, DeadEndInTime, AllEndInTime}
 use Rattle.border.specs.Captures.{DataIsAccepted}
@@ -50,6 +52,15 @@ pub record Demands (E : Entries) : Type 0 where
   pub settled-in-time : SettledInTime E
   pub dead-end-in-time : DeadEndInTime E
   pub all-end-in-time : AllEndInTime E
+  -- An event is its slaves' fragments in order, those left out in its mask words, whatever entries come; and its build always comes to an end, no slave
+  -- asked more than three times.
+  pub event-is-its-fragments : EventIsItsFragments E
+  pub builds-end : BuildsEnd E
+  -- Of events: their numbers go up by one with each that is built; each is handed out at most once, as it was built; and the errors of their builds are
+  -- counted.
+  pub event-numbers : EventNumbers E
+  pub handed-out-once : HandedOutOnce E
+  pub build-errors : BuildErrors E
   -- Repetitions of the Q-List are conserved: those listed, handed out and cleared are those written. Every entry listed has its record in the
   -- list's bytes, and its repetitions at byte 2 of it.
   pub repetitions-conserved : RepetitionsConserved E

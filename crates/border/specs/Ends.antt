@@ -1,4 +1,4 @@
--- Demand 2 over bytes, of groups: a group always comes to an end, whatever its slaves do. 02, request 13. Assumes nothing.
+-- Demand 2 over bytes, of groups: a group always comes to an end, whatever its slaves do. 02, request 13; builds are left aside. Assumes nothing.
 use Prim.Native.Nat.{ℕ, _+_, _*_, _%_, _≤_, _<_}
 use mathlib.Core.Path.{_≡_}
 use mathlib.Core.Bool.{Bool, true, false}
@@ -9,7 +9,7 @@ use Rattle.group.specs.declared.Reply.{Reply}
 use Rattle.node.specs.State.{turn}
 use Rattle.node.specs.declared.Answer.{Answer}
 use Rattle.node.specs.declared.Pending.{Pending}
-use Rattle.demands.specs.Events.{Event as Call, Host as NodeHost, Undropped}
+use Rattle.demands.specs.Events.{Event as Call, Host as NodeHost, Undropped, holdsEvent}
 use Rattle.demands.specs.Groups.{Ascending}
 use Rattle.demands.specs.Ends.{isAnswer, isTaken, settles, Steps}
 use Rattle.codec.specs.Bytes.{wordsOf}
@@ -64,16 +64,18 @@ NeverAskedTwice E = (r : GroupRun E) → Ascending (atLast r .asked)
 -- An entry comes at a tick, of which its clock tells the last 32 bits. Erase progress has no clock.
 abbrev pub ComesAt : ℕ → Event → Type 0
 ComesAt tick (Event.Requested clock link bc errors packet m x) = clock ≡ tick % 4294967296
-ComesAt tick (Event.Replied clock slave bc errors status address packet) = clock ≡ tick % 4294967296
-ComesAt tick (Event.Polled clock) = clock ≡ tick % 4294967296
+ComesAt tick (Event.Replied clock slave bc errors status address packet events) = clock ≡ tick % 4294967296
+ComesAt tick (Event.Polled clock events) = clock ≡ tick % 4294967296
+ComesAt tick (Event.Built clock events) = clock ≡ tick % 4294967296
 ComesAt tick (Event.Erased budget) = Unit {0}
 ComesAt tick (Event.Slowed clock list) = clock ≡ tick % 4294967296
 
--- The tick of the last poll, with this entry.
+-- The tick of the last poll that was not refused for its event area, with this entry.
 abbrev pub polledBy : ℕ → ℕ → Event → ℕ
 polledBy polled tick (Event.Requested clock link bc errors packet m x) = polled
-polledBy polled tick (Event.Replied clock slave bc errors status address packet) = polled
-polledBy polled tick (Event.Polled clock) = tick
+polledBy polled tick (Event.Replied clock slave bc errors status address packet events) = polled
+polledBy polled tick (Event.Polled clock events) = pick (holdsEvent (replyWords events)) tick polled
+polledBy polled tick (Event.Built clock events) = polled
 polledBy polled tick (Event.Erased budget) = polled
 polledBy polled tick (Event.Slowed clock list) = polled
 

@@ -65,8 +65,9 @@ pub record GoesOn (budget : ℕ) (state flash : List ℕ) (a : Answered) : Type 
 abbrev pub Follows : Entry → Answered → List ℕ → List ℕ → Type 0
 Follows (Entry.Start kind ports subdetector program version tests clock) a state flash = a .number ≡ 0 → sectorIn (a .state) ≡ 0
 Follows (Entry.Request clock link bc errors packet m x reply) a state flash = (erasingIn (a .state) ≡ erasingIn state) ⊎ Begins state flash bc packet a
-Follows (Entry.Reply clock slave bc errors status address packet reply) a state flash = erasingIn (a .state) ≡ erasingIn state
-Follows (Entry.Poll clock reply) a state flash = erasingIn (a .state) ≡ erasingIn state
+Follows (Entry.Reply clock slave bc errors status address packet events reply) a state flash = erasingIn (a .state) ≡ erasingIn state
+Follows (Entry.Poll clock events reply) a state flash = erasingIn (a .state) ≡ erasingIn state
+Follows (Entry.Build clock events) a state flash = erasingIn (a .state) ≡ erasingIn state
 Follows (Entry.Erase budget) a state flash = isDone (a .number) ≡ true → GoesOn budget state flash a
 Follows (Entry.Slow clock list) a state flash = erasingIn (a .state) ≡ erasingIn state
 
@@ -78,16 +79,18 @@ ErasureFollows E = (state flash : List ℕ) → Hosted E state flash → (e : En
 abbrev pub isStart : Entry → Bool
 isStart (Entry.Start kind ports subdetector program version tests clock) = true
 isStart (Entry.Request clock link bc errors packet m x reply) = false
-isStart (Entry.Reply clock slave bc errors status address packet reply) = false
-isStart (Entry.Poll clock reply) = false
+isStart (Entry.Reply clock slave bc errors status address packet events reply) = false
+isStart (Entry.Poll clock events reply) = false
+isStart (Entry.Build clock events) = false
 isStart (Entry.Erase budget) = false
 isStart (Entry.Slow clock list) = false
 
 abbrev pub budgetOf : Entry → ℕ
 budgetOf (Entry.Start kind ports subdetector program version tests clock) = 0
 budgetOf (Entry.Request clock link bc errors packet m x reply) = 0
-budgetOf (Entry.Reply clock slave bc errors status address packet reply) = 0
-budgetOf (Entry.Poll clock reply) = 0
+budgetOf (Entry.Reply clock slave bc errors status address packet events reply) = 0
+budgetOf (Entry.Poll clock events reply) = 0
+budgetOf (Entry.Build clock events) = 0
 budgetOf (Entry.Erase budget) = budget
 budgetOf (Entry.Slow clock list) = 0
 

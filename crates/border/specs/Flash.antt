@@ -51,8 +51,9 @@ InStep state flash budget i =
 abbrev pub SetByErasing : Entry → List ℕ → List ℕ → ℕ → Type 0
 SetByErasing (Entry.Start kind ports subdetector program version tests clock) state flash i = ⊥
 SetByErasing (Entry.Request clock link bc errors packet m x reply) state flash i = ⊥
-SetByErasing (Entry.Reply clock slave bc errors status address packet reply) state flash i = ⊥
-SetByErasing (Entry.Poll clock reply) state flash i = ⊥
+SetByErasing (Entry.Reply clock slave bc errors status address packet events reply) state flash i = ⊥
+SetByErasing (Entry.Poll clock events reply) state flash i = ⊥
+SetByErasing (Entry.Build clock events) state flash i = ⊥
 SetByErasing (Entry.Erase budget) state flash i = InStep state flash budget i
 SetByErasing (Entry.Slow clock list) state flash i = ⊥
 

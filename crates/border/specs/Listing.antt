@@ -23,9 +23,10 @@ use Rattle.border.specs.Answers.{endNumber}
 -- An entry, lent this Q-List.
 abbrev pub lending : List ℕ → Entry → Entry
 lending list (Entry.Start kind ports subdetector program version tests clock) = Entry.Start kind ports subdetector program version tests clock
-lending list (Entry.Request clock link bc errors packet m x reply) = Entry.Request clock link bc errors packet m (further (x .area) list) reply
-lending list (Entry.Reply clock slave bc errors status address packet reply) = Entry.Reply clock slave bc errors status address packet reply
-lending list (Entry.Poll clock reply) = Entry.Poll clock reply
+lending list (Entry.Request clock link bc errors packet m x reply) = Entry.Request clock link bc errors packet m (further (x .area) list (x .events)) reply
+lending list (Entry.Reply clock slave bc errors status address packet events reply) = Entry.Reply clock slave bc errors status address packet events reply
+lending list (Entry.Poll clock events reply) = Entry.Poll clock events reply
+lending list (Entry.Build clock events) = Entry.Build clock events
 lending list (Entry.Erase budget) = Entry.Erase budget
 lending list (Entry.Slow clock other) = Entry.Slow clock list
 
@@ -33,8 +34,9 @@ lending list (Entry.Slow clock other) = Entry.Slow clock list
 abbrev pub listLeft : Entry → Answered → List ℕ → List ℕ
 listLeft (Entry.Start kind ports subdetector program version tests clock) a list = list
 listLeft (Entry.Request clock link bc errors packet m x reply) a list = a .runs .further .list
-listLeft (Entry.Reply clock slave bc errors status address packet reply) a list = list
-listLeft (Entry.Poll clock reply) a list = list
+listLeft (Entry.Reply clock slave bc errors status address packet events reply) a list = list
+listLeft (Entry.Poll clock events reply) a list = list
+listLeft (Entry.Build clock events) a list = list
 listLeft (Entry.Erase budget) a list = list
 listLeft (Entry.Slow clock other) a list = a .runs .further .list
 
@@ -67,8 +69,9 @@ abbrev pub talliedBy : Entry → ℕ → List ℕ → List ℕ → Tally → Tal
 talliedBy (Entry.Start kind ports subdetector program version tests clock) number state list t = pick (isDone number) (tally 0 0 0) t
 talliedBy (Entry.Request clock link bc errors packet m x reply) number state list t =
     tally (t .written + bringsIn bc packet number) (t .handed) (t .cleared + clearsIn state list bc packet number)
-talliedBy (Entry.Reply clock slave bc errors status address packet reply) number state list t = t
-talliedBy (Entry.Poll clock reply) number state list t = t
+talliedBy (Entry.Reply clock slave bc errors status address packet events reply) number state list t = t
+talliedBy (Entry.Poll clock events reply) number state list t = t
+talliedBy (Entry.Build clock events) number state list t = t
 talliedBy (Entry.Erase budget) number state list t = t
 talliedBy (Entry.Slow clock other) number state list t = tally (t .written) (t .handed + handsOut number) (t .cleared)
 

@@ -68,11 +68,11 @@ stepOn clock packets k p =
 unfoldable pub requestsOn : Node → ℕ → List ℕ → Lent → Row
 requestsOn n clock packets runs = row (stepOn clock packets) (kept n runs 0) (packetsIn (wordsOf 2 packets))
 
--- The four entries that are lent a flash, within the limits that the border has beside the node's own: there are 192 state bytes, those of a state
+-- The four entries that are lent a flash, within the limits that the border has beside the node's own: there are 208 state bytes, those of a state
 -- but for a start, and PM and DM have at most 8,192 words. No size of the flash is asked of the first three: where there are two bytes a word,
 -- refusal 1 has the same cause in both.
 pub record AsWords (E : Entries) : Type 0 where
-  pub start : (kind ports subdetector program version tests clock : ℕ) (words flash state : List ℕ) → SameContents words flash → length state ≡ 192
+  pub start : (kind ports subdetector program version tests clock : ℕ) (words flash state : List ℕ) → SameContents words flash → length state ≡ 208
       → Answers (startOf kind ports subdetector program version tests clock words) state
       (E .start kind ports subdetector program version tests clock flash state)
   pub request : (clock link bc errors : ℕ) (packet words flash state : List ℕ) (m : Memories) (x : Further) (reply : List ℕ)

@@ -5,17 +5,18 @@ use Rattle.demands.specs.Settled.{Settles}
 use Rattle.logodwen.proofs as Logodwen
 use Rattle.lines.proofs as Lines
 
--- The six entries, the list of requests, the check sequence, and the reader of captured replies.
+-- The seven entries, the list of requests, the check sequence, and the reader of captured replies.
 pub record EntriesSettled : Type 0 where
-  pub start : Settles Logodwen.logodwen5_start.Kinds.ps Logodwen.logodwen5_start.Kinds.r Logodwen.logodwen5_start.Reads.Learnt
-  pub request : Settles Logodwen.logodwen5_request.Kinds.ps Logodwen.logodwen5_request.Kinds.r Logodwen.logodwen5_request.Reads.Learnt
-  pub requests : Settles Logodwen.logodwen5_requests.Kinds.ps Logodwen.logodwen5_requests.Kinds.r Logodwen.logodwen5_requests.Reads.Learnt
-  pub reply : Settles Logodwen.logodwen5_reply.Kinds.ps Logodwen.logodwen5_reply.Kinds.r Logodwen.logodwen5_reply.Reads.Learnt
-  pub poll : Settles Logodwen.logodwen5_poll.Kinds.ps Logodwen.logodwen5_poll.Kinds.r Logodwen.logodwen5_poll.Reads.Learnt
-  pub erase : Settles Logodwen.logodwen5_erase.Kinds.ps Logodwen.logodwen5_erase.Kinds.r Logodwen.logodwen5_erase.Reads.Learnt
-  pub slow : Settles Logodwen.logodwen5_slow.Kinds.ps Logodwen.logodwen5_slow.Kinds.r Logodwen.logodwen5_slow.Reads.Learnt
-  pub fcs : Settles Logodwen.sequence.logodwen5_fcs.Kinds.ps Logodwen.sequence.logodwen5_fcs.Kinds.r Logodwen.sequence.logodwen5_fcs.Reads.Learnt
-  pub capture : Settles Logodwen.captured.logodwen5_capture.Kinds.ps Logodwen.captured.logodwen5_capture.Kinds.r Logodwen.captured.logodwen5_capture.Reads.Learnt
+  pub start : Settles Logodwen.logodwen6_start.Kinds.ps Logodwen.logodwen6_start.Kinds.r Logodwen.logodwen6_start.Reads.Learnt
+  pub request : Settles Logodwen.logodwen6_request.Kinds.ps Logodwen.logodwen6_request.Kinds.r Logodwen.logodwen6_request.Reads.Learnt
+  pub requests : Settles Logodwen.logodwen6_requests.Kinds.ps Logodwen.logodwen6_requests.Kinds.r Logodwen.logodwen6_requests.Reads.Learnt
+  pub reply : Settles Logodwen.logodwen6_reply.Kinds.ps Logodwen.logodwen6_reply.Kinds.r Logodwen.logodwen6_reply.Reads.Learnt
+  pub poll : Settles Logodwen.logodwen6_poll.Kinds.ps Logodwen.logodwen6_poll.Kinds.r Logodwen.logodwen6_poll.Reads.Learnt
+  pub build : Settles Logodwen.logodwen6_build.Kinds.ps Logodwen.logodwen6_build.Kinds.r Logodwen.logodwen6_build.Reads.Learnt
+  pub erase : Settles Logodwen.logodwen6_erase.Kinds.ps Logodwen.logodwen6_erase.Kinds.r Logodwen.logodwen6_erase.Reads.Learnt
+  pub slow : Settles Logodwen.logodwen6_slow.Kinds.ps Logodwen.logodwen6_slow.Kinds.r Logodwen.logodwen6_slow.Reads.Learnt
+  pub fcs : Settles Logodwen.sequence.logodwen6_fcs.Kinds.ps Logodwen.sequence.logodwen6_fcs.Kinds.r Logodwen.sequence.logodwen6_fcs.Reads.Learnt
+  pub capture : Settles Logodwen.captured.logodwen6_capture.Kinds.ps Logodwen.captured.logodwen6_capture.Kinds.r Logodwen.captured.logodwen6_capture.Reads.Learnt
 
 -- The readers of lines, the bench's and captures: what a line says, and each word of the buffer.
 pub record LinesSettled : Type 0 where

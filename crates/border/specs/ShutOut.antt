@@ -7,8 +7,8 @@ use Rattle.base.specs.Words.{laid}
 use Rattle.demands.specs.Requests.{isCommand}
 use Rattle.codec.specs.Bytes.{wordsOf}
 use lib.ListN.{length, take}
-use Rattle.node.specs.Calls.{lentReply, lentFlash, lentList}
-use Rattle.logodwen.specs.Entry.{Answered, answered, startEntry, requestEntry, replyEntry, pollEntry, eraseEntry, slowEntry, requestsEntry}
+use Rattle.node.specs.Calls.{lentReply, lentEvents, lentFlash, lentList}
+use Rattle.logodwen.specs.Entry.{Answered, answered, startEntry, requestEntry, replyEntry, pollEntry, buildEntry, eraseEntry, slowEntry, requestsEntry}
 use Rattle.border.specs.Exactly.{Entries}
 use Rattle.border.specs.Kept.{NoStaleRecord}
 use Rattle.border.specs.Flash.{NoBitRises}
@@ -25,8 +25,9 @@ refusing number =
     record {
       start = startEntry;
       request = λ clock link bc errors packet state runs. answered number state runs;
-      reply = λ clock slave bc errors status address packet state reply. answered number state (lentReply reply);
-      poll = λ clock state reply. answered number state (lentReply reply);
+      reply = λ clock slave bc errors status address packet state events reply. answered number state (lentReply events reply);
+      poll = λ clock state events reply. answered number state (lentReply events reply);
+      build = λ clock state events. answered number state (lentEvents events);
       erase = λ budget state flash. answered number state (lentFlash flash);
       slow = λ clock state list. answered number state (lentList list);
       requests = requestsEntry;
@@ -43,6 +44,7 @@ scanning =
       request = λ clock link bc errors packet state runs. stale state (requestEntry clock link bc errors packet state runs);
       reply = replyEntry;
       poll = pollEntry;
+      build = buildEntry;
       erase = eraseEntry;
       slow = slowEntry;
       requests = requestsEntry;
@@ -59,6 +61,7 @@ cutting =
       request = λ clock link bc errors packet state runs. cut (requestEntry clock link bc errors packet state runs);
       reply = replyEntry;
       poll = pollEntry;
+      build = buildEntry;
       erase = eraseEntry;
       slow = slowEntry;
       requests = requestsEntry;
@@ -75,6 +78,7 @@ hasty says =
       request = requestEntry;
       reply = replyEntry;
       poll = pollEntry;
+      build = buildEntry;
       erase = λ budget state flash. answering (says budget) (eraseEntry (length flash) state flash);
       slow = slowEntry;
       requests = requestsEntry;
@@ -92,6 +96,7 @@ lying =
           pick (isCommand 0x45 bc (wordsOf 2 packet)) (lies (requestEntry clock link bc errors packet state runs)) (requestEntry clock link bc errors packet state runs);
       reply = replyEntry;
       poll = pollEntry;
+      build = buildEntry;
       erase = eraseEntry;
       slow = slowEntry;
       requests = requestsEntry;
@@ -106,6 +111,7 @@ rogue =
           let a : Answered = requestEntry clock link bc errors packet state runs in answered (a .number) (laid state 14 (3 ∷ [])) (a .runs);
       reply = replyEntry;
       poll = pollEntry;
+      build = buildEntry;
       erase = eraseEntry;
       slow = slowEntry;
       requests = requestsEntry;
@@ -117,10 +123,11 @@ forgetful =
     record {
       start = startEntry;
       request = requestEntry;
-      reply = λ clock slave bc errors status address packet state reply.
-          let a : Answered = replyEntry clock slave bc errors status address packet state reply in
-          answered (a .number) (a .state) (lentReply reply);
+      reply = λ clock slave bc errors status address packet state events reply.
+          let a : Answered = replyEntry clock slave bc errors status address packet state events reply in
+          answered (a .number) (a .state) (lentReply events reply);
       poll = pollEntry;
+      build = buildEntry;
       erase = eraseEntry;
       slow = slowEntry;
       requests = requestsEntry;
@@ -135,6 +142,7 @@ benching =
       request = requestEntry;
       reply = replyEntry;
       poll = pollEntry;
+      build = buildEntry;
       erase = eraseEntry;
       slow = slowEntry;
       requests = requestsEntry;
@@ -154,6 +162,7 @@ swapping =
       request = requestEntry;
       reply = replyEntry;
       poll = pollEntry;
+      build = buildEntry;
       erase = eraseEntry;
       slow = slowEntry;
       requests = requestsEntry;
