@@ -44,7 +44,7 @@ pub fn say_number(number: u64) -> bool {
 fn say_what(what: What) -> bool {
     match what {
         What::NoLink => say(
-            b"no link, and none of reply, poll, erase, slow, clock, error, help; fields are parted by tabs",
+            b"no link, and none of reply, poll, build, erase, slow, clock, error, help; fields are parted by tabs",
         ),
         What::Missing => say(b"missing"),
         What::TooMany => say(b"one too many"),

@@ -47,6 +47,7 @@ pub fn ask(
     io: &mut [u16],
     area: &mut [u16],
     list: &mut [u16],
+    events: &[u16],
     reply: &mut [u16],
 ) -> After {
     let n = base::least(asked.words, words.len());
@@ -63,6 +64,7 @@ pub fn ask(
         io,
         area,
         list,
+        events,
         reply,
     );
     let answer = turn.answer;
@@ -83,6 +85,7 @@ pub fn hear(
     kept: Kept,
     words: &[u16],
     held: &[u16],
+    events: &mut [u16],
     reply: &mut [u16],
 ) -> After {
     let n = base::least(heard.words, words.len());
@@ -94,15 +97,22 @@ pub fn hear(
         heard.status,
         heard.address,
         &words[0..n],
+        events,
         reply,
     );
     answered(turn, kept, held, reply)
 }
 
 // A poll.
-pub fn poll(node: Node, kept: Kept, held: &[u16], reply: &mut [u16]) -> After {
-    let turn = node.poll(kept.clock, reply);
+pub fn poll(node: Node, kept: Kept, held: &[u16], events: &mut [u16], reply: &mut [u16]) -> After {
+    let turn = node.poll(kept.clock, events, reply);
     answered(turn, kept, held, reply)
+}
+
+// A build begins. What is held of a request stays as it is.
+pub fn build(node: Node, kept: Kept, events: &[u16]) -> After {
+    let turn = node.build(kept.clock, events);
+    answered(turn, kept, &[], &[])
 }
 
 // Erase progress.

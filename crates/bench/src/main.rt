@@ -8,6 +8,7 @@ ghost use mathlib.Core.Path.{_≡_};
 ghost use lib.ListN.{length, replicate};
 ghost use Rattle.base.specs.Words.{blanks};
 use crate::calls::ask;
+use crate::calls::build;
 use crate::calls::erase;
 use crate::calls::hear;
 use crate::calls::poll;
@@ -86,6 +87,14 @@ fn list_room() -> [u16; 6370]
     ensures { λ r. ⌜ length r ≡ 6370 ⌝ }
 {
     [0; 6370]
+}
+
+// The event area, all zero.
+fn events_room() -> [u16; 12288]
+    ensures { λ r. ⌜ r ≡ replicate 12288 0 ⌝ }
+    ensures { λ r. ⌜ length r ≡ 12288 ⌝ }
+{
+    [0; 12288]
 }
 
 // The assembly area, zeroed at power-up, which is lent as the reply buffer.
@@ -180,11 +189,13 @@ fn proceed(
     held: &mut [u16],
     flash: &mut [u16],
     list: &mut [u16],
+    events: &mut [u16],
     reply: &mut [u16],
 ) -> After {
     match said {
-        Said::Reply(heard) => hear(heard, node, kept, words, held, reply),
-        Said::Poll => poll(node, kept, held, reply),
+        Said::Reply(heard) => hear(heard, node, kept, words, held, events, reply),
+        Said::Poll => poll(node, kept, held, events, reply),
+        Said::Build => build(node, kept, events),
         Said::Erase(budget) => erase(budget, node, kept, flash),
         Said::Slow => slow(node, kept, list),
         _ => settle(said, node, kept),
@@ -204,6 +215,7 @@ fn act(
     io: &mut [u16],
     area: &mut [u16],
     list: &mut [u16],
+    events: &mut [u16],
     reply: &mut [u16],
 ) -> After {
     match said {
@@ -219,9 +231,10 @@ fn act(
             io,
             area,
             list,
+            events,
             reply,
         ),
-        _ => proceed(said, node, kept, words, held, flash, list, reply),
+        _ => proceed(said, node, kept, words, held, flash, list, events, reply),
     }
 }
 
@@ -239,6 +252,7 @@ fn turn(
     io: &mut [u16],
     area: &mut [u16],
     list: &mut [u16],
+    events: &mut [u16],
     reply: &mut [u16],
 ) -> After {
     let kept = counted(before, cut);
@@ -265,6 +279,7 @@ fn turn(
         io,
         area,
         list,
+        events,
         reply,
     )
 }
@@ -288,6 +303,7 @@ fn main() {
     let mut io = io_room();
     let mut area = area_room();
     let mut list = list_room();
+    let mut events = events_room();
     let mut reply = reply_room();
     let mut after = After {
         node: start(&flash),
@@ -326,6 +342,7 @@ fn main() {
             &mut io,
             &mut area,
             &mut list,
+            &mut events,
             &mut reply,
         );
         if !after.told {

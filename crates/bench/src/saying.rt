@@ -92,6 +92,11 @@ fn say_slow(slow: Slow) -> bool {
     }
 }
 
+// The slave to ask for its event, and the word of Read Event.
+fn say_ask_event(slave: u32) -> bool {
+    say(b"\tASK") && say_number(slave as u64) && say(b"\t012E")
+}
+
 // What a call comes to. A start is none of the lines' calls.
 fn say_come(answer: Answer, held: &[u16], buffer: &[u16]) -> bool {
     match answer {
@@ -102,6 +107,9 @@ fn say_come(answer: Answer, held: &[u16], buffer: &[u16]) -> bool {
         Answer::Waiting => say(b"\tWAITING"),
         Answer::Erased(words) => say(b"\tERASED") && say_number(words as u64),
         Answer::Slow(slow) => say_slow(slow),
+        Answer::AskEvent(slave) => say_ask_event(slave),
+        Answer::NoEvent => say(b"\tNO EVENT"),
+        Answer::Built(words) => say(b"\tBUILT") && say_number(words as u64),
         Answer::Refused(refusal) => {
             say(b"\tREFUSED") && say_number(refusal_number(refusal) as u64)
         }
@@ -119,6 +127,9 @@ pub fn say_help() -> bool {
         && say(b"reply SLAVE BC ERROR STATUS ADDRESS [WORD..]  what a slave replied\n")
         && say(
             b"poll                                          a poll, while the node waits for a slave\n",
+        )
+        && say(
+            b"build                                         an event build begins, of the slaves of mask 0\n",
         )
         && say(
             b"erase BUDGET                                  erase progress, with a budget in words\n",

@@ -26,6 +26,7 @@ examples =
       reply-words = refl;
       poll = refl;
       slow = refl;
+      build = refl;
       erase = refl;
       clock = refl;
       error = refl;

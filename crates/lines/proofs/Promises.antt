@@ -38,6 +38,7 @@ count-taken Kind.Clock fs = refl
 count-taken Kind.Fault fs = refl
 count-taken Kind.Help fs = refl
 count-taken Kind.Slow fs = refl
+count-taken Kind.Build fs = refl
 
 -- .. and where the fields fit, there is room for them
 room-taken : (kind : Kind) (room : ℕ) (fs : List (List ℕ)) → verdictOf kind room fs ≡ Verdict.Fits → countOf (taken kind fs) ≤ room
@@ -51,6 +52,7 @@ room-taken Kind.Clock room fs e = omega arith
 room-taken Kind.Fault room fs e = omega arith
 room-taken Kind.Help room fs e = omega arith
 room-taken Kind.Slow room fs e = omega arith
+room-taken Kind.Build room fs e = omega arith
 
 -- what is so of a line of a kind, of a line by its first field, and of every line
 abbrev There : ℕ → List (List ℕ) → Said → Type 0

@@ -43,6 +43,7 @@ pub record Examples : Type 0 where
   pub reply-words : stored (bytes "reply\t5\t3\t1\t0001\tFFFF\tAAAA\t80A5") four ≡ 0xAAAA ∷ 0x80A5 ∷ 3 ∷ 4 ∷ []
   pub poll : said (bytes "poll") 4 ≡ Said.Poll
   pub slow : said (bytes "slow") 4 ≡ Said.Slow
+  pub build : said (bytes "build") 4 ≡ Said.Build
   pub erase : said (bytes "erase\t18446744073709551615") 4 ≡ Said.Erase 18446744073709551615
   pub clock : said (bytes "clock\t2c") 4 ≡ Said.Clock 0x2C
   pub error : said (bytes "error") 4 ≡ Said.Fault

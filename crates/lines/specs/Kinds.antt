@@ -24,8 +24,9 @@ namedBy first =
     (pick (same first (bytes "error")) (Named.A Kind.Fault)
     (pick (same first (bytes "help")) (Named.A Kind.Help)
     (pick (same first (bytes "slow")) (Named.A Kind.Slow)
+    (pick (same first (bytes "build")) (Named.A Kind.Build)
     (pick (fits Shape.Number32 first) (Named.A Kind.Request)
-    Named.Unknown)))))))
+    Named.Unknown))))))))
 
 -- The fields that a line of each kind must have behind its first one ..
 abbrev pub shapesOf : Kind → List Shape
@@ -37,6 +38,7 @@ shapesOf Kind.Clock = Shape.Hex32 ∷ []
 shapesOf Kind.Fault = []
 shapesOf Kind.Help = []
 shapesOf Kind.Slow = []
+shapesOf Kind.Build = []
 
 -- .. and whether words may follow.
 abbrev pub takesWords : Kind → Bool
@@ -48,6 +50,7 @@ takesWords Kind.Clock = false
 takesWords Kind.Fault = false
 takesWords Kind.Help = false
 takesWords Kind.Slow = false
+takesWords Kind.Build = false
 
 -- What is wrong with a field that has another shape.
 abbrev pub whatOf : Shape → What

@@ -25,6 +25,7 @@ countOf (Said.Clock n) = 0
 countOf Said.Fault = 0
 countOf Said.Help = 0
 countOf Said.Slow = 0
+countOf Said.Build = 0
 countOf (Said.Wrong w) = 0
 
 -- So many are stored, and there is room for them.

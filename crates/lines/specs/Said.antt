@@ -65,6 +65,7 @@ taken Kind.Clock fs = Said.Clock (item Shape.Hex32 fs 1)
 taken Kind.Fault fs = Said.Fault
 taken Kind.Help fs = Said.Help
 taken Kind.Slow fs = Said.Slow
+taken Kind.Build fs = Said.Build
 
 -- A line of a kind says that, or which field is wrong.
 abbrev pub judged : Verdict → Kind → List (List ℕ) → Said
@@ -93,6 +94,7 @@ wordsOf (Said.Clock n) fs = []
 wordsOf Said.Fault fs = []
 wordsOf Said.Help fs = []
 wordsOf Said.Slow fs = []
+wordsOf Said.Build fs = []
 wordsOf (Said.Wrong w) fs = []
 
 -- A line that says d answers d, and leaves its words at the start of the buffer.

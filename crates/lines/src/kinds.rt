@@ -44,6 +44,9 @@ pub(crate) fn named_by(first: &[u8]) -> Named
     if is_same(first, b"slow") {
         return Named::A(Kind::Slow);
     }
+    if is_same(first, b"build") {
+        return Named::A(Kind::Build);
+    }
     if has_shape(Shape::Number32, first) {
         return Named::A(Kind::Request);
     }
@@ -63,6 +66,7 @@ fn must_have(kind: Kind) -> usize
         Kind::Fault => 0,
         Kind::Help => 0,
         Kind::Slow => 0,
+        Kind::Build => 0,
     }
 }
 
@@ -79,6 +83,7 @@ fn shape_at(kind: Kind, i: usize) -> Shape
         Kind::Fault => Shape::Word,
         Kind::Help => Shape::Word,
         Kind::Slow => Shape::Word,
+        Kind::Build => Shape::Word,
     }
 }
 
@@ -114,6 +119,7 @@ fn takes_words(kind: Kind) -> bool
         Kind::Fault => false,
         Kind::Help => false,
         Kind::Slow => false,
+        Kind::Build => false,
     }
 }
 

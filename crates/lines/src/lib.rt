@@ -66,6 +66,7 @@ pub enum Said {
     Fault,
     Help,
     Slow,
+    Build,
     Wrong(Wrong),
 }
 
@@ -86,6 +87,7 @@ enum Kind {
     Fault,
     Help,
     Slow,
+    Build,
 }
 
 // The kind that a first field names.

@@ -146,6 +146,7 @@ fn take(line: &[u8], first: usize, kind: Kind, words: &mut [u16]) -> Said
         Kind::Fault => Said::Fault,
         Kind::Help => Said::Help,
         Kind::Slow => Said::Slow,
+        Kind::Build => Said::Build,
     }
 }
 

@@ -1,5 +1,5 @@
-// The seven memories by number, 0 flash, 1 PM, 2 DM, 3 IO, 4 the reply buffer, 5 the area, 6 the Q-List: what lines put there, and the
-// digests of their words.
+// The eight memories by number, 0 flash, 1 PM, 2 DM, 3 IO, 4 the reply buffer, 5 the area, 6 the Q-List, 7 the event area: what lines put
+// there, and the digests of their words.
 ghost use mathlib.Core.Path.{_≡_};
 ghost use Prim.Native.Nat.{_≤_, _<_};
 ghost use lib.ListN.{length};
@@ -98,6 +98,7 @@ pub fn fill(
     io: &mut [u16],
     area: &mut [u16],
     list: &mut [u16],
+    events: &mut [u16],
     reply: &mut [u16],
 ) {
     match feed::item(line, 1) {
@@ -107,7 +108,8 @@ pub fn fill(
         3 => fill_area(line, io),
         4 => fill_area(line, reply),
         5 => fill_area(line, area),
-        _ => fill_area(line, list),
+        6 => fill_area(line, list),
+        _ => fill_area(line, events),
     }
 }
 
@@ -124,6 +126,7 @@ pub fn poke(
     io: &mut [u16],
     area: &mut [u16],
     list: &mut [u16],
+    events: &mut [u16],
     reply: &mut [u16],
 ) {
     match feed::item(line, 1) {
@@ -132,7 +135,8 @@ pub fn poke(
         3 => poke_area(line, run, io),
         4 => poke_area(line, run, reply),
         5 => poke_area(line, run, area),
-        _ => poke_area(line, run, list),
+        6 => poke_area(line, run, list),
+        _ => poke_area(line, run, events),
     }
 }
 
@@ -159,6 +163,7 @@ pub fn digest(
     io: &[u16],
     area: &[u16],
     list: &[u16],
+    events: &[u16],
     reply: &[u16],
 ) -> u16 {
     match feed::item(line, 1) {
@@ -168,7 +173,8 @@ pub fn digest(
         3 => digest_area(line, io),
         4 => digest_area(line, reply),
         5 => digest_area(line, area),
-        _ => digest_area(line, list),
+        6 => digest_area(line, list),
+        _ => digest_area(line, events),
     }
 }
 
@@ -196,6 +202,7 @@ pub fn show(
     io: &[u16],
     area: &[u16],
     list: &[u16],
+    events: &[u16],
     reply: &[u16],
 ) {
     show_area(wanted, b" f ", flash);
@@ -205,4 +212,5 @@ pub fn show(
     show_area(wanted / 16, b" r ", reply);
     show_area(wanted / 32, b" a ", area);
     show_area(wanted / 64, b" l ", list);
+    show_area(wanted / 128, b" e ", events);
 }

@@ -1,4 +1,4 @@
-// The node's 101 words, and a node with one field changed.
+// The node's 108 words, and a node with one field changed.
 ghost use mathlib.Core.Path.{_≡_};
 ghost use Prim.Native.Nat.{_≤_, _<_};
 ghost use lib.ListN.{length};
@@ -6,6 +6,8 @@ use crate::reading::count;
 use crate::reading::double;
 use crate::reading::high;
 use crate::reading::low;
+use building::Building;
+use event::Gathered;
 use flash::Erasing;
 use flash::Progress;
 use group::Built;
@@ -15,6 +17,7 @@ use group::ZeroLength;
 use group::judge::tally_number;
 use node::Ask;
 use node::Counts;
+use node::Events;
 use node::Gathering;
 use node::Given;
 use node::Joining;
@@ -23,10 +26,10 @@ use node::Pending;
 use node::Writing;
 use qlist::Listing;
 
-fn room() -> [u16; 101]
-    ensures { λ r. ⌜ length r ≡ 101 ⌝ }
+fn room() -> [u16; 108]
+    ensures { λ r. ⌜ length r ≡ 108 ⌝ }
 {
-    [0; 101]
+    [0; 108]
 }
 
 fn put_word(words: &mut [u16], at: usize, word: u16) {
@@ -92,16 +95,33 @@ fn put_ask(words: &mut [u16], ask: Ask) {
     put_number(words, 84, ask.at);
 }
 
-fn put_gathering(words: &mut [u16], gathering: Gathering) {
-    let built = gathering.built;
+fn put_built(words: &mut [u16], built: Built, received: Received) {
     let tally = built.tally;
-    put_number(words, 86, gathering.set);
-    put_word(words, 88, low(gathering.from));
     put_number(words, 89, small(built.words));
     put_word(words, 91, tally_number(tally));
-    let received = gathering.received;
     put_number(words, 92, small(received.words));
     put_word(words, 94, received.rx_status);
+}
+
+fn put_gathering(words: &mut [u16], gathering: Gathering) {
+    let built = gathering.built;
+    let received = gathering.received;
+    put_number(words, 86, gathering.set);
+    put_word(words, 88, low(gathering.from));
+    put_built(words, built, received);
+}
+
+// A build has neither a link nor a first word; what it has besides a group stands behind all other words.
+fn put_building(words: &mut [u16], building: Building) {
+    let gathered = building.gathered;
+    let built = gathered.built;
+    let received = building.received;
+    put_word(words, 83, low(building.slave));
+    put_number(words, 84, building.at);
+    put_number(words, 86, building.set);
+    put_built(words, built, received);
+    put_word(words, 105, low(building.asks));
+    put_number(words, 106, gathered.left_out);
 }
 
 fn put_pending(words: &mut [u16], pending: Pending) {
@@ -115,6 +135,10 @@ fn put_pending(words: &mut [u16], pending: Pending) {
             put_word(words, 81, 2);
             put_ask(words, ask);
             put_gathering(words, gathering);
+        }
+        Pending::Build(building) => {
+            put_word(words, 81, 3);
+            put_building(words, building);
         }
     }
 }
@@ -135,9 +159,15 @@ fn put_listing(words: &mut [u16], listing: Listing) {
     put_word(words, 100, low(small(listing.turn)));
 }
 
+fn put_events(words: &mut [u16], events: Events) {
+    put_word(words, 101, events.last);
+    put_word(words, 102, events.errors);
+    put_number(words, 103, small(events.unread));
+}
+
 // The node's words.
-pub fn words_of(node: Node) -> [u16; 101]
-    ensures { λ r. ⌜ length r ≡ 101 ⌝ }
+pub fn words_of(node: Node) -> [u16; 108]
+    ensures { λ r. ⌜ length r ≡ 108 ⌝ }
 {
     let masks = node.masks;
     let directory = node.directory;
@@ -146,6 +176,7 @@ pub fn words_of(node: Node) -> [u16; 101]
     let pending = node.pending;
     let writing = node.writing;
     let listing = node.listing;
+    let events = node.events;
     let mut words = room();
     put_given(&mut words, given);
     put_word(&mut words, 3, node.mode);
@@ -157,6 +188,7 @@ pub fn words_of(node: Node) -> [u16; 101]
     put_pending(&mut words, pending);
     put_writing(&mut words, writing);
     put_listing(&mut words, listing);
+    put_events(&mut words, events);
     words
 }
 
@@ -238,20 +270,42 @@ fn ask_of(line: &[u16]) -> Ask {
     }
 }
 
-fn gathering_of(line: &[u16]) -> Gathering {
+fn built_of(line: &[u16]) -> Built {
     let tally = tally_of(feed::item(line, 11));
-    let built = Built {
+    Built {
         words: count(line, 9),
         tally,
-    };
+    }
+}
+
+fn received_of(line: &[u16]) -> Received {
+    Received {
+        words: count(line, 12),
+        rx_status: feed::item(line, 14),
+    }
+}
+
+fn gathering_of(line: &[u16]) -> Gathering {
     Gathering {
         set: double(line, 6),
         from: feed::item(line, 8) as u32,
-        built,
-        received: Received {
-            words: count(line, 12),
-            rx_status: feed::item(line, 14),
-        },
+        built: built_of(line),
+        received: received_of(line),
+    }
+}
+
+fn building_of(line: &[u16]) -> Building {
+    let gathered = Gathered {
+        built: built_of(line),
+        left_out: double(line, 16),
+    };
+    Building {
+        set: double(line, 6),
+        slave: feed::item(line, 5) as u32,
+        asks: feed::item(line, 15) as u32,
+        at: double(line, 3),
+        gathered,
+        received: received_of(line),
     }
 }
 
@@ -260,6 +314,7 @@ fn pending_with(pending: Pending, line: &[u16]) -> Pending {
         15 => Pending::Nothing,
         16 => Pending::Slave(ask_of(line)),
         17 => Pending::Group(ask_of(line), gathering_of(line)),
+        25 => Pending::Build(building_of(line)),
         _ => pending,
     }
 }
@@ -292,6 +347,19 @@ fn listing_with(listing: Listing, field: u16, value: u32) -> Listing {
     }
 }
 
+fn events_with(events: Events, field: u16, value: u32) -> Events {
+    let word = low(value);
+    Events {
+        last: chosen(field == 22, word, events.last),
+        errors: chosen(field == 23, word, events.errors),
+        unread: if field == 24 {
+            value as usize
+        } else {
+            events.unread
+        },
+    }
+}
+
 // The node with the field changed that a line names.
 pub fn with_field(node: Node, line: &[u16]) -> Node {
     let field = feed::item(line, 1);
@@ -304,6 +372,7 @@ pub fn with_field(node: Node, line: &[u16]) -> Node {
     let pending = node.pending;
     let writing = node.writing;
     let listing = node.listing;
+    let events = node.events;
     let masks_after = masks_with(masks, place(field == 11, index), value);
     let directory_after = directory_with(directory, place(field == 12, index), low(value));
     let erasing_after = erasing_with(erasing, field, index, value);
@@ -322,5 +391,6 @@ pub fn with_field(node: Node, line: &[u16]) -> Node {
         pending: pending_after,
         writing: writing_after,
         listing: listing_with(listing, field, value),
+        events: events_with(events, field, value),
     }
 }

@@ -65,6 +65,12 @@ fn list_room() -> [u16; 6386]
     [0; 6386]
 }
 
+fn events_room() -> [u16; 12304]
+    ensures { λ r. ⌜ length r ≡ 12304 ⌝ }
+{
+    [0; 12304]
+}
+
 fn reply_room() -> [u16; 16400]
     ensures { λ r. ⌜ length r ≡ 16400 ⌝ }
 {
@@ -92,6 +98,7 @@ struct Lent {
     io: usize,
     area: usize,
     list: usize,
+    events: usize,
     reply: usize,
 }
 
@@ -118,6 +125,7 @@ fn request(
     io: &mut [u16],
     area: &mut [u16],
     list: &mut [u16],
+    events: &[u16],
     reply: &mut [u16],
 ) -> Turn {
     let clock = double(line, 2);
@@ -136,18 +144,29 @@ fn request(
         io,
         area,
         list,
+        events,
         reply,
     )
 }
 
-fn hear(line: &[u16], run: &[u16], node: Node, reply: &mut [u16]) -> Turn {
+fn hear(line: &[u16], run: &[u16], node: Node, events: &mut [u16], reply: &mut [u16]) -> Turn {
     let clock = double(line, 2);
     let slave = double(line, 4);
     let bc = feed::item(line, 6) as u32;
     let errors = feed::item(line, 7) != 0;
     let status = feed::item(line, 8);
     let address = feed::item(line, 9);
-    node.reply(clock, slave, bc, errors, status, address, run, reply)
+    node.reply(
+        clock,
+        slave,
+        bc,
+        errors,
+        status,
+        address,
+        run,
+        events,
+        reply,
+    )
 }
 
 // A call that is no request: each has what it is lent, and no more, since every way out is proved of every run that is lent.
@@ -157,13 +176,15 @@ fn proceed(
     node: Node,
     flash: &mut [u16],
     list: &mut [u16],
+    events: &mut [u16],
     reply: &mut [u16],
 ) -> Turn {
     match feed::item(line, 0) {
         1 => start(line, flash),
-        3 => hear(line, run, node, reply),
-        4 => node.poll(double(line, 2), reply),
+        3 => hear(line, run, node, events, reply),
+        4 => node.poll(double(line, 2), events, reply),
         12 => node.slow(double(line, 2), list),
+        14 => node.build(double(line, 2), events),
         _ => node.erase(budget(line, 2), flash),
     }
 }
@@ -179,21 +200,34 @@ fn call(
     io: &mut [u16],
     area: &mut [u16],
     list: &mut [u16],
+    events: &mut [u16],
     reply: &mut [u16],
 ) -> Turn {
     match feed::item(line, 0) {
-        2 => request(line, run, node, flash, pm, dm, io, area, list, reply),
-        _ => proceed(line, run, node, flash, list, reply),
+        2 => request(
+            line,
+            run,
+            node,
+            flash,
+            pm,
+            dm,
+            io,
+            area,
+            list,
+            events,
+            reply,
+        ),
+        _ => proceed(line, run, node, flash, list, events, reply),
     }
 }
 
 // What a call prints of its state and its answer.
-fn say_turn(turn: Turn, reply: &[u16]) -> Node {
+fn say_turn(turn: Turn, events: &[u16], reply: &[u16]) -> Node {
     let next = turn.node;
     let answer = turn.answer;
     let words = words_of(next);
     say_word(feed::digest(&words));
-    say_answer(answer, reply);
+    say_answer(answer, events, reply);
     next
 }
 
@@ -218,10 +252,23 @@ fn answer_one(
     io: &mut [u16],
     area: &mut [u16],
     list: &mut [u16],
+    events: &mut [u16],
     reply: &mut [u16],
 ) -> Node {
-    let turn = call(line, run, node, flash, pm, dm, io, area, list, reply);
-    say_turn(turn, reply)
+    let turn = call(
+        line,
+        run,
+        node,
+        flash,
+        pm,
+        dm,
+        io,
+        area,
+        list,
+        events,
+        reply,
+    );
+    say_turn(turn, events, reply)
 }
 
 // A list of requests, its packets the run. The reply buffer is lent for the replies.
@@ -235,10 +282,23 @@ fn answer_list(
     io: &mut [u16],
     area: &mut [u16],
     list: &mut [u16],
+    events: &mut [u16],
     reply: &mut [u16],
 ) -> Node {
     let clock = double(line, 2);
-    let all = listed::requests(node, clock, run, flash, pm, dm, io, area, list, reply);
+    let all = listed::requests(
+        node,
+        clock,
+        run,
+        flash,
+        pm,
+        dm,
+        io,
+        area,
+        list,
+        events,
+        reply,
+    );
     say_series(all)
 }
 
@@ -252,11 +312,36 @@ fn answer(
     io: &mut [u16],
     area: &mut [u16],
     list: &mut [u16],
+    events: &mut [u16],
     reply: &mut [u16],
 ) -> Node {
     match feed::item(line, 0) {
-        13 => answer_list(line, run, node, flash, pm, dm, io, area, list, reply),
-        _ => answer_one(line, run, node, flash, pm, dm, io, area, list, reply),
+        13 => answer_list(
+            line,
+            run,
+            node,
+            flash,
+            pm,
+            dm,
+            io,
+            area,
+            list,
+            events,
+            reply,
+        ),
+        _ => answer_one(
+            line,
+            run,
+            node,
+            flash,
+            pm,
+            dm,
+            io,
+            area,
+            list,
+            events,
+            reply,
+        ),
     }
 }
 
@@ -271,10 +356,33 @@ fn answer_shown(
     io: &mut [u16],
     area: &mut [u16],
     list: &mut [u16],
+    events: &mut [u16],
     reply: &mut [u16],
 ) -> Node {
-    let next = answer(line, run, node, flash, pm, dm, io, area, list, reply);
-    show(feed::item(line, 1), flash, pm, dm, io, area, list, reply);
+    let next = answer(
+        line,
+        run,
+        node,
+        flash,
+        pm,
+        dm,
+        io,
+        area,
+        list,
+        events,
+        reply,
+    );
+    show(
+        feed::item(line, 1),
+        flash,
+        pm,
+        dm,
+        io,
+        area,
+        list,
+        events,
+        reply,
+    );
     next
 }
 
@@ -290,6 +398,7 @@ fn lend(
     io: &mut [u16],
     area: &mut [u16],
     list: &mut [u16],
+    events: &mut [u16],
     reply: &mut [u16],
 ) -> Node {
     let f = base::least(lent.flash, flash.len());
@@ -298,6 +407,7 @@ fn lend(
     let i = base::least(lent.io, io.len());
     let a = base::least(lent.area, area.len());
     let l = base::least(lent.list, list.len());
+    let e = base::least(lent.events, events.len());
     let r = base::least(lent.reply, reply.len());
     answer_shown(
         line,
@@ -309,6 +419,7 @@ fn lend(
         &mut io[0..i],
         &mut area[0..a],
         &mut list[0..l],
+        &mut events[0..e],
         &mut reply[0..r],
     )
 }
@@ -330,28 +441,42 @@ fn act(
     io: &mut [u16],
     area: &mut [u16],
     list: &mut [u16],
+    events: &mut [u16],
     reply: &mut [u16],
 ) -> Node {
     match feed::item(line, 0) {
         6 => {
-            fill(line, flash, pm, dm, io, area, list, reply);
+            fill(line, flash, pm, dm, io, area, list, events, reply);
             node
         }
         7 => {
-            poke(line, run, flash, dm, io, area, list, reply);
+            poke(line, run, flash, dm, io, area, list, events, reply);
             node
         }
         8 => with_field(node, line),
         9 => node,
         10 => {
-            say_word(digest(line, flash, pm, dm, io, area, list, reply));
+            say_word(digest(line, flash, pm, dm, io, area, list, events, reply));
             node
         }
         11 => {
             say_node(node);
             node
         }
-        _ => lend(line, run, node, lent, flash, pm, dm, io, area, list, reply),
+        _ => lend(
+            line,
+            run,
+            node,
+            lent,
+            flash,
+            pm,
+            dm,
+            io,
+            area,
+            list,
+            events,
+            reply,
+        ),
     }
 }
 
@@ -367,6 +492,7 @@ fn turn(
     io: &mut [u16],
     area: &mut [u16],
     list: &mut [u16],
+    events: &mut [u16],
     reply: &mut [u16],
 ) -> Node {
     let n = run_of(line, run);
@@ -381,6 +507,7 @@ fn turn(
         io,
         area,
         list,
+        events,
         reply,
     );
     io::write_all(1, b"\n");
@@ -397,6 +524,7 @@ fn lent_after(lent: Lent, line: &[u16]) -> Lent {
             io: count(line, 7),
             area: count(line, 11),
             list: count(line, 13),
+            events: count(line, 15),
             reply: count(line, 9),
         };
     }
@@ -418,6 +546,7 @@ fn main() {
     let mut io = io_room();
     let mut area = area_room();
     let mut list = list_room();
+    let mut events = events_room();
     let mut reply = reply_room();
     let mut run = run_room();
     let mut node = zeros();
@@ -428,6 +557,7 @@ fn main() {
         io: 0,
         area: 0,
         list: 0,
+        events: 0,
         reply: 0,
     };
     let mut line = feed::before();
@@ -453,6 +583,7 @@ fn main() {
             &mut io,
             &mut area,
             &mut list,
+            &mut events,
             &mut reply,
         );
     }

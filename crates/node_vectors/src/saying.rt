@@ -33,17 +33,34 @@ pub fn say_run(words: &[u16]) {
     say_words(&words[rest..]);
 }
 
-// A reply: its BC, how many words, their digest, and the words themselves where they are few.
-fn say_reply(sent: Reply, buffer: &[u16]) {
-    let n = base::least(sent.words, buffer.len());
+// How many words are handed out at the front of a run, their digest, and the words themselves where they are few.
+fn say_front(words: usize, run: &[u16]) {
+    let n = base::least(words, run.len());
+    say_number(words as u64);
+    io::write_all(1, b" ");
+    say_word(feed::digest(&run[0..n]));
+    if n <= 16 {
+        say_words(&run[0..n]);
+    }
+}
+
+// A reply: its BC, and its words in the reply buffer.
+fn say_reply(sent: Reply, reply: &[u16]) {
     io::write_all(1, b" reply");
     say_number(sent.bc as u64);
-    say_number(sent.words as u64);
-    io::write_all(1, b" ");
-    say_word(feed::digest(&buffer[0..n]));
-    if n <= 16 {
-        say_words(&buffer[0..n]);
-    }
+    say_front(sent.words, reply);
+}
+
+// A slave that is asked for its event.
+fn say_read(slave: u32) {
+    io::write_all(1, b" read");
+    say_number(slave as u64);
+}
+
+// A build that has ended with an event: its words in the event area.
+fn say_built(words: usize, events: &[u16]) {
+    io::write_all(1, b" built");
+    say_front(words, events);
 }
 
 fn say_asking(asking: Asking) {
@@ -82,13 +99,13 @@ pub fn say_done(done: Done) {
 }
 
 // The answer, one space before it.
-pub fn say_answer(answer: Answer, buffer: &[u16]) {
+pub fn say_answer(answer: Answer, events: &[u16], reply: &[u16]) {
     match answer {
         Answer::Refused(refusal) => say_refusal(refusal),
         Answer::Started => {
             io::write_all(1, b" started");
         }
-        Answer::Reply(sent) => say_reply(sent, buffer),
+        Answer::Reply(sent) => say_reply(sent, reply),
         Answer::Ask(asking) => say_asking(asking),
         Answer::Next(slave) => {
             io::write_all(1, b" next");
@@ -102,5 +119,10 @@ pub fn say_answer(answer: Answer, buffer: &[u16]) {
             say_number(words as u64);
         }
         Answer::Slow(slow) => say_slow(slow),
+        Answer::AskEvent(slave) => say_read(slave),
+        Answer::NoEvent => {
+            io::write_all(1, b" no event");
+        }
+        Answer::Built(words) => say_built(words, events),
     }
 }

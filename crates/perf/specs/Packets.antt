@@ -8,7 +8,7 @@ use lib.Dec.{eqb}
 use Rattle.base.specs.Pick.{pick}
 use Rattle.flash.specs.declared.Erasing.{Erasing}
 use Rattle.qlist.specs.Words.{listing}
-use Rattle.node.specs.State.{node, counts, joining}
+use Rattle.node.specs.State.{node, counts, joining, known}
 use Rattle.node.specs.Calls.{given, requestOf}
 use Rattle.node.specs.Effect.{Lent, Outcome}
 use Rattle.node.specs.declared.Answer.{Answer}
@@ -30,7 +30,7 @@ standing bc words = pick (eqb bc 2) Writing.Nothing (Writing.File (joining 0 wor
 abbrev pub writer : ℕ → ℕ → ℕ → Node
 writer bc words flash =
     node (replicate 16 0) empty (given 1 1 0 0 0 0 0 flash) 2 (counts 0 0) Erasing.Nothing Pending.Nothing (standing bc words)
-    (listing 0 0)
+    (listing 0 0) (known 0 0 0)
 
 -- The packet sent to it from link 0.
 abbrev pub sentTo : ℕ → ℕ → List ℕ → Lent → Outcome
@@ -46,3 +46,6 @@ bcIn (Answer.Next s) = 4
 bcIn Answer.Waiting = 4
 bcIn (Answer.Erased n) = 4
 bcIn (Answer.Slow s) = 4
+bcIn (Answer.AskEvent s) = 4
+bcIn Answer.NoEvent = 4
+bcIn (Answer.Built n) = 4

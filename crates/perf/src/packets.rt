@@ -6,6 +6,7 @@ ghost use Rattle.perf.specs.Packets.{standing, writer, sentTo, bcIn};
 use flash::Erasing;
 use node::Answer;
 use node::Counts;
+use node::Events;
 use node::Given;
 use node::Joining;
 use node::Node;
@@ -85,6 +86,11 @@ fn node_before(bc: u32, words: usize, flash: usize) -> Node
             entries: 0,
             turn: 0,
         },
+        events: Events {
+            last: 0,
+            errors: 0,
+            unread: 0,
+        },
     }
 }
 
@@ -101,6 +107,9 @@ fn bc_in(answer: Answer) -> u32
         Answer::Waiting => 4,
         Answer::Erased(_) => 4,
         Answer::Slow(_) => 4,
+        Answer::AskEvent(_) => 4,
+        Answer::NoEvent => 4,
+        Answer::Built(_) => 4,
     }
 }
 
@@ -116,10 +125,11 @@ pub extern "C" fn perf_packet(
     io: &mut [u16],
     area: &mut [u16],
     list: &mut [u16],
+    events: &[u16],
     reply: &mut [u16],
 ) -> u32
-    ensures { λ r. ⌜ lent (now (flash .exit)) (memories (now (pm .exit)) (now (dm .exit)) (now (io .exit))) (further (now (area .exit)) (now (list .exit))) (now (reply .exit)) ≡ sentTo bc joined (now (packet .entry)) (lent (now (flash .entry)) (memories (now (pm .entry)) (now (dm .entry)) (now (io .entry))) (further (now (area .entry)) (now (list .entry))) (now (reply .entry))) .after ⌝ }
-    ensures { λ r. ⌜ r ≡ bcIn (sentTo bc joined (now (packet .entry)) (lent (now (flash .entry)) (memories (now (pm .entry)) (now (dm .entry)) (now (io .entry))) (further (now (area .entry)) (now (list .entry))) (now (reply .entry))) .turn .answer) ⌝ }
+    ensures { λ r. ⌜ lent (now (flash .exit)) (memories (now (pm .exit)) (now (dm .exit)) (now (io .exit))) (further (now (area .exit)) (now (list .exit)) (now (events .entry))) (now (reply .exit)) ≡ sentTo bc joined (now (packet .entry)) (lent (now (flash .entry)) (memories (now (pm .entry)) (now (dm .entry)) (now (io .entry))) (further (now (area .entry)) (now (list .entry)) (now (events .entry))) (now (reply .entry))) .after ⌝ }
+    ensures { λ r. ⌜ r ≡ bcIn (sentTo bc joined (now (packet .entry)) (lent (now (flash .entry)) (memories (now (pm .entry)) (now (dm .entry)) (now (io .entry))) (further (now (area .entry)) (now (list .entry)) (now (events .entry))) (now (reply .entry))) .turn .answer) ⌝ }
 {
     let node = node_before(bc, joined, flash.len());
     let turn = node.request(
@@ -134,6 +144,7 @@ pub extern "C" fn perf_packet(
         io,
         area,
         list,
+        events,
         reply,
     );
     let answer = turn.answer;

@@ -1,6 +1,6 @@
 -- `bench::main` meets its contract: the line, the words and all memories keep their lengths. The measure is how many turns are left.
 -- Assumes nothing.
-use mathlib.Core.Path.{_∙_, _≡_}
+use mathlib.Core.Path.{sym, _∙_, _≡_}
 use native.Mathlib.Omega.{arith}
 use borrow.Author.Needs.{needs}
 use lib.ListN.{length}
@@ -8,12 +8,12 @@ use Rattle.bench.proofs.main.Statement.{statement}
 use Rattle.bench.proofs.main.Tie as tie
 
 abbrev Inv-loop : tie.InvT-loop
-Inv-loop bytes₀ words₀ held₀ flash₀ pm₀ dm₀ io₀ area₀ list₀ reply₀ after₀ line₀ turns₀ bytes words held flash pm dm io area list reply after line turns =
+Inv-loop bytes₀ words₀ held₀ flash₀ pm₀ dm₀ io₀ area₀ list₀ events₀ reply₀ after₀ line₀ turns₀ bytes words held flash pm dm io area list events reply after line turns =
     (((length bytes ≡ 200000) × (length words ≡ 40000)) × ((length held ≡ 8192) × (length flash ≡ 32768)))
-    × (((length pm ≡ 32768) × (length dm ≡ 32768)) × (((length io ≡ 4096) × (length area ≡ 32768)) × ((length list ≡ 6370) × (length reply ≡ 12288))))
+    × (((length pm ≡ 32768) × (length dm ≡ 32768)) × (((length io ≡ 4096) × (length area ≡ 32768)) × (((length list ≡ 6370) × (length events ≡ 12288)) × (length reply ≡ 12288))))
 
 abbrev μ-loop : tie.MeasureT-loop
-μ-loop bytes₀ words₀ held₀ flash₀ pm₀ dm₀ io₀ area₀ list₀ reply₀ after₀ line₀ turns₀ bytes words held flash pm dm io area list reply after line turns = turns
+μ-loop bytes₀ words₀ held₀ flash₀ pm₀ dm₀ io₀ area₀ list₀ events₀ reply₀ after₀ line₀ turns₀ bytes words held flash pm dm io area list events reply after line turns = turns
 
 line-room-requires : tie.Need-line-room-requires Inv-loop μ-loop
 line-room-requires c κs = search needs
@@ -42,6 +42,9 @@ area-room-requires c κs = search needs
 list-room-requires : tie.Need-list-room-requires Inv-loop μ-loop
 list-room-requires c κs = search needs
 
+events-room-requires : tie.Need-events-room-requires Inv-loop μ-loop
+events-room-requires c κs = search needs
+
 reply-room-requires : tie.Need-reply-room-requires Inv-loop μ-loop
 reply-room-requires c κs = search needs
 
@@ -55,8 +58,10 @@ before-requires : tie.Need-before-requires Inv-loop μ-loop
 before-requires c κs = search needs
 
 loop-holds : tie.Need-loop-holds Inv-loop μ-loop
-loop-holds c =
-    (((c .before .before .before .before .before .before .before .before .before .before .before .before .line-room .ensures .1, c .before .before .before .before .before .before .before .before .before .before .before .words-room .ensures .1), (search needs, search needs)), ((search needs, search needs), ((search needs, search needs), (search needs, search needs))))
+loop-holds c = (
+  ((c .before .before .before .before .before .before .before .before .before .before .before .before .before .line-room .ensures .1, c .before .before .before .before .before .before .before .before .before .before .before .before .words-room .ensures .1), (c .before .before .before .before .before .before .before .before .before .before .before .held-room .ensures .1, c .before .before .before .before .before .before .before .before .before .before .flash-room .ensures .1)),
+  ((c .before .before .before .before .before .before .before .before .before .pm-room .ensures .1, c .before .before .before .before .before .before .before .before .dm-room .ensures .1), ((c .before .before .before .before .before .before .before .io-room .ensures .1, c .before .before .before .before .before .before .area-room .ensures .1), ((c .before .before .before .before .before .list-room .ensures .1, c .before .before .before .before .events-room .ensures .1), c .before .before .before .reply-room .ensures .1))),
+)
 
 sub-turns : tie.Need-sub-turns Inv-loop μ-loop
 sub-turns c = search needs
@@ -107,7 +112,10 @@ slice-aggregate-turn-8 : tie.Need-slice-aggregate-turn-8 Inv-loop μ-loop
 slice-aggregate-turn-8 c = search needs
 
 slice-aggregate-turn-9 : tie.Need-slice-aggregate-turn-9 Inv-loop μ-loop
-slice-aggregate-turn-9 c = search needs
+slice-aggregate-turn-9 c = sym (c .before .before .before .before .before .before .before .before .before .before .before .before .before .before .before .before .before .before .before .loop .inv .1 .1 .1 .0 .1)
+
+slice-aggregate-turn-10 : tie.Need-slice-aggregate-turn-10 Inv-loop μ-loop
+slice-aggregate-turn-10 c = search needs
 
 turn-requires : tie.Need-turn-requires Inv-loop μ-loop
 turn-requires c κs = search needs
@@ -119,12 +127,12 @@ returns-2 : tie.Need-returns-2 Inv-loop μ-loop
 returns-2 c = search needs
 
 loop-less : tie.Need-loop-less Inv-loop μ-loop
-loop-less c = omega (arith, c .before .before .before .before .before .before .before .before .before .before .before .before .before .before .before .before .before .before .before .before .before .before .before .before .before .before .before .before .before .before .loop-test .taken)
+loop-less c = omega (arith, c .before .before .before .before .before .before .before .before .before .before .before .before .before .before .before .before .before .before .before .before .before .before .before .before .before .before .before .before .before .before .before .before .loop-test .taken)
 
 loop-again : tie.Need-loop-again Inv-loop μ-loop
 loop-again c = (
-  ((c .before .before .before .before .before .before .before .before .before .before .before .before .before .before .before .before .before .before .before .before .before .before .before .before .before .before .before .before .next-line .kept .0 ∙ c .before .before .before .before .before .before .before .before .before .before .before .before .before .before .before .before .before .before .before .before .before .before .before .before .before .before .before .before .before .before .before .loop .inv .0 .0 .0, search needs), (search needs, search needs)),
-  ((search needs, search needs), ((search needs, search needs), (search needs, search needs))),
+  ((c .before .before .before .before .before .before .before .before .before .before .before .before .before .before .before .before .before .before .before .before .before .before .before .before .before .before .before .before .before .before .next-line .kept .0 ∙ c .before .before .before .before .before .before .before .before .before .before .before .before .before .before .before .before .before .before .before .before .before .before .before .before .before .before .before .before .before .before .before .before .before .loop .inv .0 .0 .0, search needs), (search needs, search needs)),
+  ((search needs, search needs), ((search needs, search needs), ((search needs, search needs), search needs))),
 )
 
 returns-3 : tie.Need-returns-3 Inv-loop μ-loop
@@ -145,6 +153,7 @@ main-spec =
     io-room-requires
     area-room-requires
     list-room-requires
+    events-room-requires
     reply-room-requires
     slice-aggregate-start
     start-requires
@@ -167,6 +176,7 @@ main-spec =
     slice-aggregate-turn-7
     slice-aggregate-turn-8
     slice-aggregate-turn-9
+    slice-aggregate-turn-10
     turn-requires
     stop-requires
     returns-2

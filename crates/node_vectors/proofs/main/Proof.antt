@@ -7,13 +7,13 @@ use Rattle.node_vectors.proofs.main.Statement.{statement}
 use Rattle.node_vectors.proofs.main.Tie as tie
 
 abbrev Inv-loop : tie.InvT-loop
-Inv-loop bytes₀ words₀ flash₀ pm₀ dm₀ io₀ area₀ list₀ reply₀ run₀ node₀ lent₀ line₀ turns₀ bytes words flash pm dm io area list reply run node lent line turns =
+Inv-loop bytes₀ words₀ flash₀ pm₀ dm₀ io₀ area₀ list₀ events₀ reply₀ run₀ node₀ lent₀ line₀ turns₀ bytes words flash pm dm io area list events reply run node lent line turns =
     ((length bytes ≡ 65536) × (length words ≡ 200) × (length run ≡ 65552))
     × ((length flash ≡ 262160) × (length pm ≡ 32784) × (length dm ≡ 32784))
-    × ((length io ≡ 4112) × (length area ≡ 32784) × (length list ≡ 6386) × (length reply ≡ 16400))
+    × ((length io ≡ 4112) × (length area ≡ 32784) × (length list ≡ 6386) × (length events ≡ 12304) × (length reply ≡ 16400))
 
 abbrev μ-loop : tie.MeasureT-loop
-μ-loop bytes₀ words₀ flash₀ pm₀ dm₀ io₀ area₀ list₀ reply₀ run₀ node₀ lent₀ line₀ turns₀ bytes words flash pm dm io area list reply run node lent line turns = turns
+μ-loop bytes₀ words₀ flash₀ pm₀ dm₀ io₀ area₀ list₀ events₀ reply₀ run₀ node₀ lent₀ line₀ turns₀ bytes words flash pm dm io area list events reply run node lent line turns = turns
 
 large-buffer-requires : tie.Need-large-buffer-requires Inv-loop μ-loop
 large-buffer-requires c κs = search needs
@@ -38,6 +38,9 @@ area-room-requires c κs = search needs
 
 list-room-requires : tie.Need-list-room-requires Inv-loop μ-loop
 list-room-requires c κs = search needs
+
+events-room-requires : tie.Need-events-room-requires Inv-loop μ-loop
+events-room-requires c κs = search needs
 
 reply-room-requires : tie.Need-reply-room-requires Inv-loop μ-loop
 reply-room-requires c κs = search needs
@@ -126,19 +129,22 @@ slice-aggregate-turn-7 c = sym (c .before .before .before .before .before .befor
 slice-aggregate-turn-8 : tie.Need-slice-aggregate-turn-8 Inv-loop μ-loop
 slice-aggregate-turn-8 c = sym (c .before .before .before .before .before .before .before .before .before .before .before .before .before .before .before .before .before .before .before .before .before .before .before .before .loop .inv .2 .3)
 
+slice-aggregate-turn-9 : tie.Need-slice-aggregate-turn-9 Inv-loop μ-loop
+slice-aggregate-turn-9 c = sym (c .before .before .before .before .before .before .before .before .before .before .before .before .before .before .before .before .before .before .before .before .before .before .before .before .before .loop .inv .2 .4)
+
 turn-requires : tie.Need-turn-requires Inv-loop μ-loop
 turn-requires c κs = search needs
 
 loop-less : tie.Need-loop-less Inv-loop μ-loop
-loop-less c = omega (arith, c .before .before .before .before .before .before .before .before .before .before .before .before .before .before .before .before .before .before .before .before .before .before .before .before .before .before .before .before .before .before .before .before .loop-test .taken)
+loop-less c = omega (arith, c .before .before .before .before .before .before .before .before .before .before .before .before .before .before .before .before .before .before .before .before .before .before .before .before .before .before .before .before .before .before .before .before .before .before .loop-test .taken)
 
 loop-again : tie.Need-loop-again Inv-loop μ-loop
 loop-again c =
-    let v = c .before .before .before .before .before .before .before .before .before .before .before .before .before .before .before .before .before .before .before .before .before .before .before .before .before .before .before .before .before .before .before .before .before .loop .inv in
-    let k = c .before .before .before .before .before .before .before .before .turn .kept in (
-      (c .before .before .before .before .before .before .before .before .before .before .before .before .before .before .before .before .before .before .before .before .before .before .before .before .before .before .before .before .before .before .next-line .kept .0 ∙ v .0 .0, c .before .before .before .before .before .before .before .before .before .before .before .before .before .before .before .before .before .before .before .before .before .before .before .words-of .kept .1 .0 ∙ v .0 .1, k .1 .0 ∙ v .0 .2),
+    let v = c .before .before .before .before .before .before .before .before .before .before .before .before .before .before .before .before .before .before .before .before .before .before .before .before .before .before .before .before .before .before .before .before .before .before .before .loop .inv in
+    let k = c .before .before .before .before .before .before .before .before .before .turn .kept in (
+      (c .before .before .before .before .before .before .before .before .before .before .before .before .before .before .before .before .before .before .before .before .before .before .before .before .before .before .before .before .before .before .before .before .next-line .kept .0 ∙ v .0 .0, c .before .before .before .before .before .before .before .before .before .before .before .before .before .before .before .before .before .before .before .before .before .before .before .before .before .words-of .kept .1 .0 ∙ v .0 .1, k .1 .0 ∙ v .0 .2),
       (k .1 .1 .1 .1 .0 ∙ v .1 .0, k .1 .1 .1 .1 .1 .0 ∙ v .1 .1, k .1 .1 .1 .1 .1 .1 .0 ∙ v .1 .2),
-      (k .1 .1 .1 .1 .1 .1 .1 .0 ∙ v .2 .0, k .1 .1 .1 .1 .1 .1 .1 .1 .0 ∙ v .2 .1, k .1 .1 .1 .1 .1 .1 .1 .1 .1 .0 ∙ v .2 .2, k .1 .1 .1 .1 .1 .1 .1 .1 .1 .1 .0 ∙ v .2 .3),
+      (k .1 .1 .1 .1 .1 .1 .1 .0 ∙ v .2 .0, k .1 .1 .1 .1 .1 .1 .1 .1 .0 ∙ v .2 .1, k .1 .1 .1 .1 .1 .1 .1 .1 .1 .0 ∙ v .2 .2, k .1 .1 .1 .1 .1 .1 .1 .1 .1 .1 .0 ∙ v .2 .3, k .1 .1 .1 .1 .1 .1 .1 .1 .1 .1 .1 .0 ∙ v .2 .4),
     )
 
 returns-2 : tie.Need-returns-2 Inv-loop μ-loop
@@ -158,6 +164,7 @@ main-spec =
     io-room-requires
     area-room-requires
     list-room-requires
+    events-room-requires
     reply-room-requires
     run-room-requires
     zeros-requires
@@ -187,6 +194,7 @@ main-spec =
     slice-aggregate-turn-6
     slice-aggregate-turn-7
     slice-aggregate-turn-8
+    slice-aggregate-turn-9
     turn-requires
     loop-less
     loop-again

@@ -54,6 +54,12 @@ first7 c = first6 (c .before .before .before)
 not-slow : (c : tie.Else7) → same (first7 c) (bytes "slow") ≡ false
 not-slow c = sym (c .before .is-same7 .ensures) ∙ c .if7 .left
 
+abbrev first8 : tie.Else8 → List ℕ
+first8 c = first7 (c .before .before .before)
+
+not-build : (c : tie.Else8) → same (first8 c) (bytes "build") ≡ false
+not-build c = sym (c .before .is-same8 .ensures) ∙ c .if8 .left
+
 slice-aggregate-is-same : tie.Need-slice-aggregate-is-same
 slice-aggregate-is-same c = search needs
 
@@ -154,13 +160,16 @@ returns-7 c =
     no _ (not-reply e1) (no _ (not-poll e2) (no _ (not-erase e3) (no _ (not-clock e4) (no _ (not-error e5) (no _ (not-help e6)
     (yes _ (sym (c .before .is-same7 .ensures) ∙ c .if7 .taken) refl))))))
 
-has-shape-requires : tie.Need-has-shape-requires
-has-shape-requires c κs = search needs
+slice-aggregate-is-same-8 : tie.Need-slice-aggregate-is-same-8
+slice-aggregate-is-same-8 c = search needs
+
+is-same-requires-8 : tie.Need-is-same-requires-8
+is-same-requires-8 c κs = search needs
 
 returns-8 : tie.Need-returns-8
 unfolding namedBy
 returns-8 c =
-    let e7 = c .before .before in
+    let e7 = c .before .before .before in
     let e6 = e7 .before .before .before in
     let e5 = e6 .before .before .before in
     let e4 = e5 .before .before .before in
@@ -168,12 +177,16 @@ returns-8 c =
     let e2 = e3 .before .before .before in
     let e1 = e2 .before .before .before in
     no _ (not-reply e1) (no _ (not-poll e2) (no _ (not-erase e3) (no _ (not-clock e4) (no _ (not-error e5) (no _ (not-help e6)
-    (no _ (not-slow e7) (yes _ (sym (c .before .has-shape .ensures) ∙ c .if8 .taken) refl)))))))
+    (no _ (not-slow e7) (yes _ (sym (c .before .is-same8 .ensures) ∙ c .if8 .taken) refl)))))))
+
+has-shape-requires : tie.Need-has-shape-requires
+has-shape-requires c κs = search needs
 
 returns-9 : tie.Need-returns-9
 unfolding namedBy
 returns-9 c =
-    let e7 = c .before .before in
+    let e8 = c .before .before in
+    let e7 = e8 .before .before .before in
     let e6 = e7 .before .before .before in
     let e5 = e6 .before .before .before in
     let e4 = e5 .before .before .before in
@@ -181,7 +194,21 @@ returns-9 c =
     let e2 = e3 .before .before .before in
     let e1 = e2 .before .before .before in
     no _ (not-reply e1) (no _ (not-poll e2) (no _ (not-erase e3) (no _ (not-clock e4) (no _ (not-error e5) (no _ (not-help e6)
-    (no _ (not-slow e7) (no _ (sym (c .before .has-shape .ensures) ∙ c .if8 .left) refl)))))))
+    (no _ (not-slow e7) (no _ (not-build e8) (yes _ (sym (c .before .has-shape .ensures) ∙ c .if9 .taken) refl))))))))
+
+returns-10 : tie.Need-returns-10
+unfolding namedBy
+returns-10 c =
+    let e8 = c .before .before in
+    let e7 = e8 .before .before .before in
+    let e6 = e7 .before .before .before in
+    let e5 = e6 .before .before .before in
+    let e4 = e5 .before .before .before in
+    let e3 = e4 .before .before .before in
+    let e2 = e3 .before .before .before in
+    let e1 = e2 .before .before .before in
+    no _ (not-reply e1) (no _ (not-poll e2) (no _ (not-erase e3) (no _ (not-clock e4) (no _ (not-error e5) (no _ (not-help e6)
+    (no _ (not-slow e7) (no _ (not-build e8) (no _ (sym (c .before .has-shape .ensures) ∙ c .if9 .left) refl))))))))
 
 pub named-by-spec : {M : Type 1} → statement M
 named-by-spec =
@@ -208,6 +235,9 @@ named-by-spec =
     slice-aggregate-is-same-7
     is-same-requires-7
     returns-7
-    has-shape-requires
+    slice-aggregate-is-same-8
+    is-same-requires-8
     returns-8
-    returns-9)
+    has-shape-requires
+    returns-9
+    returns-10)

@@ -44,6 +44,9 @@ enum-told-7 c = search needs
 enum-told-8 : tie.Need-enum-told-8
 enum-told-8 c = search needs
 
+enum-told-9 : tie.Need-enum-told-9
+enum-told-9 c = search needs
+
 returns : tie.Need-returns
 returns c =
     via (λ (k : Kind). getD (shapesOf k) (c .before .before .before .args .i) Shape.Word) (c .before .enum-told .given .1)
@@ -74,6 +77,9 @@ returns-7 c = search needs
 returns-8 : tie.Need-returns-8
 returns-8 c = search needs
 
+returns-9 : tie.Need-returns-9
+returns-9 c = search needs
+
 pub shape-at-spec : {M : Type 1} → statement M
 shape-at-spec =
     tie.close
@@ -90,6 +96,7 @@ shape-at-spec =
     enum-told-6
     enum-told-7
     enum-told-8
+    enum-told-9
     returns
     returns-2
     returns-3
@@ -97,4 +104,5 @@ shape-at-spec =
     returns-5
     returns-6
     returns-7
-    returns-8)
+    returns-8
+    returns-9)

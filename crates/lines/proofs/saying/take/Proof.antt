@@ -61,6 +61,9 @@ enum-told-7 c = search needs
 enum-told-8 : tie.Need-enum-told-8
 enum-told-8 c = search needs
 
+enum-told-9 : tie.Need-enum-told-9
+enum-told-9 c = search needs
+
 same-length : tie.Need-same-length
 same-length c = search needs
 
@@ -121,6 +124,12 @@ returns-8 c =
     says-by (fieldsFrom (a .line .now) (a .first)) (a .words .now)
     (ap (λ (k : Kind). taken k (fieldsFrom (a .line .now) (a .first))) (c .enum-told8 .given .1)) (refl, laid-none (a .words .now) 0)
 
+returns-9 : tie.Need-returns-9
+returns-9 c =
+    let a = c .before .before .before .before .args in
+    says-by (fieldsFrom (a .line .now) (a .first)) (a .words .now)
+    (ap (λ (k : Kind). taken k (fieldsFrom (a .line .now) (a .first))) (c .enum-told9 .given .1)) (refl, laid-none (a .words .now) 0)
+
 pub take-spec : {M : Type 1} → statement M
 take-spec =
     tie.close
@@ -137,6 +146,7 @@ take-spec =
     enum-told-6
     enum-told-7
     enum-told-8
+    enum-told-9
     same-length
     returns
     same-length-2
@@ -146,4 +156,5 @@ take-spec =
     returns-5
     returns-6
     returns-7
-    returns-8)
+    returns-8
+    returns-9)

@@ -4,7 +4,7 @@ use lib.ListN.{replicate}
 use borrow.Author.Needs.{needs}
 use Rattle.flash.specs.declared.Erasing.{Erasing}
 use Rattle.qlist.specs.Words.{listing}
-use Rattle.node.specs.State.{node, counts}
+use Rattle.node.specs.State.{node, counts, known}
 use Rattle.node.specs.Calls.{given}
 use Rattle.node.specs.declared.Pending.{Pending}
 use Rattle.node.specs.declared.Writing.{Writing}
@@ -18,7 +18,7 @@ write-before-requires c κs = search needs
 returns : tie.Need-returns
 returns c =
     ap
-    (λ (w : Writing). node (replicate 16 0) empty (given 1 1 0 0 0 0 0 (c .before .args .flash)) 2 (counts 0 0) Erasing.Nothing Pending.Nothing w (listing 0 0))
+    (λ (w : Writing). node (replicate 16 0) empty (given 1 1 0 0 0 0 0 (c .before .args .flash)) 2 (counts 0 0) Erasing.Nothing Pending.Nothing w (listing 0 0) (known 0 0 0))
     (c .write-before .ensures)
 
 pub node-before-spec : {M : Type 1} → statement M

@@ -14,7 +14,7 @@ use Rattle.perf.proofs.packets.perf_packet.Tie as tie
 abbrev sent : tie.Start → Node → Outcome
 sent s n =
     requestOf n 0 0 (s .args .bc) false (s .args .packet .now)
-    (lent (s .args .flash .now) (memories (s .args .pm .now) (s .args .dm .now) (s .args .io .now)) (further (s .args .area .now) (s .args .list .now)) (s .args .reply .now))
+    (lent (s .args .flash .now) (memories (s .args .pm .now) (s .args .dm .now) (s .args .io .now)) (further (s .args .area .now) (s .args .list .now) (s .args .events .now)) (s .args .reply .now))
 
 node-before-requires : tie.Need-node-before-requires
 node-before-requires c κs = search needs
@@ -48,7 +48,7 @@ same-length-7 c = search needs
 
 returns : tie.Need-returns
 returns c =
-    let s = c .before .before .before .before .before .before .before .before .before .before .before .before .before .before .before .before .before .before .before .before .before .before .before .before .before .before .before .before .before .before .before .before in
+    let s = c .before .before .before .before .before .before .before .before .before .before .before .before .before .before .before .before .before .before .before .before .before .before .before .before .before .before .before .before .before .before .before .before .before in
     let e = c .before .before .before .before .before .before .before .before .before .before .before .before .before .before .before .request .ensures ∙ ap (sent s) (c .before .before .before .before .before .before .before .before .before .before .before .before .before .before .before .before .before .before .before .before .before .before .before .node-before .ensures) in
     (ap (λ (o : Outcome). o .after) e, c .bc-in .ensures ∙ ap (λ (o : Outcome). bcIn (o .turn .answer)) e)
 
