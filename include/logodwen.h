@@ -1,11 +1,12 @@
 /* logodwen.h: the reference node for a host in C (liblogodwen.a).
 
-   A node is a state machine without memory of its own: the host keeps the node's state as 192 bytes, its flash, its memories and its
-   Q-List as runs of bytes, and lends them to each call. There are seven calls, and two entries that need no node:
+   A node is a state machine without memory of its own: the host keeps the node's state as 208 bytes, its flash, its memories, its Q-List
+   and its event area as runs of bytes, and lends them to each call. There are eight calls, and two entries that need no node:
 
        logodwen_start      a node starts on a flash
        logodwen_request    a packet from a master came in on a link
        logodwen_requests   a list of such packets, one after the other in one call
+       logodwen_build      an event build begins: the slaves of mask 0 are asked for their events
        logodwen_reply      a packet from a slave came in
        logodwen_poll       time went by while a slave is being asked
        logodwen_erase      a bit of an erasure that is going on is done
@@ -17,31 +18,35 @@
    bytes that it is lent, and touches no byte outside the lent runs: that is proved, so no input has to be kept away from it.
 
    Around the calls stand helpers in plain C, in the order in which a host needs them: what was answered, taken apart; words in bytes; a
-   node in one struct, with the calls on it; the Q-List, read; files and segments, built and read; requests; lists of requests; replies,
-   read. They are tested, not proved.
+   node in one struct, with the calls on it; the Q-List, read; files and segments, built and read; requests; lists of requests; replies
+   and events, read. They are tested, not proved.
    None of them reads or writes past the length that it is given, whatever the bytes say.
 
    What the host must see to
    - Before the first start the state bytes are zero: zero is no node's state, and every other call refuses it.
    - The runs lent to one call do not overlap. No entry can test that. Apart from that they may stand anywhere; none must be aligned.
    - A run of no bytes may be lent as NULL with length 0.
-   - While a group is pending (an answer was LOGODWEN_ASK or LOGODWEN_SEND_NEXT), the words from 0 on of the reply buffer hold what was
+   - While a group is pending (an answer was LOGODWEN_ASK, or LOGODWEN_SEND_NEXT in it), the words from 0 on of the reply buffer hold what was
      gathered so far: the fragments of the slaves that are done and, where the slave now asked answers in packets, those of its packets
      that have come, from one word behind the fragments on. The host leaves the buffer as it is until the answer LOGODWEN_REPLY comes.
      The reply buffer is zeroed at power-up. A list of requests is not lent it: its replies go to a run of their own.
+   - While an event build is pending (an answer was LOGODWEN_ASK_EVENT, or LOGODWEN_SEND_NEXT in it), the same holds for the event area: word
+     0 is for the event's number, and the fragments stand from word 1 on. The host leaves the area as it is until the answer is
+     LOGODWEN_BUILT or LOGODWEN_NO_EVENT; and an event that was built, until it is read: Read Event hands out what stands there.
    - While a file comes in several packets (an answer was NEXT), the words from 0 on of the area hold what was joined so far, and the host
      leaves the area as it is until the last packet is answered or the file is dropped. Every request is lent the area.
    - The records of the entries listed are the node's: the host reads them and leaves them as they are, and lends the same run to every
      request and every slow-control step. If it changes one, the node goes on with what stands there, and its count of repetitions is the
      host's to answer for. Records behind those listed may hold anything: none is read, and only a Q-List Write stores there.
    - The host keeps the request that made the node ask a slave: it sends it on to each slave that the node asks, from the word that
-     the answer tells. The node does not keep it. A slave that is to be sent NEXT gets no word of it (logodwen_to_send).
+     the answer tells. The node does not keep it. A slave that is to be sent NEXT gets no word of it, and of an event build there is no
+     request to keep: each slave is sent Read Event (logodwen_to_send).
 
    Threads: the library has no global variables, keeps nothing between calls and allocates nothing. Calls on different runs may go on
    at the same time in different threads; calls that share a run (the state above all) may not.
 
    Words: a word is two bytes, a word of program memory (PM) four, the low byte first. Of a PM word the low 24 bits count, and a store
-   clears the others. The seven calls and logodwen_capture take lengths in bytes (`_len`); bytes that are not a whole word at the end of a
+   clears the others. The eight calls and logodwen_capture take lengths in bytes (`_len`); bytes that are not a whole word at the end of a
    run, or not a whole record of the Q-List, are ignored, and stay as they are. Only a flash with a byte over is refused: it has one of two
    sizes, to the byte. The helpers count in words (`words`, `count`, `room`), or in records.
 
@@ -64,10 +69,10 @@ extern "C" {
 #endif
 
 /* The version of this interface. It is part of every symbol, so a host that was compiled against another version does not link. */
-#define LOGODWEN_VERSION 5
+#define LOGODWEN_VERSION 6
 
 /* Sizes. */
-#define LOGODWEN_STATE_BYTES 192u         /* of a node's state, exactly; the layout is at the end of this file */
+#define LOGODWEN_STATE_BYTES 208u         /* of a node's state, exactly; the layout is at the end of this file */
 #define LOGODWEN_FLASH_WORDS 32768u       /* of a flash of bench size, exactly */
 #define LOGODWEN_FLASH_BYTES 65536u
 #define LOGODWEN_FLASH_FULL_WORDS 262144u /* of one of full size, exactly */
@@ -81,6 +86,8 @@ extern "C" {
 #define LOGODWEN_LIST_RECORDS 910u        /* of the Q-List, at most; as many as are listed at least */
 #define LOGODWEN_RECORD_BYTES 14u
 #define LOGODWEN_LIST_BYTES 12740u
+#define LOGODWEN_EVENTS_WORDS 12288u      /* of the event area, at least; and of an event, at most */
+#define LOGODWEN_EVENTS_BYTES 24576u
 #define LOGODWEN_PM_WORDS 8192u           /* of program memory, at most; words of four bytes */
 #define LOGODWEN_PM_BYTES 32768u
 #define LOGODWEN_DM_WORDS 8192u           /* of data memory, at most */
@@ -97,6 +104,7 @@ extern "C" {
 #define LOGODWEN_SLAVES 24u
 #define LOGODWEN_MASKS 16u
 #define LOGODWEN_LATE_TICKS 60u
+#define LOGODWEN_EVENT_ASKS 3u            /* times that a slave is asked for its event, at most */
 
 /* The stack that each entry needs, in bytes. They were measured on the archive, over calls that go through all of an entry's work on a flash of
    either size, in a thread with a painted stack (host/test/stack.c), and rounded up; no entry calls itself, so no input makes it more. */
@@ -105,6 +113,7 @@ extern "C" {
 #define LOGODWEN_STACK_REQUESTS 147456u
 #define LOGODWEN_STACK_REPLY 98304u
 #define LOGODWEN_STACK_POLL 4096u
+#define LOGODWEN_STACK_BUILD 4096u
 #define LOGODWEN_STACK_ERASE 4096u
 #define LOGODWEN_STACK_SLOW 4096u
 #define LOGODWEN_STACK_FCS 4096u
@@ -115,8 +124,8 @@ extern "C" {
 #define LOGODWEN_CDDC 2u /* forwards to slaves 0 to 23 */
 
 /* BC, the two bits that come with a packet. Bit 1 (BC1) marks the first packet of a block, bit 0 (BC2) the last. A packet with words
-   that is a whole block has 3; a File Write may come as a block of several, and so may a slave's reply to a group. A packet of no words
-   says one of four things by its BC. */
+   that is a whole block has 3; a File Write may come as a block of several, and so may a slave's reply to a group or in an event build. A
+   packet of no words says one of four things by its BC. */
 #define LOGODWEN_BC_WHOLE 3u
 #define LOGODWEN_BC_FIRST 2u
 #define LOGODWEN_BC_MIDDLE 0u
@@ -129,16 +138,17 @@ extern "C" {
 
 /* Why a call is refused. They are tested in this order, each where the call has that input, and the first that holds is answered. */
 #define LOGODWEN_DONE 0u
-#define LOGODWEN_REFUSED_FLASH_SIZE 1u  /* the flash is not 65,536 or 524,288 bytes, or not of the size used at start */
-#define LOGODWEN_REFUSED_REPLY_SIZE 2u  /* the reply buffer is below 12,288 words */
-#define LOGODWEN_REFUSED_MEMORY_SIZE 3u /* PM or DM above 8,192 words, IO above 4,096, or a slave's reply above 32,768 */
-#define LOGODWEN_REFUSED_AREA_SIZE 8u   /* the area is below 32,768 words: tested here, between 3 and 4 */
-#define LOGODWEN_REFUSED_LIST_SIZE 9u   /* the Q-List is above 910 records, or below the entries listed: tested here, after 8 */
-#define LOGODWEN_REFUSED_NUMBER 4u      /* a link that is no port; a slave above 23; at start a kind, ports or sub-detector that is none */
-#define LOGODWEN_REFUSED_STATE 5u       /* the state bytes are not 192, or not those of a node's state */
-#define LOGODWEN_REFUSED_BUSY 6u        /* a request with words, while a request is pending */
-#define LOGODWEN_REFUSED_UNASKED 7u     /* a reply or a poll with nothing pending, or a reply from a slave that is not being asked */
-#define LOGODWEN_REFUSED_OVERRUN 10u    /* of a list of requests, and its only one: a packet, or its three words, runs past the list's end */
+#define LOGODWEN_REFUSED_FLASH_SIZE 1u   /* the flash is not 65,536 or 524,288 bytes, or not of the size used at start */
+#define LOGODWEN_REFUSED_REPLY_SIZE 2u   /* the reply buffer is below 12,288 words */
+#define LOGODWEN_REFUSED_MEMORY_SIZE 3u  /* PM or DM above 8,192 words, IO above 4,096, or a slave's reply above 32,768 */
+#define LOGODWEN_REFUSED_AREA_SIZE 8u    /* the area is below 32,768 words: tested here, between 3 and 4 */
+#define LOGODWEN_REFUSED_LIST_SIZE 9u    /* the Q-List is above 910 records, or below the entries listed: tested here, after 8 */
+#define LOGODWEN_REFUSED_EVENTS_SIZE 11u /* the event area is below 12,288 words: tested here, after 9 */
+#define LOGODWEN_REFUSED_NUMBER 4u       /* a link that is no port; a slave above 23; at start a kind, ports or sub-detector that is none */
+#define LOGODWEN_REFUSED_STATE 5u        /* the state bytes are not 208, or not those of a node's state */
+#define LOGODWEN_REFUSED_BUSY 6u         /* a request with words, or an event build, while a request or a build is pending */
+#define LOGODWEN_REFUSED_UNASKED 7u      /* a reply or a poll with nothing pending, or a reply from a slave that is not being asked */
+#define LOGODWEN_REFUSED_OVERRUN 10u     /* of a list of requests, and its only one: a packet, or its three words, runs past the list's end */
 
 /* What a call that is not refused answers: see logodwen_answer and those below it. */
 #define LOGODWEN_REPLY 1u     /* a reply to the master stands in the reply buffer, or has no words */
@@ -150,12 +160,15 @@ extern "C" {
 #define LOGODWEN_NOTHING 7u   /* slow only: nothing is to be carried out now */
 #define LOGODWEN_SEND_NEXT 8u /* reply only: the slave that is being asked is to be sent NEXT, a packet of no words with BC 0, since its
                                  reply comes in packets; what it answers to that is given to the next logodwen_reply */
+#define LOGODWEN_ASK_EVENT 9u /* build, reply, poll: a slave is to be sent Read Event, the one word 0x012E with BC 3 */
+#define LOGODWEN_NO_EVENT 10u /* reply, poll: the build is over, and no slave had data: there is no event */
+#define LOGODWEN_BUILT 11u    /* reply, poll: the build is over, and an event stands in the event area, to be read by Read Event */
 
-/* The entries. Names that begin with logodwen5_ are the symbols of the archive; a host writes the short names below. */
+/* The entries. Names that begin with logodwen6_ are the symbols of the archive; a host writes the short names below. */
 
 /* Starts a node on a flash: reads all of it once, and writes the state. Mask 0 of a CDDC then names all 24 slaves, and a host that wants
-   it empty writes zero (logodwen_make_mask_write); its masks 1 to 15, and all masks of a CDP, are 0. Answers 0, or why it is refused: 1,
-   4 or 5; the state bytes then stay as they were.
+   it empty writes zero (logodwen_make_mask_write); its masks 1 to 15, and all masks of a CDP, are 0. No event is unread, and the next one
+   is event 1. Answers 0, or why it is refused: 1, 4 or 5; the state bytes then stay as they were.
      kind                  LOGODWEN_CDP or LOGODWEN_CDDC
      ports                 links to masters, 1 to 4
      subdetector           0 to 7
@@ -164,28 +177,29 @@ extern "C" {
      start_tests           results of the tests at start, bits 11 to 8; other bits are ignored
      clock                 the time now
      flash                 65,536 or 524,288 bytes: every later call is lent as many */
-uint32_t logodwen5_start(uint32_t kind, uint32_t ports, uint32_t subdetector,
+uint32_t logodwen6_start(uint32_t kind, uint32_t ports, uint32_t subdetector,
                          uint16_t program_version, uint16_t subdetector_version, uint16_t start_tests,
                          uint32_t clock,
                          const uint8_t *flash, size_t flash_len,
                          uint8_t *state, size_t state_len);
 
-/* A packet from a master. Refused: 1, 2, 3, 8, 9, 4, 5 or 6. Answers a reply or asks a slave.
+/* A packet from a master. Refused: 1, 2, 3, 8, 9, 11, 4, 5 or 6. Answers a reply or asks a slave.
      now                   the time now
      link                  the link it came in on, below the ports given at start
      bc                    its BC; bits above bit 1 are ignored
      receive_error         0, or any other number if the receiver noticed an error
      packet                its words; of no words with BC 2, it drops what is that link's: the pending request, the file that comes in
-                           several packets
+                           several packets. An event build is no link's, and is not dropped
      state, flash, pm, dm, io, area, list, reply
                            the node's own, each changed as the request has it. Of the area only the words of a packet that joins are
                            written, of the list only records by a command on it, of the reply buffer the words of a reply that has some.
+     events                the event area, read by Read Event and by nothing else
    A File Write whose file has no room in one packet comes in several, from one link: the first with BC 2, whose word 0 is 0x452E; others
    with BC 0, the last with BC 1, which have words of the file alone. Each but the last is answered NEXT, and nothing is tested of the
    words that it brings; the last is answered as a File Write of them all. At most one file comes so at a time, and requests of other
    links go on meanwhile. It is dropped, and nothing of it stored, where it gets longer than 32,768 words (ABORT), by a packet with words
    and BC 2 or 3 from its link (ERROR), or by one of no words and BC 2 (END). */
-uint64_t logodwen5_request(uint32_t now, uint32_t link, uint32_t bc, uint32_t receive_error,
+uint64_t logodwen6_request(uint32_t now, uint32_t link, uint32_t bc, uint32_t receive_error,
                            const uint8_t *packet, size_t packet_len,
                            uint8_t *state, size_t state_len,
                            uint8_t *flash, size_t flash_len,
@@ -194,13 +208,14 @@ uint64_t logodwen5_request(uint32_t now, uint32_t link, uint32_t bc, uint32_t re
                            uint8_t *io, size_t io_len,
                            uint8_t *area, size_t area_len,
                            uint8_t *list, size_t list_len,
+                           const uint8_t *events, size_t events_len,
                            uint8_t *reply, size_t reply_len);
 
 /* A list of packets from masters, in one call: what logodwen_request does with each, in their order, at one time and without receive errors;
    each reply goes behind the one before. Refused: 10 alone, where a packet, or the three words before one, runs past the end of the list,
    wherever that is: the list is walked to its end first, and nothing is done. Else it stops before the first packet that
      - would ask a slave, or
-     - would be refused by itself, by 1, 2, 3, 8, 9, 4, 5 or 6, or
+     - would be refused by itself, by 1, 2, 3, 8, 9, 11, 4, 5 or 6, or
      - has a BC above 3, or
      - finds fewer than 12,290 words of room behind the replies before it,
    and answers how many were done (logodwen_done): all of them, or those before that one. State, runs and replies are as the calls one by one
@@ -208,11 +223,11 @@ uint64_t logodwen5_request(uint32_t now, uint32_t link, uint32_t bc, uint32_t re
    refusal; what it is, logodwen_request says of that packet. An empty list is done, with 0.
      now                   the time now, of all packets
      packets               the packets in a row, each behind three words: its link, its BC, and how many words it has (logodwen_packets_add)
-     state, flash, pm, dm, io, area, list
+     state, flash, pm, dm, io, area, list, events
                            the node's own, as above
      replies               the replies in a row, each behind two words: its BC, and how many words it has (logodwen_read_reply). Words past
                            the last one stay as they are */
-uint64_t logodwen5_requests(uint32_t now,
+uint64_t logodwen6_requests(uint32_t now,
                             const uint8_t *packets, size_t packets_len,
                             uint8_t *state, size_t state_len,
                             uint8_t *flash, size_t flash_len,
@@ -221,32 +236,51 @@ uint64_t logodwen5_requests(uint32_t now,
                             uint8_t *io, size_t io_len,
                             uint8_t *area, size_t area_len,
                             uint8_t *list, size_t list_len,
+                            const uint8_t *events, size_t events_len,
                             uint8_t *replies, size_t replies_len);
 
-/* A packet from the slave that is being asked. Refused: 2, 3, 4, 5 or 7. Answers a reply, asks the next slave, or has this one sent NEXT.
+/* Begins an event build: the slaves of mask 0 are asked for Read Event, from the lowest on, and what they answer is put together in the event
+   area. Refused: 11, 5 or 6. Answers LOGODWEN_ASK_EVENT with the lowest slave; or a reply, ABORT, and nothing is changed: of a CDP, where
+   mask 0 is empty, or while the event before is unread.
+     now                   the time now: the slave has 60 ticks from then on
+     events                the event area, of which the call itself writes no byte
+   The build goes on by logodwen_reply and logodwen_poll, as a group does, and no request with words is taken until it is over. A slave that
+   answers END is asked again at once, three times in all. The build ends with LOGODWEN_NO_EVENT where no slave had data; the next event then has
+   the same number. Else with LOGODWEN_BUILT: the event is the first words of the event area (logodwen_words; logodwen_read_event), to be
+   handed out to the first Read Event that asks for it; until then no other build begins. Nothing drops a build but an accepted start. */
+uint64_t logodwen6_build(uint32_t now,
+                         uint8_t *state, size_t state_len,
+                         const uint8_t *events, size_t events_len);
+
+/* A packet from the slave that is being asked. Refused: 2, 3, 11, 4, 5 or 7. Answers a reply, asks the next slave, or has this one sent NEXT;
+   in an event build it asks the next slave for its event, or this one again, or says how the build ended.
      slave                 the slave it came from, 0 to 23
      bc, receive_error     as above
-     rx_status, rx_address two words of the receiver, told in the group's reply where something was wrong
-   In a group a slave's reply may come in several packets: the first with BC 2, others with BC 0, the last with BC 1. Each but the last is
-   answered LOGODWEN_SEND_NEXT, and its words stand in the reply buffer behind the fragments; the slave is sent NEXT, and has 60 ticks anew.
+     rx_status, rx_address two words of the receiver, told in the group's reply, or in the event, where something was wrong
+     events, reply         the event area, written in a build alone, and the reply buffer, written otherwise alone. Both are lent to every reply,
+                           whatever is pending, and each is refused where it is too short
+   In a group, and in a build, a slave's reply may come in several packets: the first with BC 2, others with BC 0, the last with BC 1. Each but
+   the last is answered LOGODWEN_SEND_NEXT, and its words stand behind the fragments; the slave is sent NEXT, and has 60 ticks anew.
    The last is answered as if all the words had come in one, with the FCS at their very end. Where something is wrong with a packet, the
    reply is over: the fragment says what it was (LOGODWEN_CODE_..), and the next slave is asked. What had come of it stays in the buffer and
    counts as nothing. A single slave's packet goes to the master as it is, whatever its BC, and the request is over. */
-uint64_t logodwen5_reply(uint32_t now, uint32_t slave, uint32_t bc, uint32_t receive_error,
+uint64_t logodwen6_reply(uint32_t now, uint32_t slave, uint32_t bc, uint32_t receive_error,
                          uint16_t rx_status, uint16_t rx_address,
                          const uint8_t *packet, size_t packet_len,
                          uint8_t *state, size_t state_len,
+                         uint8_t *events, size_t events_len,
                          uint8_t *reply, size_t reply_len);
 
-/* Time went by while a slave is being asked. Refused: 2, 5 or 7. Answers that the node waits; or the slave is late, after NEXT too, and it
-   answers a reply or asks the next slave. */
-uint64_t logodwen5_poll(uint32_t now,
+/* Time went by while a slave is being asked. Refused: 2, 11, 5 or 7. Answers that the node waits; or the slave is late, after NEXT too, and it
+   answers what logodwen_reply does of a packet that comes too late; so in an event build it asks the next slave, or says how the build ended. */
+uint64_t logodwen6_poll(uint32_t now,
                         uint8_t *state, size_t state_len,
+                        uint8_t *events, size_t events_len,
                         uint8_t *reply, size_t reply_len);
 
 /* Goes on with an erasure that a request began: sets up to `budget` words of the sector to FFFF, from its low end. Refused: 1 or 5.
    Answers how many words it set (logodwen_words); 0 where the budget is 0 or nothing is being erased. */
-uint64_t logodwen5_erase(uint64_t budget,
+uint64_t logodwen6_erase(uint64_t budget,
                          uint8_t *state, size_t state_len,
                          uint8_t *flash, size_t flash_len);
 
@@ -257,13 +291,13 @@ uint64_t logodwen5_erase(uint64_t budget,
    no call takes longer for a longer list.
      now                   the time now. An entry is due where now less its due time, modulo 2^32, is below 2^31
      list                  the records, of which at most the 14 bytes of that entry are written */
-uint64_t logodwen5_slow(uint32_t now,
+uint64_t logodwen6_slow(uint32_t now,
                         uint8_t *state, size_t state_len,
                         uint8_t *list, size_t list_len);
 
 /* The check sequence (FCS) of the words of bytes: polynomial 0x1021, start 0xFFFF, high byte of each word first. A last byte alone is
    ignored. */
-uint16_t logodwen5_fcs(const uint8_t *bytes, size_t len);
+uint16_t logodwen6_fcs(const uint8_t *bytes, size_t len);
 
 /* Whether words that some node sent are a group's reply, by the rules by which this node assembles one. It is never refused, changes
    nothing, and needs no node. Answers LOGODWEN_ACCEPTED: answers of the slaves exist from which this node assembles just these words, and
@@ -273,19 +307,20 @@ uint16_t logodwen5_fcs(const uint8_t *bytes, size_t len);
      mask                  the slaves that were asked, bit s for slave s. An empty one, or one with a bit above 23, has no reply: broken at 0
      words                 the reply, status word and FCS included. No words are broken at 0: where every slave answers the same without
                            words, that answer is the group's reply, and it has no fragments */
-uint64_t logodwen5_capture(uint32_t mask, const uint8_t *words, size_t words_len);
+uint64_t logodwen6_capture(uint32_t mask, const uint8_t *words, size_t words_len);
 
-#define logodwen_start logodwen5_start
-#define logodwen_request logodwen5_request
-#define logodwen_requests logodwen5_requests
-#define logodwen_reply logodwen5_reply
-#define logodwen_poll logodwen5_poll
-#define logodwen_erase logodwen5_erase
-#define logodwen_slow logodwen5_slow
-#define logodwen_capture logodwen5_capture
+#define logodwen_start logodwen6_start
+#define logodwen_request logodwen6_request
+#define logodwen_requests logodwen6_requests
+#define logodwen_build logodwen6_build
+#define logodwen_reply logodwen6_reply
+#define logodwen_poll logodwen6_poll
+#define logodwen_erase logodwen6_erase
+#define logodwen_slow logodwen6_slow
+#define logodwen_capture logodwen6_capture
 
 /* The same of so many words. It ends a segment's body and every reply that has words. */
-static inline uint16_t logodwen_fcs(const uint8_t *bytes, size_t words) { return logodwen5_fcs(bytes, 2 * words); }
+static inline uint16_t logodwen_fcs(const uint8_t *bytes, size_t words) { return logodwen6_fcs(bytes, 2 * words); }
 
 /* ---- What was answered, taken apart. A call that is refused has no other part. ---- */
 
@@ -295,8 +330,9 @@ static inline uint16_t logodwen_fcs(const uint8_t *bytes, size_t words) { return
 /* Why the call was refused, or LOGODWEN_DONE. */
 static inline unsigned logodwen_refusal(uint64_t answered) { return (unsigned)(answered & 0xFFu); }
 
-/* LOGODWEN_REPLY, LOGODWEN_ASK, LOGODWEN_SEND_NEXT or LOGODWEN_WAITING, of logodwen_slow LOGODWEN_HANDED or LOGODWEN_NOTHING, of
-   logodwen_capture LOGODWEN_ACCEPTED or LOGODWEN_BROKEN; 0 of a call that was refused, of logodwen_requests and of logodwen_erase. */
+/* LOGODWEN_REPLY, LOGODWEN_ASK, LOGODWEN_SEND_NEXT or LOGODWEN_WAITING, in an event build LOGODWEN_ASK_EVENT, LOGODWEN_NO_EVENT or
+   LOGODWEN_BUILT, of logodwen_slow LOGODWEN_HANDED or LOGODWEN_NOTHING, of logodwen_capture LOGODWEN_ACCEPTED or LOGODWEN_BROKEN; 0 of a
+   call that was refused, of logodwen_requests and of logodwen_erase. */
 static inline unsigned logodwen_answer(uint64_t answered) { return (unsigned)(answered >> 8 & 0xFFu); }
 
 /* Of LOGODWEN_REPLY: its BC. Else LOGODWEN_NONE. */
@@ -309,8 +345,8 @@ static inline bool logodwen_has_place(uint64_t answered) {
     return logodwen_answer(answered) == LOGODWEN_BROKEN || logodwen_answer(answered) == LOGODWEN_HANDED;
 }
 
-/* Of LOGODWEN_REPLY: how many words of the reply buffer it has, from word 0 on. Of logodwen_erase: how many words were set. Else 0, but for
-   logodwen_requests, whose number is logodwen_done. */
+/* Of LOGODWEN_REPLY: how many words of the reply buffer it has, from word 0 on. Of LOGODWEN_BUILT: how many words of the event area the event
+   has. Of logodwen_erase: how many words were set. Else 0, but for logodwen_requests, whose number is logodwen_done. */
 static inline uint32_t logodwen_words(uint64_t answered) { return logodwen_has_place(answered) ? 0 : (uint32_t)(answered >> 32); }
 
 /* Of logodwen_requests: how many packets of the list were done; 0 where it was refused. */
@@ -320,10 +356,11 @@ static inline uint32_t logodwen_done(uint64_t answered) { return (uint32_t)(answ
    logodwen_read_record reads. Counted from 0. Else LOGODWEN_NONE. */
 static inline uint32_t logodwen_place(uint64_t answered) { return logodwen_has_place(answered) ? (uint32_t)(answered >> 32) : LOGODWEN_NONE; }
 
-/* Of LOGODWEN_ASK and LOGODWEN_SEND_NEXT: the slave. Else LOGODWEN_NONE. */
+/* Of LOGODWEN_ASK, LOGODWEN_ASK_EVENT and LOGODWEN_SEND_NEXT: the slave. Else LOGODWEN_NONE. */
 static inline unsigned logodwen_slave(uint64_t answered) {
     unsigned answer = logodwen_answer(answered);
-    return answer == LOGODWEN_ASK || answer == LOGODWEN_SEND_NEXT ? (unsigned)(answered >> 16 & 0xFFu) : LOGODWEN_NONE;
+    bool has_slave = answer == LOGODWEN_ASK || answer == LOGODWEN_ASK_EVENT || answer == LOGODWEN_SEND_NEXT;
+    return has_slave ? (unsigned)(answered >> 16 & 0xFFu) : LOGODWEN_NONE;
 }
 
 /* Of LOGODWEN_ASK: the word of the request from which it is sent on, 1 or 2. Else LOGODWEN_NONE. */
@@ -339,18 +376,20 @@ struct logodwen_packet {
 };
 
 /* What the slave is to be sent: of LOGODWEN_ASK the request that the host keeps, from the word on that the answer tells; of
-   LOGODWEN_SEND_NEXT no words, with BC 0. False of any other answer, and of a request with no word from there on, which is not the one
-   that made the node ask; `packet` is left then. So the loop over a group is one, however its slaves answer (examples/group.c):
+   LOGODWEN_ASK_EVENT the word of Read Event; of LOGODWEN_SEND_NEXT no words, with BC 0. False of any other answer, and of a request with no
+   word from there on, which is not the one that made the node ask; `packet` is left then. So the loop over a group is one, however its
+   slaves answer (examples/group.c), and over an event build the same, with NULL and 0 for the request (examples/event.c):
 
        while (logodwen_to_send(answered, request, words, &packet)) {
            .. send `packet` to slave logodwen_slave(answered)
            .. answered = what logodwen_reply answers to its packet, or logodwen_poll where it no longer says LOGODWEN_WAITING
        } */
 static inline bool logodwen_to_send(uint64_t answered, const uint8_t *request, size_t words, struct logodwen_packet *packet) {
-    const struct logodwen_packet next = {NULL, 0, LOGODWEN_BC_NEXT};
+    static const uint8_t read_event[2] = {0x2E, 0x01};
+    const struct logodwen_packet next = {NULL, 0, LOGODWEN_BC_NEXT}, event = {read_event, 1, LOGODWEN_BC_WHOLE};
     size_t from = logodwen_from(answered);
-    if (logodwen_answer(answered) == LOGODWEN_SEND_NEXT) {
-        *packet = next;
+    if (logodwen_answer(answered) == LOGODWEN_SEND_NEXT || logodwen_answer(answered) == LOGODWEN_ASK_EVENT) {
+        *packet = logodwen_answer(answered) == LOGODWEN_SEND_NEXT ? next : event;
         return true;
     }
     if (logodwen_answer(answered) != LOGODWEN_ASK || from >= words) return false;
@@ -369,11 +408,12 @@ static inline const char *logodwen_refusal_text(unsigned refusal) {
     case LOGODWEN_REFUSED_MEMORY_SIZE: return "3: PM, DM, IO or a slave's reply is too long";
     case LOGODWEN_REFUSED_NUMBER: return "4: a link, slave, kind, port count or sub-detector that is none";
     case LOGODWEN_REFUSED_STATE: return "5: the state bytes are not those of a node's state";
-    case LOGODWEN_REFUSED_BUSY: return "6: a request while one is pending";
+    case LOGODWEN_REFUSED_BUSY: return "6: a request or a build while one is pending";
     case LOGODWEN_REFUSED_UNASKED: return "7: nothing is pending, or another slave is being asked";
     case LOGODWEN_REFUSED_AREA_SIZE: return "8: the area is below 32,768 words";
     case LOGODWEN_REFUSED_LIST_SIZE: return "9: the Q-List is above 910 records, or has fewer than are listed";
     case LOGODWEN_REFUSED_OVERRUN: return "10: a packet, or its three words, runs past the end of the list";
+    case LOGODWEN_REFUSED_EVENTS_SIZE: return "11: the event area is below 12,288 words";
     default: return "not a refusal";
     }
 }
@@ -431,12 +471,13 @@ static inline void logodwen_put_pm(uint8_t *bytes, size_t word, uint32_t value) 
 
    A copy of the struct lends the same flash, not a copy of it. */
 struct logodwen_node {
-    uint8_t state[LOGODWEN_STATE_BYTES], area[LOGODWEN_AREA_BYTES], list[LOGODWEN_LIST_BYTES], reply[LOGODWEN_REPLY_BYTES];
+    uint8_t state[LOGODWEN_STATE_BYTES], area[LOGODWEN_AREA_BYTES], list[LOGODWEN_LIST_BYTES], events[LOGODWEN_EVENTS_BYTES];
+    uint8_t reply[LOGODWEN_REPLY_BYTES];
     uint8_t *flash, *pm, *dm, *io;
     size_t flash_len, pm_len, dm_len, io_len; /* in bytes */
 };
 
-/* What is given at start: see logodwen5_start. */
+/* What is given at start: see logodwen6_start. */
 struct logodwen_given {
     uint32_t kind, ports, subdetector;
     uint16_t program_version, subdetector_version, start_tests;
@@ -458,7 +499,8 @@ static inline uint64_t logodwen_node_request(struct logodwen_node *node, uint32_
                                              uint32_t receive_error, const uint8_t *packet, size_t words) {
     return logodwen_request(now, link, bc, receive_error, packet, 2 * words, node->state, sizeof node->state, node->flash,
                             node->flash_len, node->pm, node->pm_len, node->dm, node->dm_len, node->io, node->io_len, node->area,
-                            sizeof node->area, node->list, sizeof node->list, node->reply, sizeof node->reply);
+                            sizeof node->area, node->list, sizeof node->list, node->events, sizeof node->events, node->reply,
+                            sizeof node->reply);
 }
 
 /* A request that came in whole and without errors. */
@@ -468,20 +510,24 @@ static inline uint64_t logodwen_node_send(struct logodwen_node *node, uint32_t n
 }
 
 /* A request of no words that drops what is this link's: the pending request, the file that comes in packets. Answers END; ABORT where it
-   has neither. */
+   has neither. No link drops an event build. */
 static inline uint64_t logodwen_node_drop(struct logodwen_node *node, uint32_t now, uint32_t link) {
     return logodwen_node_request(node, now, link, LOGODWEN_BC_ABORT, 0, NULL, 0);
+}
+
+static inline uint64_t logodwen_node_build(struct logodwen_node *node, uint32_t now) {
+    return logodwen_build(now, node->state, sizeof node->state, node->events, sizeof node->events);
 }
 
 static inline uint64_t logodwen_node_reply(struct logodwen_node *node, uint32_t now, uint32_t slave, uint32_t bc,
                                            uint32_t receive_error, uint16_t rx_status, uint16_t rx_address, const uint8_t *packet,
                                            size_t words) {
     return logodwen_reply(now, slave, bc, receive_error, rx_status, rx_address, packet, 2 * words, node->state, sizeof node->state,
-                          node->reply, sizeof node->reply);
+                          node->events, sizeof node->events, node->reply, sizeof node->reply);
 }
 
 static inline uint64_t logodwen_node_poll(struct logodwen_node *node, uint32_t now) {
-    return logodwen_poll(now, node->state, sizeof node->state, node->reply, sizeof node->reply);
+    return logodwen_poll(now, node->state, sizeof node->state, node->events, sizeof node->events, node->reply, sizeof node->reply);
 }
 
 static inline uint64_t logodwen_node_erase(struct logodwen_node *node, uint64_t budget) {
@@ -791,6 +837,9 @@ static inline bool logodwen_file_io(struct logodwen_file *file, const uint16_t *
 #define LOGODWEN_ID_LIST_READ 0x1Cu     /* answers the entries of the Q-List: logodwen_read_listed */
 #define LOGODWEN_ID_LIST_DELETE 0x5Bu   /* clears an entry's repetitions, or removes the expired entries, or all */
 #define LOGODWEN_ID_LIST_WRITE 0x5Cu    /* adds entries, all or none */
+#define LOGODWEN_ID_EVENT_READ 0x01u    /* answers the event that was built, once: logodwen_read_event; END where none is unread */
+#define LOGODWEN_ID_EVENT_NUMBER 0x02u  /* answers the last event's number, and 0: logodwen_read_event_number */
+#define LOGODWEN_ID_EVENT_RESET 0x42u   /* no event is unread, and the last number is 0 */
 
 /* The first byte of a request says whom it is for. Any other is answered ERROR. */
 #define LOGODWEN_TO_OWN 0x2Eu    /* this node; the second byte is the ID of the command */
@@ -827,6 +876,9 @@ static inline size_t logodwen_make_summary(uint8_t *packet) { return logodwen_ma
 static inline size_t logodwen_make_mode_read(uint8_t *packet) { return logodwen_make_command(packet, LOGODWEN_ID_MODE_READ); }
 static inline size_t logodwen_make_mask_read(uint8_t *packet) { return logodwen_make_command(packet, LOGODWEN_ID_MASK_READ); }
 static inline size_t logodwen_make_list_read(uint8_t *packet) { return logodwen_make_command(packet, LOGODWEN_ID_LIST_READ); }
+static inline size_t logodwen_make_event_read(uint8_t *packet) { return logodwen_make_command(packet, LOGODWEN_ID_EVENT_READ); }
+static inline size_t logodwen_make_event_number(uint8_t *packet) { return logodwen_make_command(packet, LOGODWEN_ID_EVENT_NUMBER); }
+static inline size_t logodwen_make_event_reset(uint8_t *packet) { return logodwen_make_command(packet, LOGODWEN_ID_EVENT_RESET); }
 
 /* Of a file by its name. A flash that was programmed elsewhere can have a name in several sectors (logodwen_read_named): then these, and
    Attribute Set, are answered ABORT, and File Read and Load count a FLASH error. To erase one of the sectors its number is given. */
@@ -1100,7 +1152,7 @@ static inline uint64_t logodwen_node_requests(struct logodwen_node *node, uint32
                                               size_t room) {
     return logodwen_requests(now, list->bytes, 2 * list->words, node->state, sizeof node->state, node->flash, node->flash_len,
                              node->pm, node->pm_len, node->dm, node->dm_len, node->io, node->io_len, node->area, sizeof node->area,
-                             node->list, sizeof node->list, replies, 2 * room);
+                             node->list, sizeof node->list, node->events, sizeof node->events, replies, 2 * room);
 }
 
 /* Reads the packet with a length and a BC before it, in so many words from a place on. For those below. */
@@ -1137,8 +1189,8 @@ static inline size_t logodwen_read_reply(const uint8_t *replies, size_t words, s
 #define LOGODWEN_STATUS_TESTS 0x0100u      /* a test at start had errors */
 #define LOGODWEN_STATUS_COMPRESSED 0x0080u /* mode bit 1 */
 #define LOGODWEN_STATUS_RAW 0x0040u        /* mode bit 0 */
-#define LOGODWEN_STATUS_OWN 0x0020u        /* one node's; clear in a group's */
-#define LOGODWEN_STATUS_ASSEMBLY 0x0200u   /* a group's: some slave's fragment is not whole */
+#define LOGODWEN_STATUS_OWN 0x0020u        /* one node's; clear in a group's and in an event's */
+#define LOGODWEN_STATUS_ASSEMBLY 0x0200u   /* a group's or an event's: some slave's answer is not whole */
 
 /* Whether a reply has its tail, and its FCS is right. */
 static inline bool logodwen_is_sealed(const uint8_t *reply, size_t words) {
@@ -1149,10 +1201,11 @@ static inline bool logodwen_is_sealed(const uint8_t *reply, size_t words) {
 struct logodwen_status {
     unsigned program_version, program_type, kind, subdetector, ports, subdetector_version;
     uint32_t time;        /* since the start */
-    unsigned node_status; /* the word itself: bits 13 and 12 nonzero AMSWire and FLASH errors, 11-8 start tests, 1-0 the asking link */
+    unsigned node_status; /* the word itself: bits 14, 13 and 12 nonzero build, AMSWire and FLASH errors, 11-8 start tests, 1-0 the asking link */
     unsigned start_tests; /* its bits 11-8, in their place */
     unsigned link;        /* its bits 1-0 */
-    unsigned event_number, build_errors, amswire_errors, flash_errors;
+    unsigned event_number;                               /* of the last event that was built */
+    unsigned build_errors, amswire_errors, flash_errors; /* each stops at FFFF; a build error is an event of which some answer is not whole */
     unsigned reply_status;
 };
 
@@ -1240,7 +1293,7 @@ static inline bool logodwen_read_listed(const uint8_t *reply, size_t words, size
     return true;
 }
 
-/* What became of a slave in a group: bits 15-11 of its fragment's status word, DAT worth 10 hex and then the code. */
+/* What became of a slave in a group or in an event build: bits 15-11 of its fragment's status word, DAT worth 10 hex and then the code. */
 #define LOGODWEN_CODE_NEXT 0x01u           /* it answered NEXT */
 #define LOGODWEN_CODE_ABORT 0x02u          /* .. ABORT */
 #define LOGODWEN_CODE_ERROR 0x03u          /* .. ERROR */
@@ -1250,19 +1303,21 @@ static inline bool logodwen_read_listed(const uint8_t *reply, size_t words, size
 #define LOGODWEN_CODE_WHOLE 0x10u          /* its data are there, from one packet or several */
 #define LOGODWEN_CODE_NOT_FIRST 0x11u      /* its packet was not the first of a block (BC1 clear) */
 #define LOGODWEN_CODE_NO_ROOM 0x12u        /* its data had no room */
-#define LOGODWEN_CODE_ONE_WORD 0x13u       /* its reply had one word, so no tail */
+#define LOGODWEN_CODE_ONE_WORD 0x13u       /* its reply had one word, so no tail; in an event one or two, so no number and tail */
+#define LOGODWEN_CODE_OTHER_NUMBER 0x14u   /* in an event: its reply begins with another event's number */
 #define LOGODWEN_CODE_WRONG_FCS 0x15u
 #define LOGODWEN_CODE_NEXT_LATE 0x16u      /* its reply came in packets: the next was not there within 60 ticks of NEXT */
 #define LOGODWEN_CODE_NEXT_EMPTY 0x17u     /* .. it answered NEXT without words */
 #define LOGODWEN_CODE_NEXT_FIRST 0x18u     /* .. a later packet was the first of a block again (BC1 set) */
 #define LOGODWEN_CODE_PACKET_NO_ROOM 0x1Au /* .. the words so far had no room */
+#define LOGODWEN_CODE_JOINED_NUMBER 0x1Bu  /* .. in an event: all came, and it begins with another event's number */
 #define LOGODWEN_CODE_JOINED_FCS 0x1Cu     /* .. all came, and the FCS at the end is wrong */
 
-/* A slave's fragment of a group's reply. What its code does not have is 0. */
+/* A slave's fragment of a group's reply or of an event. What its code does not have is 0. */
 struct logodwen_fragment {
     unsigned slave, code;
     unsigned slave_status;     /* of WHOLE and NO_ROOM: bits 10-5 of the slave's own status word, in their place */
-    const uint8_t *data;       /* of WHOLE, in the reply; else NULL */
+    const uint8_t *data;       /* of WHOLE, in the reply, of an event without the slave's event number; else NULL */
     size_t data_words;
     unsigned rx_status;        /* of ERRORS and of codes above WHOLE: what the receiver said of the last packet that came in time */
     unsigned rx_address;       /* of ERRORS */
@@ -1283,11 +1338,13 @@ static inline bool logodwen_code_has(unsigned code, size_t words) {
     case LOGODWEN_CODE_NOT_FIRST:
     case LOGODWEN_CODE_NO_ROOM:
     case LOGODWEN_CODE_ONE_WORD:
+    case LOGODWEN_CODE_OTHER_NUMBER:
     case LOGODWEN_CODE_WRONG_FCS:
     case LOGODWEN_CODE_NEXT_LATE:
     case LOGODWEN_CODE_NEXT_EMPTY:
     case LOGODWEN_CODE_NEXT_FIRST:
     case LOGODWEN_CODE_PACKET_NO_ROOM:
+    case LOGODWEN_CODE_JOINED_NUMBER:
     case LOGODWEN_CODE_JOINED_FCS: return words == 3;
     default: return false;
     }
@@ -1305,28 +1362,22 @@ static inline const char *logodwen_code_text(unsigned code) {
     case LOGODWEN_CODE_NOT_FIRST: return "not the first packet";
     case LOGODWEN_CODE_NO_ROOM: return "no room";
     case LOGODWEN_CODE_ONE_WORD: return "one word";
+    case LOGODWEN_CODE_OTHER_NUMBER: return "another event";
     case LOGODWEN_CODE_WRONG_FCS: return "wrong FCS";
     case LOGODWEN_CODE_NEXT_LATE: return "late after NEXT";
     case LOGODWEN_CODE_NEXT_EMPTY: return "empty after NEXT";
     case LOGODWEN_CODE_NEXT_FIRST: return "first packet again";
     case LOGODWEN_CODE_PACKET_NO_ROOM: return "no room for a packet";
+    case LOGODWEN_CODE_JOINED_NUMBER: return "another event, in packets";
     case LOGODWEN_CODE_JOINED_FCS: return "wrong FCS of the joined reply";
     default: return "no code";
     }
 }
 
-/* Reads the fragment at a place of a group's reply: answers the place past it, or 0 where none stands there that a node could have laid,
-   and then leaves `fragment`. The walk over a reply, whose FCS is to be looked at first (logodwen_is_sealed); over one that another node
-   sent it goes to the end where logodwen_capture has accepted the words:
-
-       for (size_t at = 0; at + LOGODWEN_TAIL_WORDS < words; ) {
-           at = logodwen_read_fragment(reply, words, at, &fragment);
-           if (at == 0) break; // no group's reply
-           ..
-       } */
-static inline size_t logodwen_read_fragment(const uint8_t *reply, size_t words, size_t at, struct logodwen_fragment *fragment) {
-    if (words < LOGODWEN_TAIL_WORDS + 2 || at > words - LOGODWEN_TAIL_WORDS - 2) return 0;
-    size_t length = logodwen_get(reply, at), left = words - LOGODWEN_TAIL_WORDS - at - 1;
+/* Reads the fragment at a place of words that hold fragments up to an end, whatever its code. For those below. */
+static inline size_t logodwen_fragment_at(const uint8_t *reply, size_t end, size_t at, struct logodwen_fragment *fragment) {
+    if (end < 2 || at > end - 2) return 0;
+    size_t length = logodwen_get(reply, at), left = end - at - 1;
     if (length == 0 || length > left) return 0;
     unsigned status = logodwen_get(reply, at + length);
     struct logodwen_fragment found = {status & 31u, status >> 11, status & 0x07E0u, NULL, 0, 0, 0, 0, 0};
@@ -1347,10 +1398,79 @@ static inline size_t logodwen_read_fragment(const uint8_t *reply, size_t words, 
     return at + 1 + length;
 }
 
+/* Whether a code is that of an event alone, since no group compares a number. */
+static inline bool logodwen_is_event_code(unsigned code) {
+    return code == LOGODWEN_CODE_OTHER_NUMBER || code == LOGODWEN_CODE_JOINED_NUMBER;
+}
+
+/* Reads the fragment at a place of a group's reply: answers the place past it, or 0 where none stands there that a node could have laid,
+   and then leaves `fragment`. The walk over a reply, whose FCS is to be looked at first (logodwen_is_sealed); over one that another node
+   sent it goes to the end where logodwen_capture has accepted the words:
+
+       for (size_t at = 0; at + LOGODWEN_TAIL_WORDS < words; ) {
+           at = logodwen_read_fragment(reply, words, at, &fragment);
+           if (at == 0) break; // no group's reply
+           ..
+       } */
+static inline size_t logodwen_read_fragment(const uint8_t *reply, size_t words, size_t at, struct logodwen_fragment *fragment) {
+    struct logodwen_fragment found;
+    if (words < LOGODWEN_TAIL_WORDS) return 0;
+    size_t past = logodwen_fragment_at(reply, words - LOGODWEN_TAIL_WORDS, at, &found);
+    if (past == 0 || logodwen_is_event_code(found.code)) return 0;
+    *fragment = found;
+    return past;
+}
+
+/* Reads a reply to Event Number: the last event's number; false where it is not one or its FCS is wrong, and then leaves `number`. */
+static inline bool logodwen_read_event_number(const uint8_t *reply, size_t words, unsigned *number) {
+    if (words != 2 + LOGODWEN_TAIL_WORDS || !logodwen_is_sealed(reply, words)) return false;
+    *number = logodwen_get(reply, 0);
+    return true;
+}
+
+/* An event, as Read Event hands it out and as it stands in the event area: its number, a fragment for each slave that is not left out, two words
+   for those that are, and the two words that end every reply. */
+struct logodwen_event {
+    unsigned number;
+    uint32_t left_out; /* the slaves that had nothing but their status word to tell, bit s for slave s: they have no fragment */
+    unsigned status;   /* LOGODWEN_STATUS_.. */
+};
+
+#define LOGODWEN_EVENT_HEAD_WORDS 1u /* before the fragments: the number */
+#define LOGODWEN_EVENT_TAIL_WORDS 4u /* behind them: the slaves left out, 23-16 and 15-0, the status word and the FCS */
+
+/* Reads an event; false where it is too short for one, has a slave above 23 or its FCS is wrong, and then leaves `event`. The walk over its
+   fragments:
+
+       for (size_t at = LOGODWEN_EVENT_HEAD_WORDS; at + LOGODWEN_EVENT_TAIL_WORDS < words; ) {
+           at = logodwen_read_event_fragment(reply, words, at, &fragment);
+           if (at == 0) break; // no event
+           ..
+       } */
+static inline bool logodwen_read_event(const uint8_t *reply, size_t words, struct logodwen_event *event) {
+    if (words < LOGODWEN_EVENT_HEAD_WORDS + LOGODWEN_EVENT_TAIL_WORDS || !logodwen_is_sealed(reply, words)) return false;
+    uint32_t high = logodwen_get(reply, words - 4), low = logodwen_get(reply, words - 3);
+    if (high > 0xFFu) return false;
+    event->number = logodwen_get(reply, 0);
+    event->left_out = high << 16 | low;
+    event->status = logodwen_get(reply, words - 2);
+    return true;
+}
+
+/* Reads the fragment at a place of an event: answers the place past it, or 0 where none stands there that a node could have laid, and then
+   leaves `fragment`. One of code WHOLE without data is left out of an event, and is none. */
+static inline size_t logodwen_read_event_fragment(const uint8_t *reply, size_t words, size_t at, struct logodwen_fragment *fragment) {
+    struct logodwen_fragment found;
+    if (words < LOGODWEN_EVENT_TAIL_WORDS || at < LOGODWEN_EVENT_HEAD_WORDS) return 0;
+    size_t past = logodwen_fragment_at(reply, words - LOGODWEN_EVENT_TAIL_WORDS, at, &found);
+    if (past == 0 || (found.code == LOGODWEN_CODE_WHOLE && found.data_words == 0)) return 0;
+    *fragment = found;
+    return past;
+}
+
 /* ---- The state bytes, low byte first, for a host that wants to look into them, keep them or send them. What a case does not use is 0, and
-   bytes that are not as told here are refused by 5. Their form belongs to LOGODWEN_VERSION, and that of version 5 is that of version 4: a state
-   that was kept from version 4 is one of version 5 as it stands. One from version 3, which has 188 bytes, is one with four bytes 0 behind
-   it. ---- */
+   bytes that are not as told here are refused by 5. Their form belongs to LOGODWEN_VERSION: a state that was kept from version 5 or 4, which has
+   192 bytes, is one of version 6 with sixteen bytes 0 behind it, and so is one from version 3, which has 188 bytes, with twenty. ---- */
 #define LOGODWEN_AT_KIND 0u                 /* 1 byte: 1 or 2 */
 #define LOGODWEN_AT_PORTS 1u                /* 1: 1 to 4 */
 #define LOGODWEN_AT_SUBDETECTOR 2u          /* 1: 0 to 7 */
@@ -1361,28 +1481,35 @@ static inline size_t logodwen_read_fragment(const uint8_t *reply, size_t words, 
 #define LOGODWEN_AT_AMSWIRE_ERRORS 10u      /* 2: stops at FFFF */
 #define LOGODWEN_AT_FLASH_ERRORS 12u        /* 2: stops at FFFF */
 #define LOGODWEN_AT_ERASING 14u             /* 1: 0 nothing, else the sector being erased, 3 to 10 */
-#define LOGODWEN_AT_PENDING 15u             /* 1: 0 nothing, 1 a slave, 2 a group */
+#define LOGODWEN_AT_PENDING 15u             /* 1: 0 nothing, 1 a slave, 2 a group, 3 an event build */
 #define LOGODWEN_AT_CLOCK 16u               /* 4: the time at start */
 #define LOGODWEN_AT_FLASH_WORDS 20u         /* 4: the flash's size in words, 32,768 or 262,144 */
 #define LOGODWEN_AT_ERASED 24u              /* 4: erasing: words set so far */
-#define LOGODWEN_AT_LINK 28u                /* 1: pending: the link that asked */
+#define LOGODWEN_AT_LINK 28u                /* 1: pending: the link that asked; of a build 0 */
 #define LOGODWEN_AT_SLAVE 29u               /* 1: pending: the slave being asked */
 #define LOGODWEN_AT_FROM 30u                /* 1: group: the word from which the request is sent on, 1 or 2 */
-#define LOGODWEN_AT_TALLY 31u               /* 1: group: 0 no reply yet; all 1 NEXT, 2 ABORT, 3 ERROR, 4 END, 5 data; 6 mixed */
-#define LOGODWEN_AT_ASKED 32u               /* 4: group: the slaves, bit s for slave s */
+#define LOGODWEN_AT_TALLY 31u               /* 1: group: 0 no reply yet; all 1 NEXT, 2 ABORT, 3 ERROR, 4 END, 5 data; 6 mixed.
+                                               Build: 0 no answer yet; all 1 without data, 5 data with code 0; 6 mixed */
+#define LOGODWEN_AT_ASKED 32u               /* 4: group, build: the slaves, bit s for slave s */
 #define LOGODWEN_AT_ASKED_AT 36u            /* 4: pending: the time when the slave was asked, or sent NEXT */
-#define LOGODWEN_AT_BUILT 40u               /* 4: group: words gathered so far */
+#define LOGODWEN_AT_BUILT 40u               /* 4: group, build: words of fragments gathered so far */
 #define LOGODWEN_AT_MASKS 44u               /* 64: masks 0 to 15, four bytes each, bit s for slave s */
 #define LOGODWEN_AT_DIRECTORY 108u          /* 64: four words for each of the sectors 3 to 10, as Summary answers them: first word, address,
                                                status, and the length of its file where it is good, else 0 */
 #define LOGODWEN_AT_WRITE 172u              /* 1: 1 if a file comes in several packets, else 0 */
 #define LOGODWEN_AT_WRITE_LINK 173u         /* 1: .. its link; the bytes 174 and 175 are 0 */
 #define LOGODWEN_AT_JOINED 176u             /* 4: .. words joined so far, at most 32,768 */
-#define LOGODWEN_AT_RECEIVED 180u           /* 4: group: words of the asked slave's reply that have come in packets so far; with those gathered,
-                                               five for each slave to come and two more they are at most 12,288 */
+#define LOGODWEN_AT_RECEIVED 180u           /* 4: group, build: words of the asked slave's reply that have come in packets so far; with those
+                                               gathered, five for each slave to come and two more, of a build five more, they are at most
+                                               12,288 */
 #define LOGODWEN_AT_RX_STATUS 184u          /* 2: .. RX status of the last of its packets, 0 where none has come; the bytes 186 and 187 are 0 */
 #define LOGODWEN_AT_LISTED 188u             /* 2: entries of the Q-List that are listed, at most 910 */
 #define LOGODWEN_AT_TURN 190u               /* 2: the place whose turn is next: below those listed, 0 where none is */
+#define LOGODWEN_AT_EVENT 192u              /* 2: the last event's number */
+#define LOGODWEN_AT_BUILD_ERRORS 194u       /* 2: events of which some answer is not whole: stops at FFFF */
+#define LOGODWEN_AT_UNREAD 196u             /* 4: words of the event that is built and not read, at most 12,288; 0 where none is */
+#define LOGODWEN_AT_ASKS 200u               /* 1: build: times that the slave has been asked, 1 to 3; the bytes 201 to 203 are 0 */
+#define LOGODWEN_AT_LEFT_OUT 204u           /* 4: build: the slaves left out so far, bit s for slave s */
 
 #ifdef __cplusplus
 }

@@ -176,7 +176,7 @@ class Bench:
     """A node on a flash, as host/audit has it."""
 
     def __init__(self, flash=None, size=BENCH):
-        self.lent = Lent(flash or [BLANK] * size, {"PM": [], "DM": [], "IO": []}, [0] * JOINED, [], [0] * AREA)
+        self.lent = Lent(flash or [BLANK] * size, {"PM": [], "DM": [], "IO": []}, [0] * JOINED, [], [0] * AREA, [0] * AREA)
         self.node, answer = start(CDP, 1, 0, 0, 0, 0, 0, self.lent.flash)
         assert answer == ("started",)
 

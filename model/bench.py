@@ -33,7 +33,7 @@ def hexadecimal(digits):
     return lambda text: int(text, 16) if re.fullmatch(rb"[0-9A-Fa-f]{%s}" % digits, text) else None
 
 
-LINK = below(2**32), "no link, and none of reply, poll, erase, slow, clock, error, help; fields are parted by tabs"
+LINK = below(2**32), "no link, and none of reply, poll, build, erase, slow, clock, error, help; fields are parted by tabs"
 SLAVE = below(2**32), "no decimal number below 4294967296"
 BUDGET = below(2**64), "no decimal number below 18446744073709551616"
 BC = (lambda text: int(text) if text in (b"0", b"1", b"2", b"3") else None), "no BC, 0 to 3"
@@ -45,6 +45,7 @@ WORD = hexadecimal(b"4"), "not four hex digits"
 SHAPES = {
     b"reply": ((SLAVE, BC, FLAG, WORD, WORD), True),
     b"poll": ((), False),
+    b"build": ((), False),
     b"erase": ((BUDGET,), False),
     b"slow": ((), False),
     b"clock": ((TICKS,), False),
@@ -116,7 +117,7 @@ def help_lines():
 class Bench:
     def __init__(self):
         memories = {PM: [0] * 32768, DM: [0] * 32768, IO: [0] * 4096}
-        self.lent = calls.Lent([0xFFFF] * 32768, memories, [0] * 32768, [0] * 7 * 910, [0] * 12288)
+        self.lent = calls.Lent([0xFFFF] * 32768, memories, [0] * 32768, [0] * 7 * 910, [0] * 12288, [0] * 12288)
         self.node, _ = calls.start(calls.CDDC, 4, 0, 0, 0, 0, 0, self.lent.flash)
         self.clock, self.error, self.held = 0, 0, []
 
@@ -128,11 +129,15 @@ class Bench:
         return self.shown(answer)
 
     def reply(self, slave, bc, error, status, address, *words):
-        self.node, answer = calls.reply(self.node, self.lent.reply, self.clock, slave, bc, error, status, address, list(words))
+        self.node, answer = calls.reply(self.node, self.lent, self.clock, slave, bc, error, status, address, list(words))
         return self.shown(answer)
 
     def poll(self):
-        self.node, answer = calls.poll(self.node, self.lent.reply, self.clock)
+        self.node, answer = calls.poll(self.node, self.lent, self.clock)
+        return self.shown(answer)
+
+    def build(self):
+        self.node, answer = calls.build(self.node, self.lent.events, self.clock)
         return self.shown(answer)
 
     def erase(self, budget):
@@ -147,6 +152,8 @@ class Bench:
         kind, rest = answer[0], answer[1:]
         if kind == "ask":
             return ["ASK", str(rest[0])] + ["%04X" % word for word in self.held[rest[1]:]]
+        if kind == "read":
+            return ["ASK", str(rest[0]), "012E"]
         if kind == "next":
             return ["SEND NEXT", str(rest[0])]
         if kind != "reply":

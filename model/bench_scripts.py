@@ -9,6 +9,7 @@ import sys
 
 from bench import LONGEST, Bench, printed, said_of
 from build import file_of, segment
+from event import Building
 from files import DM, PM, sealed
 
 
@@ -120,6 +121,33 @@ def long_lists():
     yield fields(0, 3, b"1C2E")
 
 
+def long_events():
+    """Events of 24 slaves, of one that has all the room there is or a word more, in one packet and in several, each read whole."""
+    data = [word * 40503 % 65536 for word in range(40000)]
+    number = 0
+
+    def build(mask, *replies):
+        """Each reply is its slave, its words behind the number, and where its packets end."""
+        yield fields(0, 3, b"572E", b"%04X" % (mask >> 16), b"%04X" % (mask & 0xFFFF))
+        yield b"build"
+        for slave, run, ends in replies:
+            yield from in_packets(slave, sealed([number, *run]), *ends)
+        yield fields(0, 3, b"012E")
+        yield fields(0, 3, b"012E")
+
+    for length in (1, 20, 490, 520):
+        number += 1
+        yield from build(0xFFFFFF, *[(slave, data[slave:slave + length], () if slave % 3 else (1, length)) for slave in range(24)])
+    for length in (12280, 12281, 12282, 39000):  # behind the number and before the FCS; 12,281 fit
+        for ends in ((), (1,), (length,), (6000,), (5000, 12000)):
+            number += 1
+            yield from build(0x80, (7, data[:length], ends))
+            yield fields(0, 3, b"022E")
+    yield fields(0, 3, b"0C2E")
+    yield fields(0, 3, b"422E")
+    yield fields(0, 3, b"022E")
+
+
 def odd_lines(pick):
     """Lines of the right shape, most of them what the node waits for, and lines with a byte changed, put in or left out."""
     bench = Bench()
@@ -135,9 +163,12 @@ def odd_lines(pick):
         lambda: b"error",
         lambda: fields(b"#", 1),
         lambda: b"slow",
+        lambda: b"build",
+        lambda: fields(0, 3, b"572E", b"00%02X" % pick.choice((0, 0, 0x80)), b"%04X" % pick.choice((0xA0, 1, 0, 0x8007))),
+        lambda: fields(pick.randrange(4), 3, pick.choice((b"012E", b"012E", b"022E", b"422E"))),
     )
     for _ in range(4000):
-        weights = (2, 1, 1, 12, 12, 2, 1, 1, 1, 1, 1) if bench.node.pending else (15, 6, 4, 1, 1, 1, 4, 1, 1, 1, 6)
+        weights = (2, 1, 1, 12, 12, 2, 1, 1, 1, 1, 1, 1, 1, 1) if bench.node.pending else (15, 6, 4, 1, 1, 1, 4, 1, 1, 1, 6, 4, 2, 3)
         line = pick.choices(kinds, weights)[0]()
         line = spoiled(pick, line) if pick.randrange(5) == 0 else line
         said_of(0, line, bench.answer)
@@ -150,8 +181,11 @@ def asked(bench, pick):
 
 
 def received(bench):
-    """The words of a reply of which packets came."""
-    group = bench.node.pending and bench.node.pending.group
+    """The words of a reply of which packets came, in a group or in a build."""
+    pending = bench.node.pending
+    if isinstance(pending, Building):
+        return bench.lent.events[pending.words + 2:pending.words + 2 + pending.received]
+    group = pending and pending.group
     return bench.lent.reply[group.words + 1:group.words + 1 + group.received] if group else []
 
 
@@ -163,6 +197,8 @@ def packet_bc(bench, pick):
 def piece(bench, pick):
     """The words of such a packet, mostly with the FCS of all."""
     run = [pick.randrange(65536) for _ in range(pick.randrange(4))]
+    if isinstance(bench.node.pending, Building) and not received(bench) and pick.randrange(4):
+        run = [(bench.node.event + 1) % 65536, *run]
     return sealed(received(bench) + run)[len(received(bench)):] if pick.randrange(4) else run
 
 
@@ -221,6 +257,7 @@ def main(arguments):
         "writes": b"\n".join(long_writes()),
         "replies": b"\n".join(long_replies()),
         "lists": b"\n".join(long_lists()),
+        "events": b"\n".join(long_events()),
         "odd": b"\n".join(odd_lines(random.Random(1))) + b"\n",
     }
     for name, script in scripts.items():

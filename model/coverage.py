@@ -9,7 +9,7 @@ import sys
 
 from vectors import HERE
 
-PARTS = ("node", "flash", "memory", "qlist", "group", "files", "runs", "fcs", "series")
+PARTS = ("node", "flash", "memory", "qlist", "group", "files", "runs", "fcs", "series", "event")
 
 
 def own_lines(code):

@@ -11,8 +11,8 @@ late, `O` at the end with no event, or `E`words:bit 9 at the end with one; and a
 from itertools import product
 
 import group_vectors
-from event import Build
-from group import AREA, LIMIT
+from event import begun, number_after, taken
+from group import AREA, LIMIT, Answer, is_late
 from group_vectors import BCS, BUFFER, CLOCKS, ELAPSED, IN_PACKETS, MARK, digest, made
 from runs import check_sequence
 from words import line_of, words_of
@@ -29,6 +29,26 @@ IN_SEVERAL = ("END", "END once", "END twice", "END and late", "END after NEXT", 
               "left out in packets", "joined other number") + IN_PACKETS
 KINDS = IN_ONE + IN_SEVERAL
 WITHOUT_DATA = ("late", "errors", "NEXT", "ABORT", "ERROR", "END", "late poll", "errors after NEXT", "END and late")
+
+LATE = Answer(True, False, 0, 0, 0, [])  # nothing in time
+
+
+class Build:
+    """A build by itself, without a node: what is kept of it, None where it is over, and its event area."""
+
+    def __init__(self, area, asked, last, own, now):
+        self.area, self.number, self.own = area, number_after(last), own
+        self.kept, self.answer = begun(asked, now)
+
+    def reply(self, now, errors, rx_status, rx_address, bc, words):
+        return self.take(now, Answer(is_late(now, self.kept.at), errors != 0, rx_status, rx_address, bc, words))
+
+    def poll(self, now):
+        return self.take(now, LATE) if is_late(now, self.kept.at) else ("waiting",)
+
+    def take(self, now, answer):
+        self.kept, said = taken(self.kept, self.area, self.number, self.own, now, answer)
+        return said
 
 
 class Maker(group_vectors.Maker):
@@ -387,10 +407,10 @@ def answered(build, step):
 
 def told(build, answer):
     """What is printed of an answer to a step."""
-    if answer[0] == "ask":
-        return "A%d:%d:%d:%d:%06x" % (answer[1], build.times, build.built, build.tally, build.left_out)
+    if answer[0] == "read":
+        return "A%d:%d:%d:%d:%06x" % (answer[1], build.kept.times, build.kept.words, build.kept.tally, build.kept.left_out)
     if answer[0] == "next":
-        return "N%d:%d:%04x" % (answer[1], build.received, build.rx_status)
+        return "N%d:%d:%04x" % (answer[1], build.kept.received, build.kept.rx_status)
     if answer[0] == "built":
         return "E%d:%d" % (answer[1], build.area[answer[1] - 2] >> 9 & 1)
     return {"waiting": "W", "no event": "O"}[answer[0]]
@@ -401,7 +421,7 @@ def outputs(stdin):
     for text in stdin.splitlines():
         line, area = words_of(text), [MARK] * BUFFER
         build = Build(area, line[0] << 16 | line[1], line[2], line[3], line[4] << 16 | line[5])
-        items = ["A%d:%d" % (build.answer[1], build.times)]
+        items = ["A%d:%d" % (build.answer[1], build.kept.times)]
         for step in steps_of(line):
             answer = answered(build, step)
             items.append(told(build, answer))

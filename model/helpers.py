@@ -7,6 +7,7 @@ import sys
 
 import build
 import capture
+import event_vectors
 import files
 import flash
 import group
@@ -104,6 +105,9 @@ REQUESTS = {
     "mode_read": lambda: own(0x12),
     "mask_read": lambda: own(0x17),
     "list_read": lambda: own(0x1C),
+    "event_read": lambda: own(0x01),
+    "event_number": lambda: own(0x02),
+    "event_reset": lambda: own(0x42),
     "list_delete_expired": lambda: own(0x5B),
     "list_delete_all": lambda: own(0x5B, 0xFFFF),
     "list_delete": lambda place: own(0x5B, place) if place < 910 else [],
@@ -140,7 +144,8 @@ def request_lines():
     def line(name, *given):
         return (name, *given), REQUESTS[name](*given)
 
-    for name in ("status", "summary", "mode_read", "mask_read", "list_read", "list_delete_expired", "list_delete_all", "to_all"):
+    for name in ("status", "summary", "mode_read", "mask_read", "list_read", "list_delete_expired", "list_delete_all", "to_all", "event_read",
+                 "event_number", "event_reset"):
         yield line(name)
     for value in (0, 1, 909, 910, 0xFFFF, 0x10000, 0xFFFFFFFF):
         yield line("list_delete", value)
@@ -287,7 +292,7 @@ def status_lines():
         versions, tests, subdetector = words(2), word(), chance.randrange(8)
         image = [0xFFFF] * 32768
         state, _ = node.start(kind, ports, subdetector, *versions, tests, clock, image)
-        lent = node.Lent(image, {PM: [], DM: [], IO: []}, [0] * 32768, [], [0] * 12288)
+        lent = node.Lent(image, {PM: [], DM: [], IO: []}, [0] * 32768, [], [0] * 12288, [0] * 12288)
         for _ in range(chance.randrange(3)):
             state, _ = node.request(state, lent, clock, 0, 3, 1, [])
         ticks, link = chance.getrandbits(32), chance.randrange(ports)
@@ -344,7 +349,7 @@ def list_lines():
     for count, more in ((0, 0), (1, 0), (1, 6), (2, 1), (7, 5), (910, 0)):
         image, clock, entries = [0xFFFF] * 32768, chance.getrandbits(32), [some_entry() for _ in range(count)]
         state, _ = node.start(1, 1, 0, 0, 0, 0, clock, image)
-        lent = node.Lent(image, {PM: [], DM: [], IO: []}, [0] * 32768, words(7 * count + more), [0] * 12288)
+        lent = node.Lent(image, {PM: [], DM: [], IO: []}, [0] * 32768, words(7 * count + more), [0] * 12288, [0] * 12288)
         state, _ = node.request(state, lent, clock, 0, 3, 0, list_write(9000, *(number for entry in entries for number in entry)))
         _, answer = node.request(state, lent, clock, 0, 3, 0, own(0x1C))
         reply = lent.reply[:answer[2]]
@@ -393,9 +398,10 @@ def group_fields(slave, dat, code, body):
 
 CODES = {
     0x01: "NEXT", 0x02: "ABORT", 0x03: "ERROR", 0x04: "END", 0x05: "late", 0x06: "receive errors", 0x10: "DATA", 0x11: "not the first packet",
-    0x12: "no room", 0x13: "one word", 0x15: "wrong FCS", 0x16: "late after NEXT", 0x17: "empty after NEXT", 0x18: "first packet again",
-    0x1A: "no room for a packet", 0x1C: "wrong FCS of the joined reply",
+    0x12: "no room", 0x13: "one word", 0x14: "another event", 0x15: "wrong FCS", 0x16: "late after NEXT", 0x17: "empty after NEXT",
+    0x18: "first packet again", 0x1A: "no room for a packet", 0x1B: "another event, in packets", 0x1C: "wrong FCS of the joined reply",
 }
+OF_EVENTS = (0x14, 0x1B)  # codes that a group doesn't have
 
 
 def row_of(packets):
@@ -489,8 +495,61 @@ def group_lines():
                   [3, 1, 2, 0xB005], [4, 1, 2, 3, 0xB025], [4, 1, 2, 3, 0xE405], [1, 0x1005, 1], [0xFFFF, 0x8005]):
         yield ("read_group", *with_status(built, 0x0300)), [0]
     for code in range(1, 16):
-        fields = [1, 5, 0x10 | code, 0, 1, 0, 2, 3, 0] if 0x10 | code in CODES else [0]
-        yield ("read_group", *with_status([4, 1, 2, 3, 0x8005 | code << 11], 0x0300)), fields
+        fields, body = [5, 0x10 | code, 0, 1, 0, 2, 3, 0], [4, 1, 2, 3, 0x8005 | code << 11]
+        is_code = 0x10 | code in CODES
+        yield ("read_group", *with_status(body, 0x0300)), [1, *fields] if is_code and 0x10 | code not in OF_EVENTS else [0]
+        yield ("read_event", *with_status([9, *body, 0, 0], 0x0300)), [1, 9, 0, 0x0300, *fields] if is_code else [0]
+
+
+def event_lines():
+    """Events that slaves' answers make, by packets of which some begin with the number; cut short, damaged, and with what no node lays."""
+    for _ in range(300):
+        slaves = sorted(chance.sample(range(24), chance.choice((1, 2, 3, 5, 24))))
+        area, last, fields = [0] * group.AREA, word(), []
+        building = event_vectors.Build(area, sum(1 << slave for slave in slaves), last, 0x01A0, 0)
+        answer = building.answer
+        while answer[0] in ("read", "next"):
+            before, packet = building.kept, some_event_packet(building)
+            answer = building.take(0, packet)
+            if answer[0] == "next" or building.kept and building.kept.slave == before.slave:
+                continue
+            body = area[1 + before.words:]
+            left_out = building.kept.left_out if building.kept else area[answer[1] - 4] << 16 | area[answer[1] - 3] if answer[0] == "built" else 0
+            if not left_out >> before.slave & 1:
+                body = body[:1 + body[0]]
+                fields += group_fields(before.slave, body[-1] >> 15, body[-1] >> 11 & 15, body)
+        if answer[0] == "no event":
+            continue
+        words_of_event = area[:answer[1]]
+        left_out = words_of_event[-4] << 16 | words_of_event[-3]
+        yield ("read_event", *words_of_event), [1, (last + 1) % 65536, left_out, words_of_event[-2], *fields]
+        for length in (0, 1, 4, chance.randrange(len(words_of_event))):
+            yield ("read_event", *words_of_event[:length]), [0]
+        broken = list(words_of_event)
+        broken[chance.randrange(len(broken))] ^= 1 << chance.randrange(16)
+        yield ("read_event", *broken), [0]
+    for body in ([1, 0x8005], [5, 0x8005], [0, 0x8005], [1, 0x8018], [1, 0x9005], [1, 0x1005, 1], [0xFFFF, 0x8005]):
+        yield ("read_event", *with_status([1, *body, 0, 0], 0x0300)), [0]  # the first is left out of an event
+    yield ("read_event", *with_status([1, 0x0100, 0], 0)), [0]  # slave 24
+    yield ("read_event", *with_status([1, 0x00FF, 0xFFFF], 0)), [1, 1, 0xFFFFFF, 0]
+    for number in (0, 1, 0xFFFF):
+        reply = with_status([number, 0], 0x0020)
+        yield ("read_event_number", *reply), [1, number]
+        for broken in (damaged(reply), reply[:-1], [*reply, 0], with_status([number, 0, 0], 0x0020), []):
+            yield ("read_event_number", *broken), [0]
+
+
+def some_event_packet(building):
+    """A packet as above, of which a first one mostly begins with the event's number."""
+    kept = building.kept
+    received = building.area[kept.words + 2:kept.words + 2 + kept.received]
+    if received:
+        return some_packet(chance.choice((0, 0, 1, 1, 1, 2, 3)), received)
+    packet = some_packet()
+    if len(packet.words) > 1 and chance.randrange(6):
+        held = [building.number, *packet.words[1:-1]]
+        packet.words = [*held, check_sequence(held)]
+    return packet
 
 
 def fcs_lines():
@@ -507,7 +566,7 @@ def fcs_lines():
 def main(folder):
     with open(folder + "/helpers.txt", "w") as given, open(folder + "/helpers.stdout", "w") as wanted:
         for lines in (request_lines(), file_lines(), reading_lines(), status_lines(), sector_lines(), entry_lines(), named_lines(), list_lines(),
-                      group_lines(), code_lines(), row_lines(), fcs_lines()):
+                      group_lines(), event_lines(), code_lines(), row_lines(), fcs_lines()):
             for (name, *numbers), comes_to in lines:
                 given.write(" ".join([name, *("%X" % number for number in numbers)]) + "\n")
                 wanted.write(" ".join("%X" % number for number in comes_to or [0]) + "\n")

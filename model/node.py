@@ -1,16 +1,19 @@
-"""The whole node, from document 01 and requests 1, 2, 5, 6, 7, 8 and 10 of 02: its state, the refusals, requests, own commands, and the
-six calls start, request, reply, poll, erase and slow. A call takes a node and what it is lent, and hands back the next node with the answer;
-lent lists change in place, and only if the call is accepted. An answer is a tuple: ("refused", number), ("started",), ("reply", BC, words
-in the reply buffer), ("ask", slave, word from which the request is sent on), ("next", slave that is sent NEXT), ("waiting",), ("erased",
-words set), ("handed", place of a Q-List entry) or ("nothing",)."""
+"""The whole node, from document 01 and requests 1, 2, 5, 6, 7, 8, 10 and 12 of 02: its state, the refusals, requests, own commands, and the
+seven calls start, request, build, reply, poll, erase and slow. A call takes a node and what it is lent, and hands back the next node with the
+answer; lent lists change in place, and only if the call is accepted. An answer is a tuple: ("refused", number), ("started",), ("reply", BC,
+words in the reply buffer), ("ask", slave, word from which the request is sent on), ("next", slave that is sent NEXT), ("waiting",),
+("erased", words set), ("handed", place of a Q-List entry), ("nothing",), ("read", slave that is asked for Read Event), ("no event",) or
+("built", words of the event)."""
 
 from dataclasses import dataclass, replace
-from typing import Optional
+from typing import Optional, Union
 
+from event import ASKS, TALLIES, Building, EventRules, begun, number_after
+from event import taken as taken_in_build
 from files import DM, IO, PM, file_length, name_of, sealed, segment_at, segments_of
 from flash import BAD, EMPTY, GOOD, SECTORS, SEVERAL, SIZES, STATUS, attributed, blank, directory_of, entry, entry_of, extent, laid, named
 from flash import place_for, searched, sector_to_erase, status_in, store, words_in
-from group import ABORT, AREA, END, ERROR, MORE, NEXT, Answer, ending, fragment, is_late, single, slaves_of, tally_with, zero_length
+from group import ABORT, AREA, END, ERROR, MORE, NEXT, Answer, GroupRules, ending, fragment, is_late, single, slaves_of, tally_with, zero_length
 from memory import fits, load, perform, read
 from qlist import MOST, add, clear, close_up, entries_of, may_be_written, records_in, step, written
 
@@ -73,10 +76,13 @@ class Node:
     masks: tuple = (0,) * 16
     directory: tuple = (0,) * 32
     erasing: Optional[Erasing] = None
-    pending: Optional[Pending] = None
+    pending: Union[Pending, Building, None] = None  # a request, or an event build (02, request 12)
     write: Optional[Write] = None
     listed: int = 0  # entries of the Q-List (02, request 7)
     turn: int = 0  # the place of the one that the next slow-control step looks at
+    event: int = 0  # the last event's number (02, request 12)
+    build_errors: int = 0  # builds whose event has bit 9 set
+    unread: int = 0  # words of the event that was built and not yet read, 0 for none
 
 
 ZEROS = Node()  # what a refused start hands back
@@ -90,6 +96,7 @@ class Lent:
     memories: dict  # by the names PM, DM and IO
     area: list  # in which the packets of a File Write are joined
     qlist: list  # seven words a record
+    events: list  # the event area
     reply: list
 
 
@@ -98,7 +105,7 @@ def more(count):
     return min(count + 1, 0xFFFF)
 
 
-# Call refusals: the first cause that holds, of those that the call has, in the order of the table; 8 and 9 come behind 3.
+# Call refusals: the first cause that holds, of those that the call has, in the order of the table; 8, 9 and 11 come behind 3.
 
 
 def flash_refused(flash, node):
@@ -121,24 +128,41 @@ def qlist_refused(qlist, node):
     return not node.listed <= records_in(qlist) <= MOST
 
 
+def events_refused(events):
+    return len(events) < AREA
+
+
 def start_refused(kind, ports, subdetector):
     return kind not in (CDP, CDDC) or ports not in range(1, 5) or subdetector not in range(8)
 
 
+def gathered_refused(slave, gathered, kept):
+    """Of a group or a build, around whose fragments so many words are kept free."""
+    if gathered.asked > ALL or not gathered.asked >> slave & 1:
+        return True
+    left = len(slaves_of(gathered.asked >> slave + 1))
+    if gathered.words + 5 * (left + 1) + kept > AREA or gathered.words + gathered.received + 5 * left + kept > AREA:
+        return True
+    return gathered.received == 0 and gathered.rx_status != 0
+
+
 def group_refused(slave, group):
-    if group.asked > ALL or not group.asked >> slave & 1:
+    return gathered_refused(slave, group, GroupRules.kept) or group.first not in (1, 2) or group.tally not in range(7)
+
+
+def build_refused(build):
+    if gathered_refused(build.slave, build, EventRules.kept) or build.tally not in TALLIES:
         return True
-    left = len(slaves_of(group.asked >> slave + 1))
-    if group.words + 5 * (left + 1) + 2 > AREA or group.words + group.received + 5 * left + 2 > AREA:
-        return True
-    return group.first not in (1, 2) or group.tally not in range(7) or group.received == 0 and group.rx_status != 0
+    return build.times not in range(1, ASKS + 1) or build.left_out > ALL
 
 
 def pending_refused(node):
     pending = node.pending
-    if pending.link >= node.ports or pending.slave >= SLAVES:
+    if pending.slave >= SLAVES:
         return True
-    return pending.group is not None and group_refused(pending.slave, pending.group)
+    if isinstance(pending, Building):
+        return build_refused(pending)
+    return pending.link >= node.ports or pending.group is not None and group_refused(pending.slave, pending.group)
 
 
 def erasing_refused(node):
@@ -162,7 +186,7 @@ def state_refused(node):
         return True
     if node.erasing is not None and erasing_refused(node):
         return True
-    if node.write is not None and write_refused(node) or listing_refused(node):
+    if node.write is not None and write_refused(node) or listing_refused(node) or node.unread > AREA:
         return True
     return node.pending is not None and pending_refused(node)
 
@@ -194,12 +218,19 @@ def sent(reply, bc, words):
 
 
 # Own commands. Each takes the node, what is lent, when and on which link it was asked, and its parameters; it hands back the node
-# and either the data words of a read reply or the BC of a 0-length one.
+# and either the data words of a read reply, or a reply as it is sent, or the BC of a 0-length one.
+
+
+@dataclass(frozen=True)
+class AsItIs:
+    """A reply to which no status word and no FCS are put."""
+
+    words: list
 
 
 def read_status(node, lent, now, link, parameters):
     elapsed = (now - node.start_clock) % 2**32
-    counts = (0x2000 if node.amswire else 0) | (0x1000 if node.flash_errors else 0)
+    counts = (0x4000 if node.build_errors else 0) | (0x2000 if node.amswire else 0) | (0x1000 if node.flash_errors else 0)
     return node, [
         node.program_version,
         1 << 12 | node.kind << 8 | node.subdetector << 4 | node.ports,
@@ -207,8 +238,8 @@ def read_status(node, lent, now, link, parameters):
         elapsed & 0xFFFF,
         elapsed >> 16,
         counts | node.start_tests & 0x0F00 | link,
-        0,  # the last event number
-        0,  # build errors
+        node.event,
+        node.build_errors,
         node.amswire,
         node.flash_errors,
     ]
@@ -399,8 +430,29 @@ def qlist_read(node, lent, now, link, parameters):
     return node, [node.listed] + [word for entry in entries_of(lent.qlist, node.listed) for word in entry.told()]
 
 
+# Events (02, request 12, and sections 7.18 to 7.20).
+
+
+def event_read(node, lent, now, link, parameters):
+    """The event that was built, once: what stands in the event area is it, status word and FCS included."""
+    if node.unread == 0:
+        return node, END
+    return replace(node, unread=0), AsItIs(lent.events[:node.unread])
+
+
+def event_number(node, lent, now, link, parameters):
+    return node, [node.event, 0]  # the average time is 0
+
+
+def event_reset(node, lent, now, link, parameters):
+    return replace(node, event=0, unread=0), END
+
+
 ANY = range(JOINED + 1)  # as many as come
 COMMANDS = {  # by request ID: the command and its parameter counts
+    0x01: (event_read, (0,)),
+    0x02: (event_number, (0,)),
+    0x42: (event_reset, (0,)),
     0x0C: (read_status, (0,)),
     0x0D: (ping, range(8001)),
     0x05: (file_read, (1,)),
@@ -439,6 +491,8 @@ def own_command(node, lent, now, link, number, parameters):
     node, outcome = command(node, lent, now, link, parameters)
     if outcome in (ABORT, END):
         return node, zero_reply(outcome)
+    if isinstance(outcome, AsItIs):
+        return node, sent(lent.reply, 0b11, outcome.words)
     if len(outcome) + 2 > AREA:
         return node, zero_reply(ABORT)
     return node, sent(lent.reply, 0b11, sealed(outcome + [own_status(node)]))
@@ -548,13 +602,31 @@ def answered(node, lent, now, link, bc, receive_error, packet):
     return counted(node)
 
 
-# Group assembly: an answer of the slave now being asked, and what comes next.
+# An answer of the slave now being asked, and what comes next: of a single one, in a group, in a build.
 
 
-def taken(node, reply, now, answer):
-    pending, group = node.pending, node.pending.group
+def taken(node, lent, now, answer):
     if answer.errors and not answer.late:
         node = replace(node, amswire=more(node.amswire))
+    if isinstance(node.pending, Building):
+        return built_on(node, lent.events, now, answer)
+    return asked_on(node, lent.reply, now, answer)
+
+
+def built_on(node, events, now, answer):
+    """An event is unread from its end on, its number is the last one, and bit 9 of its status word is an error of the build."""
+    number = number_after(node.event)
+    pending, said = taken_in_build(node.pending, events, number, own_status(node), now, answer)
+    node = replace(node, pending=pending)
+    if said[0] != "built":
+        return node, said
+    words = said[1]
+    errors = more(node.build_errors) if events[words - 2] & 0x0200 else node.build_errors
+    return replace(node, event=number, build_errors=errors, unread=words), said
+
+
+def asked_on(node, reply, now, answer):
+    pending, group = node.pending, node.pending.group
     if group is None:
         return replace(node, pending=None), sent(reply, *single(answer))
     later = [slave for slave in slaves_of(group.asked) if slave > pending.slave]
@@ -587,7 +659,7 @@ def ended(reply, built, tally, own):
     return "reply", 0b11, built + 2
 
 
-# The six calls.
+# The seven calls.
 
 
 def start(kind, ports, subdetector, program_version, subdetector_version, start_tests, clock, flash):
@@ -616,6 +688,7 @@ def request(node, lent, now, link, bc, receive_error, packet):
         (3, memories_refused(lent.memories)),
         (8, area_refused(lent.area)),
         (9, qlist_refused(lent.qlist, node)),
+        (11, events_refused(lent.events)),
         (4, link >= node.ports),
         (5, state_refused(node)),
         (6, len(packet) > 0 and node.pending is not None),
@@ -625,9 +698,22 @@ def request(node, lent, now, link, bc, receive_error, packet):
     return answered(node, lent, now, link, bc & 3, receive_error, packet)
 
 
-def reply(node, buffer, now, slave, bc, receive_error, rx_status, rx_address, words):
+def build(node, events, now):
+    """The slaves of mask 0 are asked for Read Event, the lowest first."""
+    refusal = first_of((11, events_refused(events)), (5, state_refused(node)), (6, node.pending is not None))
+    if refusal:
+        return node, ("refused", refusal)
+    if node.kind == CDP or node.masks[0] == 0 or node.unread > 0:
+        return node, zero_reply(ABORT)
+    pending, said = begun(node.masks[0], now)
+    return replace(node, pending=pending), said
+
+
+def reply(node, lent, now, slave, bc, receive_error, rx_status, rx_address, words):
+    """It is lent the reply buffer and the event area alone."""
     refusal = first_of(
-        (2, buffer_refused(buffer)),
+        (2, buffer_refused(lent.reply)),
+        (11, events_refused(lent.events)),
         (4, slave >= SLAVES),
         (5, state_refused(node)),
         (7, node.pending is None or node.pending.slave != slave),
@@ -635,16 +721,22 @@ def reply(node, buffer, now, slave, bc, receive_error, rx_status, rx_address, wo
     if refusal:
         return node, ("refused", refusal)
     late = is_late(now, node.pending.at)
-    return taken(node, buffer, now, Answer(late, receive_error != 0, rx_status, rx_address, bc, words))
+    return taken(node, lent, now, Answer(late, receive_error != 0, rx_status, rx_address, bc, words))
 
 
-def poll(node, buffer, now):
-    refusal = first_of((2, buffer_refused(buffer)), (5, state_refused(node)), (7, node.pending is None))
+def poll(node, lent, now):
+    """It is lent what a reply is."""
+    refusal = first_of(
+        (2, buffer_refused(lent.reply)),
+        (11, events_refused(lent.events)),
+        (5, state_refused(node)),
+        (7, node.pending is None),
+    )
     if refusal:
         return node, ("refused", refusal)
     if not is_late(now, node.pending.at):
         return node, ("waiting",)
-    return taken(node, buffer, now, Answer(True, False, 0, 0, 0, []))
+    return taken(node, lent, now, Answer(True, False, 0, 0, 0, []))
 
 
 def erase(node, flash, budget):

@@ -2,6 +2,8 @@
 
 from node_lines import Program
 from script import Script
+from scripts_events import build_aborts, build_errors, build_kinds, build_masks, build_ranges, build_room, build_times, event_counts
+from scripts_events import event_lengths, event_series, event_soup, exclusion, read_events, read_meanwhile
 from scripts_flash import bad_sectors, directories, every_sector, files, long_files
 from scripts_lengths import erasing_lengths, shown_lengths, wrong_lengths
 from scripts_list import kept_lists, list_deletes, list_frequencies, list_is_full, list_meanwhile, list_refusals, list_room, list_segments
@@ -39,6 +41,8 @@ SCRIPTS = (
     list_writes, list_segments, list_frequencies, list_is_full, list_room, list_deletes, list_turns, list_meanwhile, kept_lists, list_refusals,
     series_of_commands, series_of_each, series_go_on, series_without_words, series_of_writes, series_of_long_writes, series_ask, series_numbers,
     series_while_pending, series_room, series_fill, series_lent, series_past_the_end, series_empty, series_soup,
+    build_kinds, build_masks, build_aborts, event_lengths, read_events, read_meanwhile, event_series, event_counts, exclusion, build_errors,
+    build_times, build_room, build_ranges, event_soup,
 )
 
 

@@ -7,14 +7,14 @@ from build import file_of, segment
 from files import DM, IO, PM
 from flash import SIZES
 from node import CDDC
-from node_lines import BUFFER, DATA, DIGEST, ERASE, FILL, FLASH, LEND, MEMORY_ROOM, NO_WRITE, NUMBERS, PENDING_GROUP, PENDING_SLAVE, POKE
-from node_lines import POLL, PROGRAM, REGISTERS, REPLY, REQUEST, SERIES, SET, SLOW, START, STATE, WRITE, Program, halves
+from node_lines import BUFFER, BUILD, DATA, DIGEST, ERASE, FILL, FLASH, LEND, MEMORY_ROOM, NO_WRITE, NUMBERS, PENDING_BUILD, PENDING_GROUP
+from node_lines import PENDING_SLAVE, POKE, POLL, PROGRAM, REGISTERS, REPLY, REQUEST, SERIES, SET, SLOW, START, STATE, WRITE, Program, halves
 from runs import check_sequence
 from words import line_of, run_of
 
 BENCH, FULL = SIZES
 OWN = 0x2E
-SHOW_AREA, SHOW_LIST = 32, 64
+SHOW_AREA, SHOW_LIST, SHOW_EVENTS = 32, 64, 128
 ONE_REPLY = 12304  # words of the reply buffer that a call for one reply has to do with; those behind are for lists of requests
 LONGEST_LINE = 200  # words
 CHANGES = {0x45: 1, 0x48: 1, 0x50: 2, 0x51: 4, 0x0F: 8, 0x46: 14, 0x5B: SHOW_LIST, 0x5C: SHOW_LIST}  # the memories that a command can change
@@ -80,12 +80,16 @@ class Script:
     def set_group(self, link, slave, at, asked, first=1, words=0, tally=0, received=0, rx_status=0):
         self.set(PENDING_GROUP, at, link, slave, *halves(asked), first, *halves(words), tally, *halves(received), rx_status)
 
+    def set_build(self, slave, at, asked, words=0, tally=0, received=0, rx_status=0, times=1, left_out=0):
+        gathered = [0, *halves(words), tally, *halves(received), rx_status]
+        self.set(PENDING_BUILD, at, 0, slave, *halves(asked), *gathered, times, *halves(left_out))
+
     def set_write(self, link=None, joined=0):
         """A write of a link stands, or none does."""
         self.set(NO_WRITE) if link is None else self.set(WRITE, joined, link)
 
-    def lend(self, flash=BENCH, pm=64, dm=64, io=64, reply=12288, area=32768, qlist=70):
-        self.put(LEND, *[half for count in (flash, pm, dm, io, reply, area, qlist) for half in halves(count)])
+    def lend(self, flash=BENCH, pm=64, dm=64, io=64, reply=12288, area=32768, qlist=70, events=12288):
+        self.put(LEND, *[half for count in (flash, pm, dm, io, reply, area, qlist, events) for half in halves(count)])
 
     def digest(self, memory, at, count):
         self.put(DIGEST, memory, *halves(at), *halves(count))
@@ -120,6 +124,10 @@ class Script:
     def poll(self, show=None):
         show = self.pick.choice((0, 0, 16)) if show is None else show
         return self.call(POLL, show, *halves(self.now()))
+
+    def build(self, show=None):
+        show = self.pick.choice((0, 0, SHOW_EVENTS)) if show is None else show
+        return self.call(BUILD, show, *halves(self.now()))
 
     def erase(self, budget, show=None):
         show = int(self.pick.randrange(3 if len(self.program.lent[FLASH]) <= BENCH else 9) == 0) if show is None else show

@@ -12,13 +12,14 @@ from itertools import product
 
 from build import file_of, segment
 from capture import answered, broken_at, fragment_of
-from event import Build
+from event import Building
+from event_vectors import Build
 from fcs import fcs
 from files import DM, IO, PM, sealed
 from flash import SECTORS, address_of, attributed, directory_of, extent, kept
 from group import ABORT, AREA, END, ERROR, MORE, NEXT, Answer, ending, fragment, is_late, tally_with, zero_length
 from memory import index, read
-from node import CDDC, CDP, ZEROS, Lent, Pending, Write, erase, poll, reply, request, slow, start
+from node import CDDC, CDP, ZEROS, Built, Lent, Pending, Write, build, erase, poll, reply, request, slow, start
 from node_lines import FLASH, POKE
 from script import Script
 from scripts_flash import flash_step
@@ -31,7 +32,7 @@ BENCH = 32768
 
 
 def lent(flash=BENCH):
-    return Lent([0xFFFF] * flash, {PM: [0] * 8192, DM: [0] * 32768, IO: [0] * 64}, [0] * 32768, [0] * 7 * 910, [0] * AREA)
+    return Lent([0xFFFF] * flash, {PM: [0] * 8192, DM: [0] * 32768, IO: [0] * 64}, [0] * 32768, [0] * 7 * 910, [0] * AREA, [0] * AREA)
 
 
 def started(kind=CDDC, flash=BENCH, clock=0):
@@ -81,8 +82,8 @@ class Examples(unittest.TestCase):
         node, memories = started()
         node, answer = request(node, memories, 0xFFFFFFF0, 0, 3, 0, [0x0405, 0x0C2E])
         self.assertEqual(answer, ("ask", 5, 1))
-        self.assertEqual(poll(node, memories.reply, 0x2B), (node, ("waiting",)))
-        self.assertEqual(poll(node, memories.reply, 0x2C)[1], ("reply", ABORT, 0))
+        self.assertEqual(poll(node, memories, 0x2B), (node, ("waiting",)))
+        self.assertEqual(poll(node, memories, 0x2C)[1], ("reply", ABORT, 0))
 
     def test_bench_lines(self):
         node, memories = started()
@@ -127,8 +128,8 @@ class Calls(unittest.TestCase):
         for kind, ports, subdetector in ((0, 4, 0), (3, 4, 0), (1, 0, 0), (1, 5, 0), (2, 4, 8)):
             self.assertEqual(start(kind, ports, subdetector, 0, 0, 0, 0, memories.flash), (ZEROS, ("refused", 4)))
         self.assertEqual(start(1, 4, 0, 0, 0, 0, 0, memories.flash[1:]), (ZEROS, ("refused", 1)))
-        self.assertEqual(poll(ZEROS, memories.reply, 0), (ZEROS, ("refused", 5)))
-        self.assertEqual(reply(ZEROS, memories.reply, 0, 0, 3, 0, 0, 0, []), (ZEROS, ("refused", 5)))
+        self.assertEqual(poll(ZEROS, memories, 0), (ZEROS, ("refused", 5)))
+        self.assertEqual(reply(ZEROS, memories, 0, 0, 3, 0, 0, 0, []), (ZEROS, ("refused", 5)))
         self.assertEqual(request(ZEROS, memories, 0, 0, 3, 0, own(0x0C))[1], ("refused", 1))
 
     def test_status(self):
@@ -172,12 +173,12 @@ class Calls(unittest.TestCase):
         node, memories = started()
         node, answer = request(node, memories, 0, 1, 3, 0, [0xA023, 0x8000, 0x0C2E])
         self.assertEqual((answer, node.pending.group.asked), (("ask", 5, 2), 0x8000A0))
-        node, answer = reply(node, memories.reply, 1, 5, ABORT, 0, 0, 0, [])
+        node, answer = reply(node, memories, 1, 5, ABORT, 0, 0, 0, [])
         self.assertEqual(answer, ("ask", 7, 2))
         data = [0xAAAA, 0x0001, 0x01A0]
-        node, answer = reply(node, memories.reply, 2, 7, 3, 0, 0, 0, data + [fcs(data)])
+        node, answer = reply(node, memories, 2, 7, 3, 0, 0, 0, data + [fcs(data)])
         self.assertEqual(answer, ("ask", 23, 2))
-        node, answer = poll(node, memories.reply, 62)
+        node, answer = poll(node, memories, 62)
         words = [0x0001, 0x1005, 0x0003, 0xAAAA, 0x0001, 0x81A7, 0x0001, 0x2817, 0x0200]
         self.assertEqual((answer, memories.reply[:10], node.pending), (("reply", 3, 10), words + [fcs(words)], None))
 
@@ -195,9 +196,9 @@ class Calls(unittest.TestCase):
     def test_all_slaves_the_same_zero_length_reply(self):
         node, memories = started()
         node, _ = request(node, memories, 0, 1, 3, 0, [0x0323, 0x0000, 0x0C2E])
-        node, answer = reply(node, memories.reply, 0, 0, END, 0, 0, 0, [])
+        node, answer = reply(node, memories, 0, 0, END, 0, 0, 0, [])
         self.assertEqual((answer, node.pending.slave), (("ask", 1, 2), 1))
-        node, answer = reply(node, memories.reply, 0, 1, END, 0, 0, 0, [])
+        node, answer = reply(node, memories, 0, 1, END, 0, 0, 0, [])
         self.assertEqual((answer, memories.reply[:5]), (("reply", END, 0), [1, 0x2000, 1, 0x2001, 0]))
 
     def test_a_request_while_one_is_pending(self):
@@ -206,7 +207,7 @@ class Calls(unittest.TestCase):
         self.assertEqual(node.pending, Pending(1, 5, 0))
         self.assertEqual(request(node, memories, 0, 0, 3, 1, [0x0C2E]), (node, ("refused", 6)))
         self.assertEqual(request(node, memories, 0, 0, 2, 0, []), (node, ("reply", ABORT, 0)))
-        self.assertEqual(reply(node, memories.reply, 0, 4, 3, 0, 0, 0, []), (node, ("refused", 7)))
+        self.assertEqual(reply(node, memories, 0, 4, 3, 0, 0, 0, []), (node, ("refused", 7)))
         node, answer = request(node, memories, 0, 1, 2, 0, [])
         self.assertEqual((answer, node.pending), (("reply", END, 0), None))
 
@@ -232,7 +233,7 @@ class StartMasks(unittest.TestCase):
         node, answer = request(node, memories, 0, 0, 3, 0, [0x0040, 0x0C2E])
         for slave in range(24):
             self.assertEqual(answer, ("ask", slave, 1))
-            node, answer = reply(node, memories.reply, 0, slave, END, 0, 0, 0, [])
+            node, answer = reply(node, memories, 0, slave, END, 0, 0, 0, [])
         self.assertEqual((answer, node.pending), (("reply", END, 0), None))
 
     def test_a_cdp(self):
@@ -564,7 +565,7 @@ class Packets(unittest.TestCase):
             node = replace(self.node, write=write)
             self.assertEqual(request(node, self.lent, 0, 0, 3, 0, own(0x0C)), (node, ("refused", 5)))
             self.assertEqual(erase(node, self.lent.flash, 1), (node, ("refused", 5)))
-            self.assertEqual(poll(node, self.lent.reply, 1), (node, ("refused", 5)))
+            self.assertEqual(poll(node, self.lent, 1), (node, ("refused", 5)))
         node = replace(self.node, pending=Pending(2, 5, 0))
         self.assertEqual(request(node, self.lent, 0, 1, 0, 0, [1]), (node, ("refused", 6)))
         self.assertIsNone(started()[0].write)
@@ -602,7 +603,7 @@ class Replies(unittest.TestCase):
     def give(self, words, bc, now=100, error=0, rx=(0, 0), slave=None):
         """What a packet is answered."""
         slave = self.node.pending.slave if slave is None else slave
-        self.node, answer = reply(self.node, self.lent.reply, now, slave, bc, error, *rx, list(words))
+        self.node, answer = reply(self.node, self.lent, now, slave, bc, error, *rx, list(words))
         return answer
 
     def stored(self, words, bc, now=100, rx=0):
@@ -678,7 +679,7 @@ class Replies(unittest.TestCase):
                     now = (at + 118 + 59 + late) % 2**32
                     node = self.node
                     if by_poll:
-                        self.node, answer = poll(self.node, self.lent.reply, now)
+                        self.node, answer = poll(self.node, self.lent, now)
                     else:
                         answer = self.give(self.REPLY[3:], self.LAST, now, rx=(0x9999, 0x9999))
                     if not late and by_poll:
@@ -702,7 +703,7 @@ class Replies(unittest.TestCase):
         for by_poll in (False, True):
             self.ask(7)
             if by_poll:
-                self.node, answer = poll(self.node, self.lent.reply, 160)
+                self.node, answer = poll(self.node, self.lent, 160)
             else:
                 answer = self.give(self.REPLY[:2], self.FIRST, 160)
             self.ends([1, 0x2807], answer)
@@ -806,7 +807,7 @@ class Replies(unittest.TestCase):
         self.ask(7)
         self.stored(self.REPLY[:3], self.FIRST, rx=0x1234)
         self.lent.reply[1] = 0xBBBB
-        self.node, answer = poll(self.node, self.lent.reply, 160)
+        self.node, answer = poll(self.node, self.lent, 160)
         self.ends([4, 0x1234, 3, 0xBBBB, 0xB007], answer)
 
     def test_all_slaves_in_packets(self):
@@ -849,10 +850,10 @@ class Replies(unittest.TestCase):
                 self.ask(*slaves, w=w)
                 self.set(received=received, rx_status=rx_status)
                 node = self.node
-                self.assertEqual(poll(node, self.lent.reply, 100), (node, ("waiting",) if fine else ("refused", 5)))
+                self.assertEqual(poll(node, self.lent, 100), (node, ("waiting",) if fine else ("refused", 5)))
                 self.assertEqual(erase(node, self.lent.flash, 1), (node, ("erased", 0) if fine else ("refused", 5)))
                 self.assertEqual(request(node, self.lent, 100, 0, 3, 0, [7])[1], ("refused", 6 if fine else 5))
-                self.assertEqual(reply(node, self.lent.reply, 100, 9, 3, 0, 0, 0, [])[1], ("refused", 7 if fine else 5))
+                self.assertEqual(reply(node, self.lent, 100, 9, 3, 0, 0, 0, [])[1], ("refused", 7 if fine else 5))
 
 
 class Events(unittest.TestCase):
@@ -863,7 +864,7 @@ class Events(unittest.TestCase):
     def begin(self, *slaves, last=0, now=100):
         self.area = [0x5A5A] * AREA
         self.build = Build(self.area, sum(1 << slave for slave in slaves), last, 0x01A0, now)
-        self.assertEqual((self.build.answer, self.build.times), (("ask", slaves[0]), 1))
+        self.assertEqual((self.build.answer, self.build.kept.times), (("read", slaves[0]), 1))
 
     def give(self, words, bc=WHOLE, now=100, errors=0, rx=(0x1234, 0x4321)):
         return self.build.reply(now, errors, *rx, bc, list(words))
@@ -916,7 +917,7 @@ class Events(unittest.TestCase):
     def test_left_out(self):
         """Code 0 and length 1: no fragment, but a bit of the mask words, slaves 23-16 first. All had code 0: bit 9 is clear."""
         self.begin(0, 5, 16, 23)
-        self.assertEqual(self.give(sealed([1, 0x01A0])), ("ask", 5))
+        self.assertEqual(self.give(sealed([1, 0x01A0])), ("read", 5))
         self.assertEqual(self.area, [0x5A5A] * AREA)
         self.give(sealed([1, 0xCCCC, 0x0020]))
         self.give(sealed([1, 0x07E0]))
@@ -934,8 +935,8 @@ class Events(unittest.TestCase):
         words = sealed([1, 0x01A0])
         self.begin(5, 7)
         self.give(words[:2], self.FIRST)
-        self.assertEqual(self.give(words[2:], self.LAST), ("ask", 7))
-        self.assertEqual((self.build.built, self.build.left_out, self.area[:5]), (0, 0x20, [0x5A5A, 0x5A5A, 1, 0x01A0, 0x5A5A]))
+        self.assertEqual(self.give(words[2:], self.LAST), ("read", 7))
+        self.assertEqual((self.build.kept.words, self.build.kept.left_out, self.area[:5]), (0, 0x20, [0x5A5A, 0x5A5A, 1, 0x01A0, 0x5A5A]))
         self.is_built(self.build.poll(160), 1, 1, 0x2807, 0, 0x0020, 0x0380)
 
     def test_moved_down(self):
@@ -945,19 +946,19 @@ class Events(unittest.TestCase):
             self.begin(7, 8)
             self.give(words[:cut], self.FIRST)
             self.assertEqual(self.area[:7], [0x5A5A, 0x5A5A, *words[:cut], *[0x5A5A] * (5 - cut)])
-            self.assertEqual(self.give(words[cut:], self.LAST), ("ask", 8))
+            self.assertEqual(self.give(words[cut:], self.LAST), ("read", 8))
             self.assertEqual(self.area[:7], [0x5A5A, 3, 0xAAAA, 0xBBBB, 0x81A7, past, 0x5A5A])
 
     def test_end_is_asked_again(self):
         """Twice, at this clock, and a slave that has data then is as any other; the third END is the fragment."""
         self.begin(5, 7)
         for times, now in ((2, 159), (3, 218)):
-            self.assertEqual(self.give([], self.WHOLE, now), ("ask", 5))
-            self.assertEqual((self.build.times, self.build.asked_at, self.build.built, self.build.tally), (times, now, 0, 0))
+            self.assertEqual(self.give([], self.WHOLE, now), ("read", 5))
+            self.assertEqual((self.build.kept.times, self.build.kept.at, self.build.kept.words, self.build.kept.tally), (times, now, 0, 0))
             self.assertEqual(self.build.poll(now + 59), ("waiting",))
-        self.assertEqual(self.give(sealed([1, 0xAAAA, 0x01A0]), now=277), ("ask", 7))
-        self.assertEqual((self.build.times, self.build.built), (1, 3))
-        for answer in (("ask", 7), ("ask", 7)):
+        self.assertEqual(self.give(sealed([1, 0xAAAA, 0x01A0]), now=277), ("read", 7))
+        self.assertEqual((self.build.kept.times, self.build.kept.words), (1, 3))
+        for answer in (("read", 7), ("read", 7)):
             self.assertEqual(self.give([], now=277), answer)
         self.is_built(self.give([], now=277), 1, 2, 0xAAAA, 0x81A5, 1, 0x2007, 0, 0, 0x0380)
 
@@ -965,16 +966,16 @@ class Events(unittest.TestCase):
         """NEXT, ERROR, ABORT, receive errors and timeouts are fragments at once; END behind NEXT is code 7."""
         for bc, status in ((0, 0x0805), (1, 0x1805), (2, 0x1005)):
             self.begin(5, 7)
-            self.assertEqual(self.give([], bc), ("ask", 7))
+            self.assertEqual(self.give([], bc), ("read", 7))
             self.assertEqual(self.area[1:3], [1, status])
         for now, errors, fragment in ((160, 0, [1, 0x2805]), (160, 1, [1, 0x2805]), (159, 1, [3, 0x1234, 0x4321, 0x3005])):
             self.begin(5, 7)
-            self.assertEqual(self.give([], self.WHOLE, now, errors), ("ask", 7))
-            self.assertEqual((self.area[1:1 + len(fragment)], self.build.tally), (fragment, 1))
+            self.assertEqual(self.give([], self.WHOLE, now, errors), ("read", 7))
+            self.assertEqual((self.area[1:1 + len(fragment)], self.build.kept.tally), (fragment, 1))
         self.begin(5, 7)
         self.give([1, 2], self.FIRST)
-        self.assertEqual(self.give([], self.WHOLE, rx=(7, 7)), ("ask", 7))
-        self.assertEqual((self.area[1:6], self.build.times), ([4, 7, 2, 1, 0xB805], 1))
+        self.assertEqual(self.give([], self.WHOLE, rx=(7, 7)), ("read", 7))
+        self.assertEqual((self.area[1:6], self.build.kept.times), ([4, 7, 2, 1, 0xB805], 1))
 
     def test_no_event(self):
         """No fragment has DAT: word 0 stays, and nothing stands behind the fragments."""
@@ -982,7 +983,7 @@ class Events(unittest.TestCase):
         self.give([], 2)
         self.build.poll(160)
         self.give([1, 9, 9], errors=1, now=160)
-        for answer in (("ask", 23), ("ask", 23), ("no event",)):
+        for answer in (("read", 23), ("read", 23), ("no event",)):
             self.assertEqual(self.give([], now=160), answer)
         self.assertEqual(self.area[:12], [0x5A5A, 1, 0x1000, 1, 0x2805, 3, 0x1234, 0x4321, 0x3007, 1, 0x2017, 0x5A5A])
 
@@ -996,10 +997,272 @@ class Events(unittest.TestCase):
                 answer = self.give(sealed([1, *[0] * (n - 2)]))
                 words = [n - 2, *[0] * (n - 3), status] if status == 0x8007 else [4, 0x1234, n, 1, status]
                 self.is_built(answer, 1, *words, 0, 8 if before else 0, 0x0180 if status == 0x8007 else 0x0380)
-        for n, answer in ((12278, ("next", 7)), (12279, ("ask", 9))):
+        for n, answer in ((12278, ("next", 7)), (12279, ("read", 9))):
             self.begin(7, 9)
             self.assertEqual(self.give([1] * n, self.FIRST), answer)
         self.assertEqual(self.area[1:6], [4, 0x1234, 12279, 1, 0xD007])
+
+
+class Builds(unittest.TestCase):
+    """02, request 12, at the node: the call that begins a build, what becomes of the event, and the commands 01, 02 and 42. The slaves of mask 0
+    are 5 and 7."""
+
+    MASK = 1 << 5 | 1 << 7
+    DATA = sealed([1, 0xAAAA, 0x01A0])  # of the first event
+    EVENT = sealed([1, 2, 0xAAAA, 0x81A5, 1, 0x2807, 0, 0, 0x0200])  # slave 5 gives it, slave 7 is late
+
+    def setUp(self):
+        self.node, self.lent = started()
+        self.node = replace(self.node, masks=(self.MASK,) + self.node.masks[1:])
+        self.lent.events[:] = [0x5A5A] * AREA
+        self.lent.reply[:] = [0xEEEE] * AREA
+
+    def build(self, now=100):
+        self.node, answer = build(self.node, self.lent.events, now)
+        return answer
+
+    def ask(self, packet, bc=3, link=2):
+        self.node, answer = request(self.node, self.lent, 100, link, bc, 0, list(packet))
+        return answer
+
+    def give(self, words, bc=3, now=100, error=0, slave=None):
+        slave = self.node.pending.slave if slave is None else slave
+        self.node, answer = reply(self.node, self.lent, now, slave, bc, error, 0x1234, 0x4321, list(words))
+        return answer
+
+    def poll(self, now):
+        self.node, answer = poll(self.node, self.lent, now)
+        return answer
+
+    def built(self):
+        """An event of ten words with bit 9."""
+        self.assertEqual((self.build(), self.give(self.DATA), self.poll(160)), (("read", 5), ("read", 7), ("built", 10)))
+
+    def stays(self, work):
+        """What some work is answered, and whether it left node, event area and reply buffer."""
+        node, events, buffer = self.node, list(self.lent.events), list(self.lent.reply)
+        return work(), (self.node, self.lent.events, self.lent.reply) == (node, events, buffer)
+
+    def test_a_build(self):
+        """The lowest slave of mask 0 is asked, then the next; the event stands in the event area, and no word of the reply buffer changes."""
+        self.assertEqual((self.build(), self.node.pending), (("read", 5), Building(5, 100, self.MASK)))
+        self.assertEqual((self.give(self.DATA, now=110), self.node.pending), (("read", 7), Building(7, 110, self.MASK, words=3, tally=5)))
+        self.assertEqual(self.give(sealed([1, 0x0020]), now=120), ("built", 8))
+        self.assertEqual(self.lent.events[:9], [*sealed([1, 2, 0xAAAA, 0x81A5, 0x0000, 0x0080, 0x0000]), 0x5A5A])
+        self.assertEqual((self.node.event, self.node.build_errors, self.node.unread, self.node.pending), (1, 0, 8, None))
+        self.assertEqual(self.lent.reply, [0xEEEE] * AREA)
+
+    def test_handed_out_once(self):
+        """Read Event hands out the words as they stand, then END; what stands behind them in the reply buffer stays."""
+        self.built()
+        self.assertEqual((self.ask(own(0x01)), self.lent.reply[:11]), (("reply", 3, 10), [*self.EVENT, 0xEEEE]))
+        self.assertEqual((self.node.unread, self.node.event, self.node.build_errors, self.lent.events[:10]), (0, 1, 1, self.EVENT))
+        self.assertEqual(self.stays(lambda: self.ask(own(0x01))), (("reply", END, 0), True))
+
+    def test_what_stands_in_the_event_area_is_handed_out(self):
+        self.built()
+        self.lent.events[:3] = [9, 8, 7]
+        self.assertEqual((self.ask(own(0x01)), self.lent.reply[:4]), (("reply", 3, 10), [9, 8, 7, 0x81A5]))
+
+    def test_an_event_unread(self):
+        """No build begins before it is read; other calls leave it."""
+        self.built()
+        self.assertEqual(self.stays(self.build), (("reply", ABORT, 0), True))
+        self.assertEqual((self.ask(own(0x52, 3)), self.ask(own(0x0D, 7))), (("reply", END, 0), ("reply", 3, 3)))
+        self.assertEqual(self.ask([0x0405, 0x0C2E]), ("ask", 5, 1))
+        self.assertEqual(self.give([1, 2, 3]), ("reply", 3, 3))
+        self.assertEqual((self.ask(own(0x01)), self.lent.reply[:10]), (("reply", 3, 10), self.EVENT))
+        self.assertEqual(self.build(), ("read", 5))
+        self.assertEqual(self.give(self.DATA), ("read", 7))  # another number by now
+        self.assertEqual(self.lent.events[1:6], [4, 0x1234, 4, 1, 0xA005])
+
+    def test_numbers(self):
+        """They go up by one with each event, and stay where there is none."""
+        self.built()
+        self.assertEqual((self.node.event, self.ask(own(0x01))), (1, ("reply", 3, 10)))
+        self.assertEqual((self.build(), self.poll(160)), (("read", 5), ("read", 7)))
+        self.assertEqual((self.poll(220), self.node.event, self.node.unread, self.node.build_errors), (("no event",), 1, 0, 1))
+        self.assertEqual(self.ask(own(0x01)), ("reply", END, 0))
+        self.node = replace(self.node, event=0xFFFF)
+        self.build()
+        self.give(sealed([0, 0x0020]))
+        self.assertEqual((self.give(sealed([0, 0x0020])), self.node.event, self.lent.events[0]), (("built", 5), 0, 0))
+
+    def test_last_event_number(self):
+        self.built()
+        for event in (1, 0, 0xFFFF):
+            self.node = replace(self.node, event=event)
+            self.assertEqual((self.ask(own(0x02)), self.lent.reply[:4]), (("reply", 3, 4), sealed([event, 0, 0x0020])))
+        self.assertEqual(self.node.unread, 10)
+
+    def test_reset(self):
+        """7.20: no event is left, and the last number is zero. Errors are counted on, and the area is left."""
+        self.built()
+        events = list(self.lent.events)
+        self.assertEqual((self.ask(own(0x42)), self.node.event, self.node.unread, self.node.build_errors), (("reply", END, 0), 0, 0, 1))
+        self.assertEqual((self.lent.events, self.ask(own(0x01))), (events, ("reply", END, 0)))
+        self.built()
+        self.assertEqual((self.node.event, self.node.build_errors), (1, 2))
+
+    def test_status(self):
+        """Words 7 and 8, and bit 14 of the node status; the count stops at FFFF."""
+        self.ask(own(0x0C))
+        self.assertEqual(self.lent.reply[5:8], [0x0002, 0, 0])
+        self.built()
+        self.ask(own(0x0C))
+        self.assertEqual(self.lent.reply[5:8], [0x4002, 1, 1])
+        self.node = replace(self.node, event=0x1234, build_errors=0xFFFE, unread=0)
+        for errors in (0xFFFF, 0xFFFF):
+            self.build()
+            self.give([9, 9])
+            self.poll(160)
+            self.node = replace(self.node, unread=0)
+            self.assertEqual(self.node.build_errors, errors)
+        self.ask(own(0x0C))
+        self.assertEqual(self.lent.reply[5:8], [0x4002, 0x1236, 0xFFFF])
+
+    def test_no_parameters(self):
+        self.built()
+        for number in (0x01, 0x02, 0x42):
+            for parameters in ((0,), (1, 2)):
+                self.assertEqual(self.stays(lambda: self.ask(own(number, *parameters))), (("reply", ABORT, 0), True))
+
+    def test_cdp(self):
+        """It builds none, and has the three commands."""
+        self.node, memories = started(CDP)
+        self.assertEqual(self.stays(self.build), (("reply", ABORT, 0), True))
+        self.node = replace(self.node, masks=(self.MASK,) * 16)
+        self.assertEqual(self.stays(self.build), (("reply", ABORT, 0), True))
+        self.assertEqual((self.ask(own(0x01)), self.ask(own(0x42))), (("reply", END, 0), ("reply", END, 0)))
+        self.assertEqual((self.ask(own(0x02)), self.lent.reply[:4]), (("reply", 3, 4), sealed([0, 0, 0x00A0])))
+
+    def test_an_empty_mask(self):
+        self.ask(own(0x57, 0x0000, 0x0000))
+        self.assertEqual(self.stays(self.build), (("reply", ABORT, 0), True))
+        self.ask(own(0x57, 0x0080, 0x0000))
+        self.assertEqual(self.build(), ("read", 23))
+
+    def test_while_an_erasure_runs(self):
+        self.assertEqual(self.ask(own(0x47, 0x1C00)), ("reply", END, 0))
+        self.built()
+        self.assertEqual(self.ask(own(0x01)), ("reply", 3, 10))
+
+    def test_6_covers_both(self):
+        """Neither a request with words nor a build begins while a slave, a group or a build is pending."""
+        self.build()
+        for pending in (self.node.pending, Pending(0, 5, 0), Pending(3, 5, 0, Built(self.MASK, 1, 0, 0))):
+            self.node = replace(self.node, pending=pending)
+            self.assertEqual(self.stays(self.build), (("refused", 6), True))
+            self.assertEqual(self.stays(lambda: self.ask(own(0x12))), (("refused", 6), True))
+        self.node = replace(self.node, kind=CDP, masks=(0,) * 16, unread=5)
+        self.assertEqual(self.build(), ("refused", 6))
+
+    def test_no_link_drops_a_build(self):
+        self.build()
+        for link in range(4):
+            for bc in range(4):
+                self.assertEqual(self.stays(lambda: self.ask([], bc, link)), (("reply", ABORT, 0), True))
+        pending = self.node.pending
+        self.node = replace(self.node, write=Write(0, 9))
+        self.assertEqual(self.stays(lambda: self.ask([], 2, 1)), (("reply", ABORT, 0), True))
+        self.assertEqual((self.ask([], 2, 0), self.node.write, self.node.pending), (("reply", END, 0), None, pending))
+
+    def test_7(self):
+        for work in (lambda: self.poll(100), lambda: self.give([], slave=5)):
+            self.assertEqual(self.stays(work), (("refused", 7), True))
+        self.build()
+        for slave in (0, 4, 6, 7, 23):
+            self.assertEqual(self.stays(lambda: self.give(self.DATA, slave=slave)), (("refused", 7), True))
+        self.assertEqual(self.stays(lambda: self.poll(159)), (("waiting",), True))
+
+    def test_receive_errors_are_counted(self):
+        """Before the timeout, as in a group."""
+        self.build()
+        self.assertEqual((self.give([1], error=1, now=159), self.node.amswire), (("read", 7), 1))
+        self.assertEqual((self.give([1], error=1, now=219), self.node.amswire), (("no event",), 1))
+
+    def test_in_packets(self):
+        self.build()
+        self.assertEqual(self.give([1, 0xAAAA], 2, now=159), ("next", 5))
+        self.assertEqual(self.node.pending, Building(5, 159, self.MASK, received=2, rx_status=0x1234))
+        self.assertEqual(self.lent.events[:5], [0x5A5A, 0x5A5A, 1, 0xAAAA, 0x5A5A])
+        self.assertEqual((self.poll(218), self.give(self.DATA[2:], 1, now=218)), (("waiting",), ("read", 7)))
+        self.assertEqual(self.poll(278), ("built", 10))
+        self.assertEqual(self.lent.events[:10], self.EVENT)
+
+    def test_other_calls_go_on(self):
+        self.build()
+        node = self.node
+        self.assertEqual(erase(node, self.lent.flash, 9), (node, ("erased", 0)))
+        self.assertEqual(slow(node, self.lent.qlist, 100), (node, ("nothing",)))
+
+    def test_start(self):
+        """Last number and errors are 0, no event is unread, and nothing is pending; mask 0 names all."""
+        self.built()
+        self.node, _ = start(CDDC, 4, 0, 0, 0, 0, 0, self.lent.flash)
+        self.assertEqual((self.node.event, self.node.build_errors, self.node.unread, self.node.pending), (0, 0, 0, None))
+        self.assertEqual(self.build(), ("read", 0))
+
+    def test_in_a_list_of_requests(self):
+        """Read Event is done as any other, behind two words and in a run apart from the event area."""
+        self.built()
+        self.lent.reply = [0xEEEE] * 30000
+        row = row_of((0, 3, own(0x01)), (1, 3, own(0x01)), (2, 3, own(0x02)))
+        self.node, answer = requests(self.node, self.lent, 100, row)
+        self.assertEqual(answer, ("done", 3))
+        self.assertEqual(self.lent.reply[:21], [3, 10, *self.EVENT, 3, 0, 3, 4, *sealed([1, 0, 0x0020]), 0xEEEE])
+        self.lent.events = self.lent.events[1:]
+        self.assertEqual(requests(self.node, self.lent, 100, row), (self.node, ("done", 0)))
+
+    def test_11(self):
+        """Behind 9 and before 4, in every call that is lent the event area."""
+        self.build()
+        held, short = self.node, replace(self.lent, events=[0] * (AREA - 1))
+        wrong = replace(held, mode=4)
+        for node in (held, wrong, replace(held, pending=None)):
+            self.assertEqual(build(node, short.events, 0), (node, ("refused", 11)))
+            self.assertEqual(poll(node, short, 0), (node, ("refused", 11)))
+            for slave in (5, 24):
+                self.assertEqual(reply(node, short, 0, slave, 3, 0, 0, 0, []), (node, ("refused", 11)))
+            for link in (0, 4):
+                self.assertEqual(request(node, short, 0, link, 3, 0, [7]), (node, ("refused", 11)))
+        for lent, number in ((replace(short, qlist=[0] * 7 * 911), 9), (replace(short, area=[]), 8), (replace(short, reply=[]), 2)):
+            self.assertEqual(request(held, lent, 0, 9, 3, 0, [7]), (held, ("refused", number)))
+        self.assertEqual(poll(held, replace(short, reply=[]), 0), (held, ("refused", 2)))
+        self.assertEqual(build(wrong, [0] * AREA, 0), (wrong, ("refused", 5)))
+        self.assertEqual(build(replace(held, pending=None), [0] * (AREA + 9), 0)[1], ("read", 5))
+
+    def test_ranges(self):
+        """5 tests what is newly kept."""
+        self.build()
+        pending = self.node.pending
+        good = ({}, {"times": 3}, {"tally": 1}, {"tally": 5}, {"tally": 6}, {"left_out": 0xFFFFFF}, {"words": AREA - 15}, {"received": AREA - 10},
+                {"received": 3, "rx_status": 0xFFFF}, {"slave": 7}, {"slave": 7, "words": AREA - 10}, {"slave": 7, "received": AREA - 5})
+        bad = ({"times": 0}, {"times": 4}, {"tally": 2}, {"tally": 3}, {"tally": 4}, {"tally": 7}, {"left_out": 0x1000000}, {"words": AREA - 14},
+               {"received": AREA - 9}, {"rx_status": 1}, {"slave": 7, "words": AREA - 9}, {"slave": 7, "received": AREA - 4}, {"slave": 6},
+               {"slave": 24}, {"asked": 0x10000A0}, {"asked": 0x80})
+        for fields, fine in [(fields, True) for fields in good] + [(fields, False) for fields in bad]:
+            node = replace(self.node, pending=replace(pending, **fields))
+            self.assertEqual((poll(node, self.lent, 100), fields), ((node, ("waiting",) if fine else ("refused", 5)), fields))
+            self.assertEqual(build(node, self.lent.events, 100), (node, ("refused", 6 if fine else 5)))
+            self.assertEqual(request(node, self.lent, 100, 0, 3, 0, [7])[1], ("refused", 6 if fine else 5))
+        for unread, fine in ((0, True), (1, True), (AREA, True), (AREA + 1, False), (2**32 - 1, False)):
+            for held in (None, pending):
+                node = replace(self.node, unread=unread, pending=held)
+                self.assertEqual(erase(node, self.lent.flash, 1), (node, ("erased", 0) if fine else ("refused", 5)))
+        node = replace(self.node, event=0xFFFF, build_errors=0xFFFF)
+        self.assertEqual(poll(node, self.lent, 100)[1], ("waiting",))
+
+    def test_an_event_unread_while_a_build_is_pending(self):
+        """No start leads there, and 5 lets it through: it stays where there is no event, and else the new one is unread."""
+        self.build()
+        self.node = replace(self.node, unread=7)
+        held = self.node
+        self.poll(160)
+        self.assertEqual((self.poll(220), self.node.unread), (("no event",), 7))
+        self.node = held
+        self.give(self.DATA)
+        self.assertEqual((self.poll(160), self.node.unread), (("built", 10), 10))
 
 
 class QList(unittest.TestCase):
@@ -1215,9 +1478,9 @@ class QList(unittest.TestCase):
         for listed, turn, fine in ((0, 0, True), (0, 1, False), (1, 0, True), (1, 1, False), (910, 909, True), (910, 910, False),
                                    (911, 0, False), (5, 65535, False)):
             node = replace(self.node, listed=listed, turn=turn, pending=Pending(0, 5, 0))
-            self.assertEqual(poll(node, memories.reply, 0), (node, ("waiting",) if fine else ("refused", 5)))
+            self.assertEqual(poll(node, memories, 0), (node, ("waiting",) if fine else ("refused", 5)))
             self.assertEqual(erase(node, memories.flash, 1)[1], ("erased", 0) if fine else ("refused", 5))
-            self.assertEqual(reply(node, memories.reply, 0, 9, 3, 0, 0, 0, [])[1], ("refused", 7 if fine else 5))
+            self.assertEqual(reply(node, memories, 0, 9, 3, 0, 0, 0, [])[1], ("refused", 7 if fine else 5))
             self.assertEqual(request(node, memories, 0, 0, 3, 0, [7])[1], ("refused", 6 if fine else 9 if listed > 910 else 5))
             if not fine:
                 self.assertEqual(slow(node, memories.qlist, 0), (node, ("refused", 9 if listed > 910 else 5)))
@@ -1554,7 +1817,7 @@ class Captures(unittest.TestCase):
                 now = 60 if item.late else 0
                 node = replace(node, pending=replace(node.pending, at=0))
                 rest = (item.bc, item.errors, item.rx_status, item.rx_address, item.words)
-                node, answer = reply(node, memories.reply, now, answer[1], *rest)
+                node, answer = reply(node, memories, now, answer[1], *rest)
         return memories.reply[:answer[2]]
 
 

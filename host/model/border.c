@@ -1,12 +1,15 @@
-/* The model at the C border: runs of bytes for words, 192 bytes for the node; and 02, request 11: a flash is bytes, and none is over. */
+/* The model at the C border: runs of bytes for words, 208 bytes for the node; and 02, request 11: a flash is bytes, and none is over. */
 #include "model.h"
 
 #include <string.h>
 
-enum { STATE = 192 };
+enum { STATE = 208 };
 static const struct limits border = {8192, 8192, 4096, 32768};
 
 static struct run words_of(uint8_t *bytes, size_t length) { return (struct run){bytes, length / 2}; }
+
+/* A run that is lent to be read. */
+static uint8_t *read_only(const uint8_t *bytes) { return (uint8_t *)(uintptr_t)bytes; }
 
 /* A flash with an odd byte over is none: no words, which 1 refuses. */
 static struct run flash_of(uint8_t *bytes, size_t length) { return (struct run){bytes, length % 2 == 0 ? length / 2 : 0}; }
@@ -47,13 +50,22 @@ static bool decoded(const uint8_t *state, struct node *node) {
     node->rx_status = word_at(state + 184, 0);
     node->listed = word_at(state + 188, 0);
     node->turn = word_at(state + 190, 0);
-    if (word_at(state + 186, 0) != 0)
+    node->event = word_at(state + 192, 0);
+    node->build_errors = word_at(state + 194, 0);
+    node->unread = long_at(state, 196);
+    node->asks = state[200];
+    node->left_out = long_at(state, 204);
+    if (word_at(state + 186, 0) != 0 || state[201] != 0 || word_at(state + 202, 0) != 0)
         return false;
     if (state[172] > 1 || word_at(state + 174, 0) != 0 || (!node->writing && (node->writer != 0 || node->joined != 0)))
         return false;
     if (!node->erasing && node->done != 0)
         return false;
     if (node->pending == PENDING_NOTHING && (node->link != 0 || node->slave != 0 || node->asked_at != 0))
+        return false;
+    if (node->pending == PENDING_BUILD)
+        return node->link == 0 && node->from == 0;
+    if (node->asks != 0 || node->left_out != 0)
         return false;
     if (node->pending == PENDING_GROUP)
         return true;
@@ -95,6 +107,11 @@ static void encode(const struct node *node, uint8_t *state) {
     put_word(state + 186, 0, 0);
     put_word(state + 188, 0, node->listed);
     put_word(state + 190, 0, node->turn);
+    put_word(state + 192, 0, node->event);
+    put_word(state + 194, 0, node->build_errors);
+    put_long(state, 196, node->unread);
+    put_long(state, 200, node->asks);
+    put_long(state, 204, node->left_out);
 }
 
 /* The node to make a call on. Where the bytes are no state's, its kind is none, so 5 refuses it; 1, 9 and 4, which come first,
@@ -114,7 +131,7 @@ uint32_t model_start(uint32_t kind, uint32_t ports, uint32_t subdetector, uint16
                      uint16_t start_tests, uint32_t clock, const uint8_t *flash, size_t flash_len, uint8_t *state,
                      size_t state_len) {
     struct node node;
-    struct run words = flash_of((uint8_t *)(uintptr_t)flash, flash_len);
+    struct run words = flash_of(read_only(flash), flash_len);
     uint32_t refusal =
         model_node_start(&node, kind, ports, subdetector, program_version, subdetector_version, start_tests, clock, words);
     if (refusal != 0 || state_len != STATE)
@@ -132,9 +149,10 @@ static uint64_t kept(const struct node *node, uint64_t answer, uint8_t *state) {
 uint64_t model_request(uint32_t now, uint32_t link, uint32_t bc, uint32_t receive_error, const uint8_t *packet, size_t packet_len,
                        uint8_t *state, size_t state_len, uint8_t *flash, size_t flash_len, uint8_t *pm, size_t pm_len, uint8_t *dm,
                        size_t dm_len, uint8_t *io, size_t io_len, uint8_t *area, size_t area_len, uint8_t *list, size_t list_len,
-                       uint8_t *reply, size_t reply_len) {
-    struct lent lent = {flash_of(flash, flash_len), {pm, pm_len / 4},         words_of(dm, dm_len),      words_of(io, io_len),
-                        words_of(area, area_len),   words_of(list, list_len), words_of(reply, reply_len)};
+                       const uint8_t *events, size_t events_len, uint8_t *reply, size_t reply_len) {
+    struct lent lent = {flash_of(flash, flash_len), {pm, pm_len / 4},         words_of(dm, dm_len),
+                        words_of(io, io_len),       words_of(area, area_len), words_of(list, list_len),
+                        words_of(read_only(events), events_len),              words_of(reply, reply_len)};
     struct node node = node_for_call(state, state_len, lent.flash.words);
     if (state_len != STATE)
         link = 0;
@@ -144,9 +162,11 @@ uint64_t model_request(uint32_t now, uint32_t link, uint32_t bc, uint32_t receiv
 /* Where no packet is done the state stays as it is: its bytes may be no state's. */
 uint64_t model_requests(uint32_t now, const uint8_t *packets, size_t packets_len, uint8_t *state, size_t state_len, uint8_t *flash,
                         size_t flash_len, uint8_t *pm, size_t pm_len, uint8_t *dm, size_t dm_len, uint8_t *io, size_t io_len,
-                        uint8_t *area, size_t area_len, uint8_t *list, size_t list_len, uint8_t *replies, size_t replies_len) {
-    struct lent lent = {flash_of(flash, flash_len), {pm, pm_len / 4},         words_of(dm, dm_len),          words_of(io, io_len),
-                        words_of(area, area_len),   words_of(list, list_len), words_of(replies, replies_len)};
+                        uint8_t *area, size_t area_len, uint8_t *list, size_t list_len, const uint8_t *events, size_t events_len,
+                        uint8_t *replies, size_t replies_len) {
+    struct lent lent = {flash_of(flash, flash_len), {pm, pm_len / 4},         words_of(dm, dm_len),
+                        words_of(io, io_len),       words_of(area, area_len), words_of(list, list_len),
+                        words_of(read_only(events), events_len),              words_of(replies, replies_len)};
     struct node node = node_for_call(state, state_len, lent.flash.words);
     uint64_t answer = model_node_requests(&border, &node, now, packets, packets_len / 2, &lent);
     if (answer >> 32 != 0)
@@ -155,17 +175,23 @@ uint64_t model_requests(uint32_t now, const uint8_t *packets, size_t packets_len
 }
 
 uint64_t model_reply(uint32_t now, uint32_t slave, uint32_t bc, uint32_t receive_error, uint16_t rx_status, uint16_t rx_address,
-                     const uint8_t *packet, size_t packet_len, uint8_t *state, size_t state_len, uint8_t *reply, size_t reply_len) {
+                     const uint8_t *packet, size_t packet_len, uint8_t *state, size_t state_len, uint8_t *events, size_t events_len,
+                     uint8_t *reply, size_t reply_len) {
     struct node node = node_for_call(state, state_len, 0);
     return kept(&node,
                 model_node_reply(&border, &node, now, slave, bc, receive_error, rx_status, rx_address, packet, packet_len / 2,
-                                 words_of(reply, reply_len)),
+                                 words_of(events, events_len), words_of(reply, reply_len)),
                 state);
 }
 
-uint64_t model_poll(uint32_t now, uint8_t *state, size_t state_len, uint8_t *reply, size_t reply_len) {
+uint64_t model_poll(uint32_t now, uint8_t *state, size_t state_len, uint8_t *events, size_t events_len, uint8_t *reply, size_t reply_len) {
     struct node node = node_for_call(state, state_len, 0);
-    return kept(&node, model_node_poll(&node, now, words_of(reply, reply_len)), state);
+    return kept(&node, model_node_poll(&node, now, words_of(events, events_len), words_of(reply, reply_len)), state);
+}
+
+uint64_t model_build(uint32_t now, uint8_t *state, size_t state_len, const uint8_t *events, size_t events_len) {
+    struct node node = node_for_call(state, state_len, 0);
+    return kept(&node, model_node_build(&node, now, words_of(read_only(events), events_len)), state);
 }
 
 uint64_t model_erase(uint64_t budget, uint8_t *state, size_t state_len, uint8_t *flash, size_t flash_len) {

@@ -4,9 +4,7 @@
 
 #include <string.h>
 
-enum { MOST_ASKS = 3, LEAST_WORDS = 3 }; /* of a reply: event number, status and FCS */
-enum { KEPT = 5 };                       /* words kept free: event number, two mask words, status and FCS */
-enum { TALLY_NO_DATA = 1 };
+enum { LEAST_WORDS = 3 }; /* of a reply: event number, status and FCS */
 
 /* The number of the event that is built, one more than the last. */
 static uint16_t number_of(const struct node *node) { return (uint16_t)(node->event + 1); }
@@ -78,7 +76,7 @@ uint64_t model_event_begin(struct node *node, uint32_t now) {
 uint64_t model_event_take(struct node *node, uint32_t now, const struct answer *answer, uint8_t *events) {
     uint32_t rest = model_yet_to_ask(node);
     uint8_t *fragment = events + 2 * (1 + (size_t)node->built);
-    bool has_room = model_has_room(node, answer, KEPT);
+    bool has_room = model_has_room(node, answer, EVENT_KEPT);
     unsigned judgement = model_packet_judged(node, answer, has_room);
     if (judgement == MORE)
         return model_keep_packet(node, now, answer, fragment);

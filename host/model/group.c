@@ -4,7 +4,7 @@
 
 #include <string.h>
 
-enum { TIMEOUT = 60, KEPT = 2 }; /* words kept free behind the fragments: status and FCS */
+enum { TIMEOUT = 60 };
 
 /* Slaves to ask. */
 
@@ -181,7 +181,7 @@ static uint64_t group_ends(struct node *node, uint8_t *reply, size_t built, unsi
 uint64_t model_group_take(struct node *node, uint32_t now, const struct answer *answer, uint8_t *reply) {
     uint32_t rest = model_yet_to_ask(node);
     uint8_t *fragment = reply + 2 * (size_t)node->built;
-    bool has_room = model_has_room(node, answer, KEPT);
+    bool has_room = model_has_room(node, answer, GROUP_KEPT);
     unsigned judgement = model_packet_judged(node, answer, has_room);
     if (judgement == MORE)
         return model_keep_packet(node, now, answer, fragment);

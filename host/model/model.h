@@ -23,7 +23,7 @@ struct run {
 };
 
 struct lent {
-    struct run flash, pm, dm, io, area, list, reply;
+    struct run flash, pm, dm, io, area, list, events, reply;
 };
 
 /* How much of each memory may be lent, and of a slave's reply: 01's table, and less at the C border. */
@@ -47,7 +47,8 @@ struct node {
     bool writing;                       /* a File Write in several packets stands (02, request 1) */
     uint32_t writer, joined;            /* its link, and the words joined so far */
     uint16_t listed, turn;              /* entries of the Q-List (02, request 7), and the place whose turn is next */
-    uint16_t event;                     /* the last event's number (02, request 12) */
+    uint16_t event, build_errors;       /* the last event's number (02, request 12), and the builds with bit 9 set */
+    uint32_t unread;                    /* words of the event that is built and not read, 0 for none */
     uint32_t asks, left_out;            /* of a build: times that the slave has been asked, and the slaves left out so far */
 };
 
@@ -144,6 +145,7 @@ bool model_list_step(struct run list, size_t place, uint32_t now); /* whether th
    fragment that is to be, from its second word on, but for its last packet. */
 
 enum { MORE = 1, COMPLETE = 2 };
+enum { GROUP_KEPT = 2 }; /* words kept free behind a group's fragments: status and FCS */
 
 static inline unsigned with_data(unsigned code) { return 0x8000 | code << 11; }
 static inline unsigned without_data(unsigned code) { return code << 11; }
@@ -169,6 +171,9 @@ uint64_t model_group_take(struct node *node, uint32_t now, const struct answer *
 
 /* An event build (event.c), of the slaves of mask 0 in an event area of 12,288 words or more; what it answers is a number as above. */
 
+enum { EVENT_KEPT = 5 }; /* words kept free around the fragments: event number, two mask words, status and FCS */
+enum { TALLY_NO_DATA = 1, MOST_ASKS = 3 };
+
 uint64_t model_event_begin(struct node *node, uint32_t now);
 uint64_t model_event_take(struct node *node, uint32_t now, const struct answer *answer, uint8_t *events);
 
@@ -177,7 +182,7 @@ uint64_t model_event_take(struct node *node, uint32_t now, const struct answer *
 unsigned model_own_status(const struct node *node);
 void model_drop(struct node *node);
 
-/* The seven calls (node.c), with the number that they answer. */
+/* The eight calls (node.c), with the number that they answer. */
 
 uint32_t model_node_start(struct node *node, uint32_t kind, uint32_t ports, uint32_t subdetector, uint16_t program_version,
                           uint16_t subdetector_version, uint16_t start_tests, uint32_t clock, struct run flash);
@@ -187,8 +192,9 @@ uint64_t model_node_requests(const struct limits *limits, struct node *node, uin
                              const struct lent *lent); /* lent the run of the replies as its reply buffer */
 uint64_t model_node_reply(const struct limits *limits, struct node *node, uint32_t now, uint32_t slave, uint32_t bc,
                           uint32_t receive_error, uint16_t rx_status, uint16_t rx_address, const uint8_t *packet, size_t n,
-                          struct run reply);
-uint64_t model_node_poll(struct node *node, uint32_t now, struct run reply);
+                          struct run events, struct run reply);
+uint64_t model_node_poll(struct node *node, uint32_t now, struct run events, struct run reply);
+uint64_t model_node_build(struct node *node, uint32_t now, struct run events);
 uint64_t model_node_erase(struct node *node, uint64_t budget, struct run flash);
 uint64_t model_node_slow(struct node *node, uint32_t now, struct run list);
 
@@ -200,13 +206,16 @@ uint32_t model_start(uint32_t kind, uint32_t ports, uint32_t subdetector, uint16
 uint64_t model_request(uint32_t now, uint32_t link, uint32_t bc, uint32_t receive_error, const uint8_t *packet, size_t packet_len,
                        uint8_t *state, size_t state_len, uint8_t *flash, size_t flash_len, uint8_t *pm, size_t pm_len, uint8_t *dm,
                        size_t dm_len, uint8_t *io, size_t io_len, uint8_t *area, size_t area_len, uint8_t *list, size_t list_len,
-                       uint8_t *reply, size_t reply_len);
+                       const uint8_t *events, size_t events_len, uint8_t *reply, size_t reply_len);
 uint64_t model_requests(uint32_t now, const uint8_t *packets, size_t packets_len, uint8_t *state, size_t state_len, uint8_t *flash,
                         size_t flash_len, uint8_t *pm, size_t pm_len, uint8_t *dm, size_t dm_len, uint8_t *io, size_t io_len,
-                        uint8_t *area, size_t area_len, uint8_t *list, size_t list_len, uint8_t *replies, size_t replies_len);
+                        uint8_t *area, size_t area_len, uint8_t *list, size_t list_len, const uint8_t *events, size_t events_len,
+                        uint8_t *replies, size_t replies_len);
 uint64_t model_reply(uint32_t now, uint32_t slave, uint32_t bc, uint32_t receive_error, uint16_t rx_status, uint16_t rx_address,
-                     const uint8_t *packet, size_t packet_len, uint8_t *state, size_t state_len, uint8_t *reply, size_t reply_len);
-uint64_t model_poll(uint32_t now, uint8_t *state, size_t state_len, uint8_t *reply, size_t reply_len);
+                     const uint8_t *packet, size_t packet_len, uint8_t *state, size_t state_len, uint8_t *events, size_t events_len,
+                     uint8_t *reply, size_t reply_len);
+uint64_t model_poll(uint32_t now, uint8_t *state, size_t state_len, uint8_t *events, size_t events_len, uint8_t *reply, size_t reply_len);
+uint64_t model_build(uint32_t now, uint8_t *state, size_t state_len, const uint8_t *events, size_t events_len);
 uint64_t model_erase(uint64_t budget, uint8_t *state, size_t state_len, uint8_t *flash, size_t flash_len);
 uint64_t model_slow(uint32_t now, uint8_t *state, size_t state_len, uint8_t *list, size_t list_len);
 

@@ -1,4 +1,4 @@
-/* 01 'Call refusals', 'Requests', 'State and status reply', and 02, requests 1, 2, 7 and 9: the node and its seven calls. */
+/* 01 'Call refusals', 'Requests', 'State and status reply', and 02, requests 1, 2, 7, 9 and 12: the node and its eight calls. */
 #include "model.h"
 
 #include <string.h>
@@ -7,6 +7,7 @@ enum { ALL_SLAVES = 0xFFFFFF, ALL_ENTRIES = 0xFFFF };
 
 static bool is_reply(uint64_t answer) { return (answer & 0xFFFF) == 1u << 8; }
 static bool is_ask(uint64_t answer) { return (answer & 0xFFFF) == 2u << 8; }
+static bool is_built(uint64_t answer) { return (answer & 0xFFFF) == 11u << 8; }
 static unsigned reply_bc(uint64_t reply) { return reply >> 16 & 0xFF; }
 static size_t reply_words(uint64_t reply) { return (size_t)(reply >> 32); }
 
@@ -32,15 +33,24 @@ static bool is_list_wrong(const struct node *node, struct run list) {
     return model_records(list) > MOST_RECORDS || model_records(list) < node->listed;
 }
 
-static bool is_group_wrong(const struct node *node) {
+/* What a group and a build have in common, but for the words that are kept free around the fragments. */
+static bool is_gathered_wrong(const struct node *node, unsigned kept) {
     if (node->asked > ALL_SLAVES || (node->asked >> node->slave & 1) == 0)
         return true;
     unsigned left = model_how_many(model_yet_to_ask(node));
-    if ((uint64_t)node->built + 5 * (left + 1) + 2 > AREA || (uint64_t)node->built + node->received + 5 * left + 2 > AREA)
+    if ((uint64_t)node->built + 5 * (left + 1) + kept > AREA || (uint64_t)node->built + node->received + 5 * left + kept > AREA)
         return true;
-    if (node->received == 0 && node->rx_status != 0)
+    return node->received == 0 && node->rx_status != 0;
+}
+
+static bool is_group_wrong(const struct node *node) {
+    return is_gathered_wrong(node, GROUP_KEPT) || node->from < 1 || node->from > 2 || node->tally > TALLY_MIXED;
+}
+
+static bool is_build_wrong(const struct node *node) {
+    if (node->tally != 0 && node->tally != TALLY_NO_DATA && node->tally != TALLY_WHOLE && node->tally != TALLY_MIXED)
         return true;
-    return node->from < 1 || node->from > 2 || node->tally > TALLY_MIXED;
+    return is_gathered_wrong(node, EVENT_KEPT) || node->asks < 1 || node->asks > MOST_ASKS || node->left_out > ALL_SLAVES;
 }
 
 static bool is_state_wrong(const struct node *node) {
@@ -61,14 +71,17 @@ static bool is_state_wrong(const struct node *node) {
         return true;
     if (node->listed > MOST_RECORDS || (node->turn >= node->listed && node->turn != 0))
         return true;
+    if (node->unread > AREA)
+        return true;
     if (node->pending == PENDING_NOTHING)
         return false;
-    if (node->pending > PENDING_GROUP || node->link >= node->ports || node->slave >= SLAVES)
+    if (node->pending > PENDING_BUILD || node->link >= node->ports || node->slave >= SLAVES)
         return true;
-    return node->pending == PENDING_GROUP && is_group_wrong(node);
+    return node->pending == PENDING_GROUP ? is_group_wrong(node) : node->pending == PENDING_BUILD && is_build_wrong(node);
 }
 
-/* Own commands. Each answers with the number of data words that it put into the reply, or with the BC of a 0-length reply. */
+/* Own commands. Each answers with the number of data words that it put into the reply, or with the BC of a reply that gets no status word
+   and no FCS: a 0-length one, or an event. */
 
 struct outcome {
     bool is_data;
@@ -77,6 +90,7 @@ struct outcome {
 };
 
 static struct outcome zero(unsigned bc) { return (struct outcome){false, bc, 0}; }
+static struct outcome as_it_is(size_t words) { return (struct outcome){false, DATA, words}; }
 static struct outcome data(size_t words) { return (struct outcome){true, DATA, words}; }
 
 /* The parameters of an own command. */
@@ -87,15 +101,16 @@ struct parameters {
 
 static struct outcome read_status(const struct node *node, uint32_t now, uint32_t link, uint8_t *reply) {
     uint32_t elapsed = now - node->start_clock;
-    unsigned counts = (node->amswire_errors != 0 ? 0x2000 : 0) | (node->flash_errors != 0 ? 0x1000 : 0);
+    unsigned counts = (node->build_errors != 0 ? 0x4000 : 0) | (node->amswire_errors != 0 ? 0x2000 : 0)
+                      | (node->flash_errors != 0 ? 0x1000 : 0);
     put_word(reply, 0, node->program_version);
     put_word(reply, 1, 1u << 12 | node->kind << 8 | node->subdetector << 4 | node->ports);
     put_word(reply, 2, node->subdetector_version);
     put_word(reply, 3, elapsed & 0xFFFF);
     put_word(reply, 4, elapsed >> 16);
     put_word(reply, 5, counts | (node->start_tests & 0x0F00) | link);
-    put_word(reply, 6, 0);
-    put_word(reply, 7, 0);
+    put_word(reply, 6, node->event);
+    put_word(reply, 7, node->build_errors);
     put_word(reply, 8, node->amswire_errors);
     put_word(reply, 9, node->flash_errors);
     return data(10);
@@ -284,9 +299,36 @@ static struct outcome list_delete(struct node *node, struct parameters with, str
     return zero(END);
 }
 
+/* Events. */
+
+static struct outcome event_read(struct node *node, const struct lent *lent) {
+    size_t words = node->unread;
+    if (words == 0)
+        return zero(END);
+    memcpy(lent->reply.bytes, lent->events.bytes, 2 * words);
+    node->unread = 0;
+    return as_it_is(words);
+}
+
+/* The last number, and 0 for the average time. */
+static struct outcome event_number(const struct node *node, uint8_t *reply) {
+    put_word(reply, 0, node->event);
+    put_word(reply, 1, 0);
+    return data(2);
+}
+
+static struct outcome event_reset(struct node *node) {
+    node->unread = 0;
+    node->event = 0;
+    return zero(END);
+}
+
 /* How many parameters a command takes; -1 where its own content tells, -2 where the ID is not in the list. */
 static int parameter_count(unsigned id) {
     switch (id) {
+    case 0x01:
+    case 0x02:
+    case 0x42:
     case 0x0C:
     case 0x07:
     case 0x12:
@@ -325,6 +367,9 @@ static struct outcome command(struct node *node, unsigned id, struct parameters 
         return zero(ABORT);
     unsigned first = with.n > 0 ? word_at(with.words, 0) : 0, second = with.n > 1 ? word_at(with.words, 1) : 0;
     switch (id) {
+    case 0x01: return event_read(node, lent);
+    case 0x02: return event_number(node, lent->reply.bytes);
+    case 0x42: return event_reset(node);
     case 0x0C: return read_status(node, now, link, lent->reply.bytes);
     case 0x0D: return ping(with, lent->reply.bytes);
     case 0x05: return file_read(node, first, lent);
@@ -352,7 +397,7 @@ static struct outcome command(struct node *node, unsigned id, struct parameters 
 /* A read reply is data, reply status, FCS. */
 static uint64_t finished(const struct node *node, struct outcome outcome, uint8_t *reply) {
     if (!outcome.is_data)
-        return reply_of(outcome.bc, 0);
+        return reply_of(outcome.bc, outcome.words);
     put_word(reply, outcome.words, model_own_status(node));
     put_word(reply, outcome.words + 1, model_fcs(reply, outcome.words + 1));
     return reply_of(DATA, outcome.words + 2);
@@ -400,9 +445,10 @@ static void drop_write(struct node *node) {
     node->writer = node->joined = 0;
 }
 
-/* Step 2. */
+/* Step 2. A build is no link's. */
 static uint64_t no_words(struct node *node, uint32_t link, unsigned bc) {
-    bool has_request = node->pending != PENDING_NOTHING && node->link == link, has_write = node->writing && node->writer == link;
+    bool is_request = node->pending == PENDING_SLAVE || node->pending == PENDING_GROUP;
+    bool has_request = is_request && node->link == link, has_write = node->writing && node->writer == link;
     if (bc != 2 || (!has_request && !has_write))
         return reply_of(ABORT, 0);
     if (has_request)
@@ -471,6 +517,8 @@ uint64_t model_node_request(const struct limits *limits, struct node *node, uint
         return 8;
     if (is_list_wrong(node, lent->list))
         return 9;
+    if (lent->events.words < AREA)
+        return 11;
     if (link >= node->ports)
         return 4;
     if (is_state_wrong(node))
@@ -544,19 +592,36 @@ static uint64_t single(struct node *node, const struct answer *answer, uint8_t *
     return reply_of(answer->bc, answer->n);
 }
 
-static uint64_t take(struct node *node, uint32_t now, const struct answer *answer, uint8_t *reply) {
+/* An event that is built is unread, and bit 9 of its status word is an error of the build. */
+static uint64_t take_event(struct node *node, uint32_t now, const struct answer *answer, uint8_t *events) {
+    uint64_t answered = model_event_take(node, now, answer, events);
+    if (is_built(answered)) {
+        node->unread = (uint32_t)reply_words(answered);
+        if ((word_at(events, node->unread - 2) & 0x0200) != 0)
+            count_error(&node->build_errors);
+    }
+    return answered;
+}
+
+static uint64_t take(struct node *node, uint32_t now, const struct answer *answer, uint8_t *events, uint8_t *reply) {
     if (answer->errors && !answer->late)
         count_error(&node->amswire_errors);
-    return node->pending == PENDING_SLAVE ? single(node, answer, reply) : model_group_take(node, now, answer, reply);
+    switch (node->pending) {
+    case PENDING_SLAVE: return single(node, answer, reply);
+    case PENDING_GROUP: return model_group_take(node, now, answer, reply);
+    default: return take_event(node, now, answer, events);
+    }
 }
 
 uint64_t model_node_reply(const struct limits *limits, struct node *node, uint32_t now, uint32_t slave, uint32_t bc,
                           uint32_t receive_error, uint16_t rx_status, uint16_t rx_address, const uint8_t *packet, size_t n,
-                          struct run reply) {
+                          struct run events, struct run reply) {
     if (reply.words < AREA)
         return 2;
     if (n > limits->slave_reply)
         return 3;
+    if (events.words < AREA)
+        return 11;
     if (slave >= SLAVES)
         return 4;
     if (is_state_wrong(node))
@@ -564,12 +629,14 @@ uint64_t model_node_reply(const struct limits *limits, struct node *node, uint32
     if (node->pending == PENDING_NOTHING || node->slave != slave)
         return 7;
     struct answer answer = {model_is_late(node, now), receive_error != 0, bc & 3, rx_status, rx_address, packet, n};
-    return take(node, now, &answer, reply.bytes);
+    return take(node, now, &answer, events.bytes, reply.bytes);
 }
 
-uint64_t model_node_poll(struct node *node, uint32_t now, struct run reply) {
+uint64_t model_node_poll(struct node *node, uint32_t now, struct run events, struct run reply) {
     if (reply.words < AREA)
         return 2;
+    if (events.words < AREA)
+        return 11;
     if (is_state_wrong(node))
         return 5;
     if (node->pending == PENDING_NOTHING)
@@ -577,7 +644,21 @@ uint64_t model_node_poll(struct node *node, uint32_t now, struct run reply) {
     if (!model_is_late(node, now))
         return waiting();
     struct answer answer = {true, false, 0, 0, 0, NULL, 0};
-    return take(node, now, &answer, reply.bytes);
+    return take(node, now, &answer, events.bytes, reply.bytes);
+}
+
+/* An event build begins, of the slaves of mask 0. */
+
+uint64_t model_node_build(struct node *node, uint32_t now, struct run events) {
+    if (events.words < AREA)
+        return 11;
+    if (is_state_wrong(node))
+        return 5;
+    if (node->pending != PENDING_NOTHING)
+        return 6;
+    if (node->kind == CDP || node->masks[0] == 0 || node->unread != 0)
+        return reply_of(ABORT, 0);
+    return model_event_begin(node, now);
 }
 
 /* Start, erase progress and the slow-control step. */

@@ -25,7 +25,7 @@ static unsigned size = AT_BENCH;
 /* Everything that a call is lent, the flash apart: as it stands, as a turn begins, and as the proved call left it. */
 static struct {
     uint8_t state[LOGODWEN_STATE_BYTES], pm[LOGODWEN_PM_BYTES], dm[LOGODWEN_DM_BYTES], io[LOGODWEN_IO_BYTES], area[LOGODWEN_AREA_BYTES],
-        list[LOGODWEN_LIST_BYTES], reply[LOGODWEN_REPLY_BYTES], replies[2 * REPLIES];
+        list[LOGODWEN_LIST_BYTES], events[LOGODWEN_EVENTS_BYTES], reply[LOGODWEN_REPLY_BYTES], replies[2 * REPLIES];
 } lent, first[SIZES], after;
 static uint8_t flash[SIZES][LOGODWEN_FLASH_FULL_BYTES], first_flash[SIZES][LOGODWEN_FLASH_FULL_BYTES], after_flash[LOGODWEN_FLASH_FULL_BYTES];
 
@@ -36,10 +36,12 @@ static uint8_t *state = lent.state; /* the state that is lent: that one, or one 
 static void packet_into(bool plain, uint32_t bc, const uint8_t *packet, size_t words, uint8_t *reply, size_t reply_len) {
     answered = plain ? model_request(0, 0, bc, 0, packet, 2 * words, state, sizeof lent.state, flash[size],
                                      flash_len[size], lent.pm, sizeof lent.pm, lent.dm, sizeof lent.dm, lent.io, sizeof lent.io,
-                                     lent.area, sizeof lent.area, lent.list, sizeof lent.list, reply, reply_len)
+                                     lent.area, sizeof lent.area, lent.list, sizeof lent.list, lent.events, sizeof lent.events, reply,
+                                     reply_len)
                      : logodwen_request(0, 0, bc, 0, packet, 2 * words, state, sizeof lent.state, flash[size],
                                         flash_len[size], lent.pm, sizeof lent.pm, lent.dm, sizeof lent.dm, lent.io, sizeof lent.io,
-                                        lent.area, sizeof lent.area, lent.list, sizeof lent.list, reply, reply_len);
+                                        lent.area, sizeof lent.area, lent.list, sizeof lent.list, lent.events, sizeof lent.events,
+                                        reply, reply_len);
 }
 
 static void packet_with(bool plain, uint32_t bc, const uint8_t *packet, size_t words) {
@@ -49,9 +51,10 @@ static void packet_with(bool plain, uint32_t bc, const uint8_t *packet, size_t w
 static void request(bool plain, const uint8_t *packet, size_t words) { packet_with(plain, LOGODWEN_BC_WHOLE, packet, words); }
 
 static void reply_with(bool plain, unsigned slave, uint32_t bc, const uint8_t *packet, size_t words) {
-    answered = plain ? model_reply(0, slave, bc, 0, 0, 0, packet, 2 * words, state, sizeof lent.state, lent.reply, sizeof lent.reply)
-                     : logodwen_reply(0, slave, bc, 0, 0, 0, packet, 2 * words, state, sizeof lent.state, lent.reply,
-                                      sizeof lent.reply);
+    answered = plain ? model_reply(0, slave, bc, 0, 0, 0, packet, 2 * words, state, sizeof lent.state, lent.events, sizeof lent.events,
+                                   lent.reply, sizeof lent.reply)
+                     : logodwen_reply(0, slave, bc, 0, 0, 0, packet, 2 * words, state, sizeof lent.state, lent.events,
+                                      sizeof lent.events, lent.reply, sizeof lent.reply);
 }
 
 static void reply(bool plain, unsigned slave, const uint8_t *packet, size_t words) {
@@ -59,8 +62,13 @@ static void reply(bool plain, unsigned slave, const uint8_t *packet, size_t word
 }
 
 static void poll(bool plain) {
-    answered = plain ? model_poll(0, state, sizeof lent.state, lent.reply, sizeof lent.reply)
-                     : logodwen_poll(0, state, sizeof lent.state, lent.reply, sizeof lent.reply);
+    answered = plain ? model_poll(0, state, sizeof lent.state, lent.events, sizeof lent.events, lent.reply, sizeof lent.reply)
+                     : logodwen_poll(0, state, sizeof lent.state, lent.events, sizeof lent.events, lent.reply, sizeof lent.reply);
+}
+
+static void build(bool plain) {
+    answered = plain ? model_build(0, state, sizeof lent.state, lent.events, sizeof lent.events)
+                     : logodwen_build(0, state, sizeof lent.state, lent.events, sizeof lent.events);
 }
 
 static void erase(bool plain, uint64_t budget) {
@@ -94,7 +102,7 @@ static void list_at_once(bool plain, const struct logodwen_packets *list) {
     else
         answered = logodwen_requests(0, list->bytes, 2 * list->words, state, sizeof lent.state, flash[size], flash_len[size], lent.pm,
                                      sizeof lent.pm, lent.dm, sizeof lent.dm, lent.io, sizeof lent.io, lent.area, sizeof lent.area,
-                                     lent.list, sizeof lent.list, lent.replies, sizeof lent.replies);
+                                     lent.list, sizeof lent.list, lent.events, sizeof lent.events, lent.replies, sizeof lent.replies);
 }
 
 static void start(bool plain) {
@@ -156,7 +164,7 @@ enum { FIRST_NAME = 7, SMALL_NAME = 8, LARGE_NAME = 9 }; /* in sectors 3, 4 and 
 
 static struct packet mode_read, mode_write, status, summary, mask_read, mask_write, wrong, unserved, small_read, small_test, dm_two,
     pm_three, io_pair, ping, dm_read, dm_write, pm_read, pm_write, large_read, large_write, load, one_slave, group, ten, fivehundred,
-    entries, all_entries, some_expired, list_read, delete_expired;
+    of_event, entries, all_entries, some_expired, list_read, delete_expired;
 
 static void lay_packets(void) {
     command(&mode_read, 0x12);
@@ -209,6 +217,9 @@ static void lay_packets(void) {
     for (unsigned i = 0; i < REPLIED - 1; i++)
         word(&fivehundred, i * 40503u);
     word(&fivehundred, logodwen_fcs(fivehundred.bytes, REPLIED - 1));
+    for (unsigned i = 0; i < REPLIED - 1; i++)
+        word(&of_event, i == 0 ? 1 : i * 40503u); /* the first event's number */
+    word(&of_event, logodwen_fcs(of_event.bytes, REPLIED - 1));
 }
 
 /* Lists of one packet again and again. */
@@ -342,19 +353,40 @@ static void replies_ten(bool plain) {
     reply(plain, 0, ten.bytes, ten.words);
 }
 
-static void gathers(bool plain) {
+static void gather(bool plain, const struct packet *packet) {
     for (unsigned slave = 0; slave < LOGODWEN_SLAVES; slave++)
-        reply(plain, slave, fivehundred.bytes, fivehundred.words);
+        reply(plain, slave, packet->bytes, packet->words);
 }
 
+static void gathers(bool plain) { gather(plain, &fivehundred); }
+
 /* The same replies, each in five packets (02, request 8). */
-static void gathers_packets(bool plain) {
+static void gather_packets(bool plain, const struct packet *packet) {
     const size_t part = REPLIED / PACKETS;
     for (unsigned slave = 0; slave < LOGODWEN_SLAVES; slave++)
         for (size_t at = 0; at < REPLIED; at += part) {
             uint32_t bc = at == 0 ? LOGODWEN_BC_FIRST : at == REPLIED - part ? LOGODWEN_BC_LAST : LOGODWEN_BC_MIDDLE;
-            reply_with(plain, slave, bc, fivehundred.bytes + 2 * at, part);
+            reply_with(plain, slave, bc, packet->bytes + 2 * at, part);
         }
+}
+
+static void gathers_packets(bool plain) { gather_packets(plain, &fivehundred); }
+
+/* An event of such replies (02, request 12). */
+
+static void builds(bool plain) {
+    build(plain);
+    gather(plain, &of_event);
+}
+
+static void builds_packets(bool plain) {
+    build(plain);
+    gather_packets(plain, &of_event);
+}
+
+static void begins_build(bool plain) {
+    next_state();
+    build(plain);
 }
 
 static void one_group(void) {
@@ -624,6 +656,9 @@ int perf_border_runs(void) {
         {"start", as_first, starts, 2, LONG},
         {"a group of 24 replies of 500 words", one_group, gathers, 1, LONG},
         {"24 replies of 500 words in five packets each", one_group, gathers_packets, 1, LONG},
+        {"build that begins", many_states, begins_build, TIMES, SHORT},
+        {"a build of 24 replies of 500 words", as_first, builds, 1, LONG},
+        {"a build of these in five packets each", as_first, builds_packets, 1, LONG},
         {"erase of 4,096 words", erasing, erases_all, 1, LONG},
         {"Q-List Write of 900 entries", many_states, writes_list, 2, LONG},
         {"Q-List Read of 900 entries", some_listed, reads_list, 2, LONG},

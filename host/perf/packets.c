@@ -8,14 +8,15 @@
 
 uint32_t perf_packet(uint32_t bc, size_t joined, const uint16_t *packet, size_t packet_words, uint16_t *flash, size_t flash_words,
                      uint32_t *pm, size_t pm_words, uint16_t *dm, size_t dm_words, uint16_t *io, size_t io_words, uint16_t *area,
-                     size_t area_words, uint16_t *list, size_t list_words, uint16_t *reply, size_t reply_words); /* crates/perf */
+                     size_t area_words, uint16_t *list, size_t list_words, const uint16_t *events, size_t events_words, uint16_t *reply,
+                     size_t reply_words); /* crates/perf */
 
-enum { FLASH_WORDS = 262144, AREA_WORDS = 32768, REPLY_WORDS = 12288 };
+enum { FLASH_WORDS = 262144, AREA_WORDS = 32768, EVENTS_WORDS = 12288, REPLY_WORDS = 12288 };
 enum { FILE_WORDS = 32000, PACKETS = 4, PART = FILE_WORDS / PACKETS };
 enum { MIDDLE = 0, LAST = 1, FIRST = 2, FILE_WRITE = 0x452E }; /* BC, and the first packet's header word */
 enum { NEXT = 0, ERROR = 1, ABORT = 2, END = 3 };              /* the BC of the answer */
 
-static uint16_t flash[FLASH_WORDS], area[AREA_WORDS], reply[REPLY_WORDS], kept[FLASH_WORDS];
+static uint16_t flash[FLASH_WORDS], area[AREA_WORDS], events[EVENTS_WORDS], reply[REPLY_WORDS], kept[FLASH_WORDS];
 static uint16_t block[1 + FILE_WORDS]; /* the header word and the file */
 static uint32_t answered;
 
@@ -77,8 +78,8 @@ static uint32_t plain_packet(uint32_t bc, size_t joined, const uint16_t *packet,
 }
 
 static uint32_t proved_packet(uint32_t bc, size_t joined, const uint16_t *packet, size_t words) {
-    return perf_packet(bc, joined, packet, words, flash, FLASH_WORDS, NULL, 0, NULL, 0, NULL, 0, area, AREA_WORDS, NULL, 0, reply,
-                       REPLY_WORDS);
+    return perf_packet(bc, joined, packet, words, flash, FLASH_WORDS, NULL, 0, NULL, 0, NULL, 0, area, AREA_WORDS, NULL, 0, events,
+                       EVENTS_WORDS, reply, REPLY_WORDS);
 }
 
 static void writes(bool plain) {

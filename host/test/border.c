@@ -1,7 +1,7 @@
 /* Tests of the border: each refusal and their order, odd lengths, NULL with length 0, guard bytes round every run, alignment, a flash of
    either size, files in several packets, lengths in the directory, remains behind a file, names that several sectors have, slaves that answer in
-   packets, the Q-List, captured group replies, lists of requests, the parts of what is answered, and the layout of the state. Every run
-   stands between guard bytes; after each call they are looked at, and after a refused one every byte of every run too. */
+   packets, the Q-List, captured group replies, lists of requests, event builds, the parts of what is answered, and the layout of the state.
+   Every run stands between guard bytes; after each call they are looked at, and after a refused one every byte of every run too. */
 #include "../../include/logodwen.h"
 #include "long_file.h"
 
@@ -22,12 +22,12 @@ static void check(int holds, const char *text, int line) {
 
 /* Runs. */
 
-enum { STATE, FLASH, PM, DM, IO, AREA, LIST, REPLY, PACKET, REPLIES, RUNS }; /* of a list of requests PACKET has its packets */
+enum { STATE, FLASH, PM, DM, IO, AREA, LIST, EVENTS, REPLY, PACKET, REPLIES, RUNS }; /* of a list of requests PACKET has its packets */
 enum { GUARD = 64 };
-static const char *const names[RUNS] = {"state", "flash", "pm", "dm", "io", "area", "list", "reply", "packet", "replies"};
+static const char *const names[RUNS] = {"state", "flash", "pm", "dm", "io", "area", "list", "events", "reply", "packet", "replies"};
 static size_t rooms[RUNS] = {LOGODWEN_STATE_BYTES + 8, 0,                        LOGODWEN_PM_BYTES + 16,         LOGODWEN_DM_BYTES + 8,
-                             LOGODWEN_IO_BYTES + 8,    LOGODWEN_AREA_BYTES + 8,  LOGODWEN_LIST_BYTES + 28,       LOGODWEN_REPLY_BYTES + 8,
-                             LOGODWEN_SLAVE_REPLY_BYTES + 8, 2 * LOGODWEN_REPLIES_BYTES + 8};
+                             LOGODWEN_IO_BYTES + 8,    LOGODWEN_AREA_BYTES + 8,  LOGODWEN_LIST_BYTES + 28,       LOGODWEN_EVENTS_BYTES + 8,
+                             LOGODWEN_REPLY_BYTES + 8, LOGODWEN_SLAVE_REPLY_BYTES + 8, 2 * LOGODWEN_REPLIES_BYTES + 8};
 static size_t flash_bytes = LOGODWEN_FLASH_BYTES; /* of the flash that is lent: its room goes by that */
 static uint8_t *blocks[RUNS], *runs[RUNS], *copies[RUNS]; /* a block holds guard bytes, a run, guard bytes */
 static size_t lengths[RUNS];
@@ -62,8 +62,8 @@ static void lay_out(size_t shift) {
     }
     memset(runs[STATE], 0, rooms[STATE]);
     memset(runs[FLASH], 0xFF, rooms[FLASH]);
-    const size_t usual[RUNS] = {LOGODWEN_STATE_BYTES, flash_bytes,          256, 128, 128, LOGODWEN_AREA_BYTES,
-                                LOGODWEN_LIST_BYTES,  LOGODWEN_REPLY_BYTES, 0,   2 * LOGODWEN_REPLIES_BYTES};
+    const size_t usual[RUNS] = {LOGODWEN_STATE_BYTES, flash_bytes,           256, 128, 128, LOGODWEN_AREA_BYTES, LOGODWEN_LIST_BYTES,
+                                LOGODWEN_EVENTS_BYTES, LOGODWEN_REPLY_BYTES, 0,   2 * LOGODWEN_REPLIES_BYTES};
     memcpy(lengths, usual, sizeof lengths);
 }
 
@@ -112,9 +112,10 @@ static uint64_t request_at(uint32_t now, uint32_t link, uint32_t bc, uint32_t er
     remember();
     uint64_t answered = logodwen_request(now, link, bc, error, lent(PACKET), lengths[PACKET], lent(STATE), lengths[STATE],
                                          lent(FLASH), lengths[FLASH], lent(PM), lengths[PM], lent(DM), lengths[DM], lent(IO),
-                                         lengths[IO], lent(AREA), lengths[AREA], lent(LIST), lengths[LIST], lent(REPLY),
-                                         lengths[REPLY]);
+                                         lengths[IO], lent(AREA), lengths[AREA], lent(LIST), lengths[LIST], lent(EVENTS),
+                                         lengths[EVENTS], lent(REPLY), lengths[REPLY]);
     look_round(logodwen_refusal(answered), line);
+    check(is_same(EVENTS, 0, rooms[EVENTS]), "a request leaves the event area", line);
     return answered;
 }
 
@@ -122,8 +123,10 @@ static uint64_t requests_at(uint32_t now, int line) {
     remember();
     uint64_t answered = logodwen_requests(now, lent(PACKET), lengths[PACKET], lent(STATE), lengths[STATE], lent(FLASH),
                                           lengths[FLASH], lent(PM), lengths[PM], lent(DM), lengths[DM], lent(IO), lengths[IO],
-                                          lent(AREA), lengths[AREA], lent(LIST), lengths[LIST], lent(REPLIES), lengths[REPLIES]);
+                                          lent(AREA), lengths[AREA], lent(LIST), lengths[LIST], lent(EVENTS), lengths[EVENTS],
+                                          lent(REPLIES), lengths[REPLIES]);
     look_round(logodwen_refusal(answered), line);
+    check(is_same(EVENTS, 0, rooms[EVENTS]), "a list leaves the event area", line);
     return answered;
 }
 
@@ -132,15 +135,23 @@ static uint16_t rx_status = 0x00AA; /* of what a slave sends */
 static uint64_t reply_at(uint32_t now, uint32_t slave, uint32_t bc, uint32_t error, int line) {
     remember();
     uint64_t answered = logodwen_reply(now, slave, bc, error, rx_status, 0x00BB, lent(PACKET), lengths[PACKET], lent(STATE),
-                                       lengths[STATE], lent(REPLY), lengths[REPLY]);
+                                       lengths[STATE], lent(EVENTS), lengths[EVENTS], lent(REPLY), lengths[REPLY]);
     look_round(logodwen_refusal(answered), line);
     return answered;
 }
 
 static uint64_t poll_at(uint32_t now, int line) {
     remember();
-    uint64_t answered = logodwen_poll(now, lent(STATE), lengths[STATE], lent(REPLY), lengths[REPLY]);
+    uint64_t answered = logodwen_poll(now, lent(STATE), lengths[STATE], lent(EVENTS), lengths[EVENTS], lent(REPLY), lengths[REPLY]);
     look_round(logodwen_refusal(answered), line);
+    return answered;
+}
+
+static uint64_t build_at(uint32_t now, int line) {
+    remember();
+    uint64_t answered = logodwen_build(now, lent(STATE), lengths[STATE], lent(EVENTS), lengths[EVENTS]);
+    look_round(logodwen_refusal(answered), line);
+    check(is_same(EVENTS, 0, rooms[EVENTS]), "no byte of the event area is written yet", line);
     return answered;
 }
 
@@ -163,6 +174,7 @@ static uint64_t slow_at(uint32_t now, int line) {
 #define REQUESTS(now) requests_at(now, __LINE__)
 #define SLAVE_REPLY(now, slave, bc, error) reply_at(now, slave, bc, error, __LINE__)
 #define POLL(now) poll_at(now, __LINE__)
+#define BUILD(now) build_at(now, __LINE__)
 #define ERASE(budget) erase_by(budget, __LINE__)
 #define SLOW(now) slow_at(now, __LINE__)
 
@@ -186,6 +198,9 @@ static uint64_t send_next(uint64_t slave) { return (uint64_t)LOGODWEN_SEND_NEXT 
 static uint64_t handed(uint64_t place) { return (uint64_t)LOGODWEN_HANDED << 8 | place << 32; }
 static uint64_t nothing(void) { return (uint64_t)LOGODWEN_NOTHING << 8; }
 static uint64_t done(uint64_t packets) { return packets << 32; }
+static uint64_t ask_event(uint64_t slave) { return (uint64_t)LOGODWEN_ASK_EVENT << 8 | slave << 16; }
+static uint64_t no_event(void) { return (uint64_t)LOGODWEN_NO_EVENT << 8; }
+static uint64_t built(uint64_t words) { return (uint64_t)LOGODWEN_BUILT << 8 | words << 32; }
 
 /* File 21: one DM segment of two words, with its File Write. */
 static void file_write(uint16_t header) {
@@ -219,6 +234,15 @@ static void put_listing(unsigned listed, unsigned turn) {
     logodwen_put(runs[STATE] + LOGODWEN_AT_TURN, 0, (uint16_t)turn);
 }
 
+/* Whether this is the last event's number, so many builds had errors, and so many words are unread. */
+static int is_kept(unsigned number, unsigned errors, uint32_t unread) {
+    return state_word(LOGODWEN_AT_EVENT) == number && state_word(LOGODWEN_AT_BUILD_ERRORS) == errors
+           && state_long(LOGODWEN_AT_UNREAD) == unread;
+}
+
+/* Whether the bytes that are a build's alone are 0. */
+static int is_no_build(void) { return memcmp(runs[STATE] + LOGODWEN_AT_ASKS, zeros, sizeof zeros) == 0; }
+
 /* Tests. */
 
 static void test_start(void) {
@@ -234,7 +258,7 @@ static void test_start(void) {
         CHECK(state[at] == 0);
     for (size_t at = LOGODWEN_AT_ERASED; at < LOGODWEN_AT_MASKS; at++)
         CHECK(state[at] == 0);
-    CHECK(is_none_standing() && is_received(0, 0) && is_listing(0, 0));
+    CHECK(is_none_standing() && is_received(0, 0) && is_listing(0, 0) && is_kept(0, 0, 0) && is_no_build());
     for (unsigned i = 0; i < 8; i++) {
         static const uint16_t addresses[8] = {0x0200, 0x0400, 0x0800, 0x0C00, 0x1000, 0x1400, 0x1800, 0x1C00};
         const uint8_t *entry = state + LOGODWEN_AT_DIRECTORY + 8 * i;
@@ -305,35 +329,39 @@ static void lend_with(unsigned causes) {
         lengths[AREA] = LOGODWEN_AREA_BYTES - 1;
     if (causes & 0x100)
         lengths[LIST] = LOGODWEN_LIST_BYTES + LOGODWEN_RECORD_BYTES;
+    if (causes & 0x400)
+        lengths[EVENTS] = LOGODWEN_EVENTS_BYTES - 1;
     if (causes & 0x10)
         runs[STATE][LOGODWEN_AT_MODE] = 4;
 }
 
 static unsigned first_of(unsigned causes, unsigned tested) {
-    static const unsigned order[9] = {1, 2, 3, 8, 9, 4, 5, 6, 7};
-    for (size_t i = 0; i < 9; i++)
+    static const unsigned order[10] = {1, 2, 3, 8, 9, 11, 4, 5, 6, 7};
+    for (size_t i = 0; i < 10; i++)
         if (causes & tested & 1u << (order[i] - 1))
             return order[i];
     return 0;
 }
 
 static void test_order(void) {
-    for (unsigned turn = 0; turn < 256; turn++) {
-        unsigned causes = turn % 64 | turn / 64 * 0x80;
+    for (unsigned turn = 0; turn < 512; turn++) {
+        unsigned causes = turn % 64 | turn / 64 % 4 * 0x80 | turn / 256 * 0x400;
         lend_with(causes);
         uint32_t link = causes & 8 ? 2 : 0;
         uint64_t answered = REQUEST(1000, link, LOGODWEN_BC_WHOLE, 0);
-        CHECK(logodwen_refusal(answered) == first_of(causes, 0x1BF));
+        CHECK(logodwen_refusal(answered) == first_of(causes, 0x5BF));
         CHECK(logodwen_refusal(answered) == 0 || answered == logodwen_refusal(answered));
         lend_with(causes);
         CHECK(logodwen_refusal(ERASE(1)) == first_of(causes, 0x11));
         lend_with(causes);
         CHECK(logodwen_refusal(SLOW(1000)) == first_of(causes, 0x110));
         lend_with(causes);
-        CHECK(logodwen_refusal(POLL(1000)) == (first_of(causes, 0x12) != 0 ? first_of(causes, 0x12) : causes & 0x20 ? 0u : 7u));
+        CHECK(logodwen_refusal(BUILD(1000)) == first_of(causes, 0x430));
+        lend_with(causes);
+        CHECK(logodwen_refusal(POLL(1000)) == (first_of(causes, 0x412) != 0 ? first_of(causes, 0x412) : causes & 0x20 ? 0u : 7u));
         lend_with(causes);
         lengths[PACKET] = causes & 4 ? LOGODWEN_SLAVE_REPLY_BYTES + 2 : 0;
-        unsigned expected = first_of(causes, 0x1E);
+        unsigned expected = first_of(causes, 0x41E);
         CHECK(logodwen_refusal(SLAVE_REPLY(1000, causes & 8 ? 24 : 5, LOGODWEN_BC_END, 0))
               == (expected != 0   ? expected
                   : causes & 0x20 ? 0u
@@ -349,7 +377,7 @@ static void test_each_refusal(void) {
     for (size_t i = 0; i < sizeof slaves / sizeof *slaves; i++)
         CHECK(SLAVE_REPLY(1000, slaves[i], LOGODWEN_BC_END, 0) == LOGODWEN_REFUSED_NUMBER);
     CHECK(SLAVE_REPLY(1000, 6, LOGODWEN_BC_END, 0) == LOGODWEN_REFUSED_UNASKED);
-    CHECK(REQUEST(1000, 0, LOGODWEN_BC_WHOLE, 1) == LOGODWEN_REFUSED_BUSY);
+    CHECK(REQUEST(1000, 0, LOGODWEN_BC_WHOLE, 1) == LOGODWEN_REFUSED_BUSY && BUILD(1000) == LOGODWEN_REFUSED_BUSY);
     lend_with(0);
     lengths[DM] = LOGODWEN_DM_BYTES + 2;
     CHECK(REQUEST(1000, 0, LOGODWEN_BC_WHOLE, 0) == LOGODWEN_REFUSED_MEMORY_SIZE);
@@ -363,17 +391,18 @@ static void test_each_refusal(void) {
     memset(runs[STATE], 0, LOGODWEN_STATE_BYTES); /* zero is no node's state */
     CHECK(REQUEST(1000, 0, LOGODWEN_BC_WHOLE, 0) == LOGODWEN_REFUSED_FLASH_SIZE);
     CHECK(ERASE(1) == LOGODWEN_REFUSED_FLASH_SIZE && POLL(0) == LOGODWEN_REFUSED_STATE
-          && SLAVE_REPLY(0, 0, 3, 0) == LOGODWEN_REFUSED_STATE && SLOW(0) == LOGODWEN_REFUSED_STATE);
+          && SLAVE_REPLY(0, 0, 3, 0) == LOGODWEN_REFUSED_STATE && SLOW(0) == LOGODWEN_REFUSED_STATE
+          && BUILD(0) == LOGODWEN_REFUSED_STATE);
 }
 
-/* Of another length than 192 bytes, the state's part of 1, 9 and 4 is left out. */
+/* Of another length than 208 bytes, the state's part of 1, 9 and 4 is left out. */
 static void test_state_length(void) {
     for (size_t length = LOGODWEN_STATE_BYTES - 2; length <= LOGODWEN_STATE_BYTES + 2; length++) {
         lend_with(0);
         lengths[STATE] = length;
         unsigned expected = length == LOGODWEN_STATE_BYTES ? 0 : LOGODWEN_REFUSED_STATE;
         CHECK(logodwen_refusal(REQUEST(1000, 1, LOGODWEN_BC_WHOLE, 0)) == expected);
-        CHECK(logodwen_refusal(ERASE(1)) == expected);
+        CHECK(logodwen_refusal(ERASE(1)) == expected && logodwen_refusal(BUILD(1000)) == expected);
         if (expected == 0)
             continue;
         CHECK(REQUEST(1000, 0xFFFFFFFF, LOGODWEN_BC_WHOLE, 0) == LOGODWEN_REFUSED_STATE);
@@ -384,6 +413,10 @@ static void test_state_length(void) {
         CHECK(SLOW(1000) == LOGODWEN_REFUSED_STATE && REQUEST(1000, 0, LOGODWEN_BC_WHOLE, 0) == LOGODWEN_REFUSED_STATE);
         lengths[LIST] = LOGODWEN_LIST_BYTES + LOGODWEN_RECORD_BYTES;
         CHECK(SLOW(1000) == LOGODWEN_REFUSED_LIST_SIZE && REQUEST(1000, 0, LOGODWEN_BC_WHOLE, 0) == LOGODWEN_REFUSED_LIST_SIZE);
+        lengths[LIST] = LOGODWEN_LIST_BYTES;
+        lengths[EVENTS] = 0;
+        CHECK(BUILD(1000) == LOGODWEN_REFUSED_EVENTS_SIZE && POLL(1000) == LOGODWEN_REFUSED_EVENTS_SIZE);
+        CHECK(REQUEST(1000, 0, LOGODWEN_BC_WHOLE, 0) == LOGODWEN_REFUSED_EVENTS_SIZE);
         lengths[FLASH] = 0;
         CHECK(ERASE(1) == LOGODWEN_REFUSED_FLASH_SIZE);
     }
@@ -393,13 +426,14 @@ static void test_state_length(void) {
 static void test_state_bytes(void) {
     lend_with(0);
     static const uint8_t unused[] = {24, 25, 26, 27, 28, 29, 30, 31, 32, 33,  34,  35,  36,  37,
-                                     38, 39, 40, 41, 42, 43, 180, 181, 182, 183, 184, 185, 186, 187};
+                                     38, 39, 40, 41, 42, 43, 180, 181, 182, 183, 184, 185, 186, 187,
+                                     200, 201, 202, 203, 204, 205, 206, 207};
     for (size_t i = 0; i < sizeof unused; i++) {
         runs[STATE][unused[i]] = 1;
         CHECK(REQUEST(1000, 0, LOGODWEN_BC_WHOLE, 0) == LOGODWEN_REFUSED_STATE && ERASE(1) == LOGODWEN_REFUSED_STATE);
         runs[STATE][unused[i]] = 0;
     }
-    static const uint8_t wrong[][2] = {{0, 3}, {1, 5}, {2, 8}, {3, 4}, {14, 2}, {14, 11}, {15, 3}, {47, 1}, {107, 255}};
+    static const uint8_t wrong[][2] = {{0, 3}, {1, 5}, {2, 8}, {3, 4}, {14, 2}, {14, 11}, {15, 3}, {15, 4}, {47, 1}, {107, 255}};
     for (size_t i = 0; i < sizeof wrong / sizeof *wrong; i++) {
         uint8_t before = runs[STATE][wrong[i][0]];
         runs[STATE][wrong[i][0]] = wrong[i][1];
@@ -499,6 +533,7 @@ static void test_odd_lengths(void) {
         lengths[IO] = 128 + extra % 2;
         lengths[REPLY] = LOGODWEN_REPLY_BYTES + extra % 2;
         lengths[AREA] = LOGODWEN_AREA_BYTES + extra;
+        lengths[EVENTS] = LOGODWEN_EVENTS_BYTES + extra;
         file_write(0x7211);
         lengths[PACKET] += extra % 2;
         CHECK(REQUEST(1000, 0, LOGODWEN_BC_WHOLE, 0) == zero_length(LOGODWEN_BC_END));
@@ -529,6 +564,10 @@ static void test_null(void) {
     CHECK(REQUEST(1000, 0, LOGODWEN_BC_WHOLE, 0) == zero_length(LOGODWEN_BC_ABORT) && SLOW(1000) == nothing());
     put_listing(1, 0);
     CHECK(REQUEST(1000, 0, LOGODWEN_BC_WHOLE, 0) == LOGODWEN_REFUSED_LIST_SIZE && SLOW(1000) == LOGODWEN_REFUSED_LIST_SIZE);
+    put_listing(0, 0);
+    lengths[EVENTS] = 0;
+    CHECK(REQUEST(1000, 0, LOGODWEN_BC_WHOLE, 0) == LOGODWEN_REFUSED_EVENTS_SIZE && BUILD(0) == LOGODWEN_REFUSED_EVENTS_SIZE);
+    CHECK(POLL(0) == LOGODWEN_REFUSED_EVENTS_SIZE && SLAVE_REPLY(0, 0, 0, 0) == LOGODWEN_REFUSED_EVENTS_SIZE);
     lengths[AREA] = 0;
     CHECK(REQUEST(1000, 0, LOGODWEN_BC_WHOLE, 0) == LOGODWEN_REFUSED_AREA_SIZE);
     lengths[FLASH] = 0;
@@ -859,12 +898,15 @@ static void test_group(void) {
 
 /* Slaves that answer in packets (02, request 8). */
 
-static int is_buffer(size_t from, size_t count, const uint16_t *words) {
+/* Whether these words stand in a run from a word on. */
+static int are_words(int run, size_t from, size_t count, const uint16_t *words) {
     for (size_t i = 0; i < count; i++)
-        if (reply_word(from + i) != words[i])
+        if (logodwen_get(runs[run], from + i) != words[i])
             return 0;
     return 1;
 }
+
+static int is_buffer(size_t from, size_t count, const uint16_t *words) { return are_words(REPLY, from, count, words); }
 #define IS_BUFFER(from, ...) is_buffer(from, sizeof(uint16_t[]){__VA_ARGS__} / 2, (const uint16_t[]){__VA_ARGS__})
 
 /* Packets of a reply stand behind the fragments, each asks anew, and the last makes a fragment of all; no other word of the buffer changes. */
@@ -1379,7 +1421,7 @@ static int is_list_same(void) { return is_list_same_but(0, 0); }
 
 /* Whether the state is what it was but for what is listed and whose turn it is. */
 static int is_state_same_but_listing(void) {
-    return is_same(STATE, 0, LOGODWEN_AT_LISTED) && is_same(STATE, LOGODWEN_STATE_BYTES, rooms[STATE]);
+    return is_same(STATE, 0, LOGODWEN_AT_LISTED) && is_same(STATE, LOGODWEN_AT_EVENT, rooms[STATE]);
 }
 
 static int is_all_same(void) {
@@ -1850,8 +1892,8 @@ static void test_series_overrun(void) {
 /* What refuses each of the packets refuses no list: none is done. */
 static void test_series_refused(void) {
     static const uint16_t row[] = {0, 3, 1, 0x122E, 0, 3, 1, 0x122E};
-    for (unsigned causes = 0; causes < 0x200; causes++) {
-        if (causes & 0x4A) /* 2 and 4 are not of what is lent here, 7 not of a request */
+    for (unsigned causes = 0; causes < 0x800; causes++) {
+        if (causes & 0x24A) /* 2 and 4 are not of what is lent here, 7 not of a request, 10 of the list alone */
             continue;
         lend_with(causes);
         packet(8, row);
@@ -1874,7 +1916,7 @@ static void test_series_null(void) {
     PACKET_OF(0, 3, 1, 0x122E, 0, 3, 3, 0x112E, 0x4003, 0x2000);
     lengths[PM] = lengths[DM] = lengths[IO] = lengths[LIST] = 0;
     CHECK(REQUESTS(1000) == done(2) && ARE_REPLIES(3, 3, 0x0000, 0x0120, 0, 2, 0)); /* no DM to read */
-    static const int needed[] = {REPLIES, AREA, FLASH, STATE};
+    static const int needed[] = {REPLIES, EVENTS, AREA, FLASH, STATE};
     for (size_t i = 0; i < sizeof needed / sizeof *needed; i++) {
         lengths[needed[i]] = 0;
         CHECK(REQUESTS(1000) == done(0) && is_all_same());
@@ -1914,6 +1956,9 @@ static size_t lay_by_chance(uint16_t *to) {
                                          {3, 0x102E, 0x0002, 0x0000},
                                          {10, 0x5C2E, 0x4007, 0x2000, 0x0001, 0x0008, 0x0002, 0x000A, 0x1234, 0x5678, 0xE72E},
                                          {1, 0x1C2E},
+                                         {1, 0x012E},
+                                         {1, 0x022E},
+                                         {1, 0x422E},
                                          {2, 0x5B2E, 0x0000},
                                          {1, 0x5B2E},
                                          {0}};
@@ -1963,6 +2008,10 @@ static void test_series_by_chance(void) {
             lend_with(0);
         if (draw(10) == 0)
             ERASE(UINT64_MAX);
+        if (draw(4) == 0) { /* an event is unread, as it stands in the area */
+            logodwen_put(runs[STATE] + LOGODWEN_AT_EVENT, 0, (uint16_t)draw(65536));
+            logodwen_put_pm(runs[STATE] + LOGODWEN_AT_UNREAD, 0, 5 + draw(30));
+        }
         lengths[REPLIES] = draw(6) == 0 ? LOGODWEN_REPLIES_BYTES + draw(60) : 2 * LOGODWEN_REPLIES_BYTES;
         for (size_t i = 0; i < packets; i++)
             words += lay_by_chance(row + words);
@@ -1982,6 +2031,305 @@ static void test_series_by_chance(void) {
     CHECK(stopped > TURNS / 10 && all > 3 * TURNS);
 }
 
+/* Event builds (02, request 12). */
+
+/* Slaves 5 and 7 are those of mask 0, and 5 is asked for its event, at 1000. */
+static void build_two(size_t shift) {
+    lay_out(shift);
+    CHECK(START(LOGODWEN_CDDC, 2, 0) == LOGODWEN_DONE);
+    PACKET_OF(0x572E, 0x0000, 0x00A0);
+    CHECK(REQUEST(1000, 0, LOGODWEN_BC_WHOLE, 0) == zero_length(LOGODWEN_BC_END));
+    CHECK(BUILD(1000) == ask_event(5));
+}
+
+#define IS_EVENT(from, ...) are_words(EVENTS, from, sizeof((uint16_t[]){__VA_ARGS__}) / 2, (uint16_t[]){__VA_ARGS__})
+
+/* A packet of words and their FCS. */
+static void sealed(size_t count, const uint16_t *words) {
+    packet(count, words);
+    logodwen_put(runs[PACKET], count, logodwen_fcs(runs[PACKET], count));
+    lengths[PACKET] += 2;
+}
+#define SEALED_OF(...) sealed(sizeof((uint16_t[]){__VA_ARGS__}) / 2, (uint16_t[]){__VA_ARGS__})
+
+/* Whether the event area ends its event of so many words with the FCS of the others, and every byte behind stays. */
+static int is_event_sealed(size_t words) {
+    return logodwen_get(runs[EVENTS], words - 1) == logodwen_fcs(runs[EVENTS], words - 1) && is_same(EVENTS, 2 * words, rooms[EVENTS]);
+}
+
+/* Whether a build is pending: the slave asked so many times, at that time, with so many words built, that tally and those left out. */
+static int is_building(unsigned slave, unsigned asks, uint32_t at, uint32_t words, unsigned tally, uint32_t left_out) {
+    const uint8_t *state = runs[STATE];
+    return state[LOGODWEN_AT_PENDING] == 3 && state[LOGODWEN_AT_LINK] == 0 && state[LOGODWEN_AT_FROM] == 0
+           && state[LOGODWEN_AT_SLAVE] == slave && state[LOGODWEN_AT_TALLY] == tally && state_long(LOGODWEN_AT_ASKED) == 0xA0
+           && state_long(LOGODWEN_AT_ASKED_AT) == at && state_long(LOGODWEN_AT_BUILT) == words && state_long(LOGODWEN_AT_ASKS) == asks
+           && state_long(LOGODWEN_AT_LEFT_OUT) == left_out;
+}
+
+static int is_nothing_pending(void) {
+    for (size_t at = LOGODWEN_AT_LINK; at < LOGODWEN_AT_MASKS; at++)
+        if (runs[STATE][at] != 0)
+            return 0;
+    return runs[STATE][LOGODWEN_AT_PENDING] == 0 && is_received(0, 0) && is_no_build();
+}
+
+/* An event of two slaves, one of which is left out, at every shift; it is read once, and no byte of the reply buffer is written before. */
+static void test_build(void) {
+    for (size_t shift = 0; shift < 4; shift++) {
+        build_two(shift);
+        CHECK(is_building(5, 1, 1000, 0, 0, 0) && is_kept(0, 0, 0) && is_received(0, 0));
+        SEALED_OF(0x0001, 0xAAAA, 0xBBBB, 0x01A0);
+        CHECK(SLAVE_REPLY(1059, 5, LOGODWEN_BC_WHOLE, 0) == ask_event(7) && is_building(7, 1, 1059, 4, 5, 0));
+        CHECK(IS_EVENT(1, 0x0003, 0xAAAA, 0xBBBB, 0x81A5) && is_same(EVENTS, 0, 2) && is_same(EVENTS, 10, rooms[EVENTS]));
+        CHECK(is_same(REPLY, 0, rooms[REPLY]) && POLL(1118) == (uint64_t)LOGODWEN_WAITING << 8);
+        SEALED_OF(0x0001, 0x0020);
+        CHECK(SLAVE_REPLY(1118, 7, LOGODWEN_BC_WHOLE, 0) == built(9) && is_same(REPLY, 0, rooms[REPLY]));
+        CHECK(IS_EVENT(0, 0x0001, 0x0003, 0xAAAA, 0xBBBB, 0x81A5, 0x0000, 0x0080, 0x0100) && is_event_sealed(9));
+        CHECK(is_nothing_pending() && is_kept(1, 0, 9) && BUILD(1118) == zero_length(LOGODWEN_BC_ABORT) && is_all_same());
+        PACKET_OF(0x012E);
+        CHECK(REQUEST(1118, 1, LOGODWEN_BC_WHOLE, 0) == with_words(9) && is_kept(1, 0, 0));
+        CHECK(memcmp(runs[REPLY], runs[EVENTS], 18) == 0 && is_same(REPLY, 18, rooms[REPLY]));
+        CHECK(REQUEST(1118, 1, LOGODWEN_BC_WHOLE, 0) == zero_length(LOGODWEN_BC_END) && is_all_same());
+        CHECK(BUILD(1200) == ask_event(5) && is_building(5, 1, 1200, 0, 0, 0) && is_kept(1, 0, 0));
+    }
+}
+
+/* END is asked again, twice, each time at this clock; the third is the fragment. */
+static void test_build_asks(void) {
+    build_two(1);
+    lengths[PACKET] = 0;
+    CHECK(SLAVE_REPLY(1059, 5, LOGODWEN_BC_END, 0) == ask_event(5) && is_building(5, 2, 1059, 0, 0, 0));
+    CHECK(SLAVE_REPLY(1118, 5, LOGODWEN_BC_END, 0) == ask_event(5) && is_building(5, 3, 1118, 0, 0, 0));
+    CHECK(is_same(EVENTS, 0, rooms[EVENTS]));
+    CHECK(SLAVE_REPLY(1177, 5, LOGODWEN_BC_END, 0) == ask_event(7) && is_building(7, 1, 1177, 2, 1, 0) && IS_EVENT(1, 0x0001, 0x2005));
+    CHECK(SLAVE_REPLY(1177, 7, LOGODWEN_BC_END, 0) == ask_event(7) && is_building(7, 2, 1177, 2, 1, 0));
+    CHECK(POLL(1236) == (uint64_t)LOGODWEN_WAITING << 8 && POLL(1237) == no_event()); /* nobody had data */
+    CHECK(IS_EVENT(3, 0x0001, 0x2807) && is_same(EVENTS, 0, 6) && is_nothing_pending() && is_kept(0, 0, 0));
+    PACKET_OF(0x012E);
+    CHECK(REQUEST(1237, 1, LOGODWEN_BC_WHOLE, 0) == zero_length(LOGODWEN_BC_END) && BUILD(1237) == ask_event(5));
+}
+
+/* A reply in packets: its words stand a word higher until the last has come. */
+static void test_build_packets(void) {
+    for (size_t cut = 1; cut <= 4; cut++) {
+        uint8_t whole[10];
+        build_two(cut);
+        SEALED_OF(0x0001, 0xAAAA, 0xBBBB, 0x01A0);
+        memcpy(whole, runs[PACKET], sizeof whole);
+        lengths[PACKET] = 2 * cut;
+        rx_status = 0x1234;
+        CHECK(SLAVE_REPLY(1059, 5, LOGODWEN_BC_FIRST, 0) == send_next(5) && is_received((uint32_t)cut, 0x1234));
+        CHECK(is_building(5, 1, 1059, 0, 0, 0) && memcmp(runs[EVENTS] + 4, whole, 2 * cut) == 0);
+        CHECK(is_same(EVENTS, 0, 4) && is_same(EVENTS, 4 + 2 * cut, rooms[EVENTS]) && is_same(REPLY, 0, rooms[REPLY]));
+        memcpy(runs[PACKET], whole + 2 * cut, lengths[PACKET] = 10 - 2 * cut);
+        CHECK(SLAVE_REPLY(1118, 5, LOGODWEN_BC_LAST, 0) == ask_event(7) && is_received(0, 0) && is_building(7, 1, 1118, 4, 5, 0));
+        CHECK(IS_EVENT(1, 0x0003, 0xAAAA, 0xBBBB, 0x81A5) && is_same(EVENTS, 10, rooms[EVENTS]));
+    }
+    build_two(0); /* another number; then a packet with receive errors, which is counted */
+    SEALED_OF(0x0002, 0xAAAA, 0x01A0);
+    lengths[PACKET] = 4;
+    rx_status = 0x5678;
+    uint16_t seal = logodwen_get(runs[PACKET], 3);
+    CHECK(SLAVE_REPLY(1001, 5, LOGODWEN_BC_FIRST, 0) == send_next(5));
+    PACKET_OF(0x01A0, seal);
+    CHECK(SLAVE_REPLY(1001, 5, LOGODWEN_BC_LAST, 0) == ask_event(7) && IS_EVENT(1, 0x0004, 0x5678, 0x0004, 0x0002, 0xD805));
+    CHECK(SLAVE_REPLY(1001, 7, LOGODWEN_BC_WHOLE, 1) == built(14) && state_word(LOGODWEN_AT_AMSWIRE_ERRORS) == 1 && is_kept(1, 1, 14));
+    CHECK(IS_EVENT(6, 0x0003, 0x5678, 0x00BB, 0x3007, 0x0000, 0x0000, 0x0300) && is_event_sealed(14));
+    rx_status = 0x00AA;
+}
+
+/* A reply with another number, one without number and tail, and one that just has room; an event of 12,288 words, which is read whole. */
+static void test_build_codes(void) {
+    const size_t room = LOGODWEN_EVENTS_WORDS - 5 - 5; /* slave 7 is to come */
+    build_two(2);
+    SEALED_OF(0x0000, 0xAAAA, 0x01A0);
+    CHECK(SLAVE_REPLY(1000, 5, LOGODWEN_BC_WHOLE, 0) == ask_event(7) && IS_EVENT(1, 0x0004, 0x00AA, 0x0004, 0x0000, 0xA005));
+    SEALED_OF(0x0001);
+    CHECK(SLAVE_REPLY(1000, 7, LOGODWEN_BC_WHOLE, 0) == built(15) && IS_EVENT(6, 0x0004, 0x00AA, 0x0002, 0x0001, 0x9807) && is_kept(1, 1, 15));
+    for (size_t n = room; n <= room + 1; n++) {
+        build_two(3);
+        PACKET_OF(0x0001);
+        lengths[PACKET] = 2 * n;
+        logodwen_put(runs[PACKET], n - 2, 0x0020);
+        logodwen_put(runs[PACKET], n - 1, logodwen_fcs(runs[PACKET], n - 1));
+        CHECK(SLAVE_REPLY(1000, 5, LOGODWEN_BC_WHOLE, 0) == ask_event(7) && state_long(LOGODWEN_AT_BUILT) == (n == room ? n - 1 : 5));
+        CHECK(logodwen_get(runs[EVENTS], n == room ? n - 1 : 5) == (n == room ? 0x8025 : 0x9025));
+    }
+    build_two(0);
+    logodwen_put_pm(runs[STATE] + LOGODWEN_AT_BUILT, 0, (uint32_t)LOGODWEN_EVENTS_WORDS - 5 - 10);
+    PACKET_OF(9, 9);
+    CHECK(SLAVE_REPLY(1000, 5, LOGODWEN_BC_WHOLE, 0) == ask_event(7));
+    CHECK(SLAVE_REPLY(1000, 7, LOGODWEN_BC_WHOLE, 0) == built(LOGODWEN_EVENTS_WORDS) && is_kept(1, 1, LOGODWEN_EVENTS_WORDS));
+    PACKET_OF(0x012E);
+    CHECK(REQUEST(1000, 0, LOGODWEN_BC_WHOLE, 0) == with_words(LOGODWEN_EVENTS_WORDS));
+    CHECK(memcmp(runs[REPLY], runs[EVENTS], LOGODWEN_EVENTS_BYTES) == 0 && is_kept(1, 1, 0));
+}
+
+/* ABORT where no build begins, and nothing changes. */
+static void test_build_aborts(void) {
+    lay_out(0);
+    CHECK(START(LOGODWEN_CDP, 2, 0) == LOGODWEN_DONE);
+    CHECK(BUILD(1000) == zero_length(LOGODWEN_BC_ABORT) && is_all_same());
+    logodwen_put_pm(runs[STATE] + LOGODWEN_AT_MASKS, 0, 0xFFFFFF);
+    CHECK(BUILD(1000) == zero_length(LOGODWEN_BC_ABORT) && is_all_same());
+    CHECK(START(LOGODWEN_CDDC, 2, 0) == LOGODWEN_DONE);
+    PACKET_OF(0x572E, 0x0000, 0x0000);
+    CHECK(REQUEST(1000, 0, LOGODWEN_BC_WHOLE, 0) == zero_length(LOGODWEN_BC_END));
+    logodwen_put_pm(runs[STATE] + LOGODWEN_AT_MASKS + 4, 0, 0xFFFFFF); /* mask 1 does not count */
+    CHECK(BUILD(1000) == zero_length(LOGODWEN_BC_ABORT) && is_all_same());
+    PACKET_OF(0x572E, 0x0080, 0x0000);
+    CHECK(REQUEST(1000, 0, LOGODWEN_BC_WHOLE, 0) == zero_length(LOGODWEN_BC_END));
+    static const uint32_t unread[] = {1, 5, LOGODWEN_EVENTS_WORDS};
+    for (size_t i = 0; i < sizeof unread / sizeof *unread; i++) {
+        logodwen_put_pm(runs[STATE] + LOGODWEN_AT_UNREAD, 0, unread[i]);
+        CHECK(BUILD(1000) == zero_length(LOGODWEN_BC_ABORT) && is_all_same());
+    }
+    logodwen_put_pm(runs[STATE] + LOGODWEN_AT_UNREAD, 0, 0);
+    CHECK(BUILD(1000) == ask_event(23) && runs[STATE][LOGODWEN_AT_SLAVE] == 23);
+}
+
+/* Status words 7 and 8 with bit 14, Event Number and reset; each command without parameters, on both kinds of node. */
+static void test_event_commands(void) {
+    for (uint32_t kind = LOGODWEN_CDP; kind <= LOGODWEN_CDDC; kind++) {
+        unsigned number = 0;
+        lay_out(0);
+        CHECK(START(kind, 2, 0) == LOGODWEN_DONE);
+        logodwen_put(runs[STATE] + LOGODWEN_AT_EVENT, 0, 0xABCD);
+        logodwen_put_pm(runs[STATE] + LOGODWEN_AT_UNREAD, 0, 7);
+        PACKET_OF(0x0C2E);
+        CHECK(REQUEST(1000, 1, LOGODWEN_BC_WHOLE, 0) == with_words(12) && reply_word(5) == 0x0F01 && reply_word(6) == 0xABCD && reply_word(7) == 0);
+        logodwen_put(runs[STATE] + LOGODWEN_AT_BUILD_ERRORS, 0, 0x8001);
+        CHECK(REQUEST(1000, 1, LOGODWEN_BC_WHOLE, 0) == with_words(12) && reply_word(5) == 0x4F01 && reply_word(7) == 0x8001);
+        PACKET_OF(0x022E);
+        CHECK(REQUEST(1000, 1, LOGODWEN_BC_WHOLE, 0) == with_words(4) && reply_word(0) == 0xABCD && reply_word(1) == 0);
+        CHECK(logodwen_read_event_number(runs[REPLY], 4, &number) && number == 0xABCD && is_kept(0xABCD, 0x8001, 7));
+        static const uint16_t ids[3] = {0x012E, 0x022E, 0x422E};
+        for (size_t i = 0; i < 3; i++) {
+            PACKET_OF(ids[i], 0x0000);
+            CHECK(REQUEST(1000, 1, LOGODWEN_BC_WHOLE, 0) == zero_length(LOGODWEN_BC_ABORT) && is_all_same());
+        }
+        PACKET_OF(0x012E);
+        CHECK(REQUEST(1000, 1, LOGODWEN_BC_WHOLE, 0) == with_words(7) && memcmp(runs[REPLY], runs[EVENTS], 14) == 0);
+        CHECK(is_kept(0xABCD, 0x8001, 0) && is_same(REPLY, 14, rooms[REPLY]));
+        logodwen_put_pm(runs[STATE] + LOGODWEN_AT_UNREAD, 0, 7);
+        PACKET_OF(0x422E);
+        CHECK(REQUEST(1000, 1, LOGODWEN_BC_WHOLE, 0) == zero_length(LOGODWEN_BC_END) && is_kept(0, 0x8001, 0));
+    }
+}
+
+/* The errors are counted up to FFFF, and the number goes round. */
+static void test_build_counts(void) {
+    build_two(0);
+    logodwen_put(runs[STATE] + LOGODWEN_AT_BUILD_ERRORS, 0, 0xFFFE);
+    logodwen_put(runs[STATE] + LOGODWEN_AT_EVENT, 0, 0xFFFE);
+    for (unsigned turn = 0; turn < 3; turn++) {
+        PACKET_OF(9);
+        CHECK(SLAVE_REPLY(1000, 5, LOGODWEN_BC_WHOLE, 0) == ask_event(7) && POLL(1060) == built(12));
+        CHECK(is_kept((0xFFFF + turn) & 0xFFFF, 0xFFFF, 12) && logodwen_get(runs[EVENTS], 0) == ((0xFFFF + turn) & 0xFFFF));
+        PACKET_OF(0x012E);
+        CHECK(REQUEST(1000, 0, LOGODWEN_BC_WHOLE, 0) == with_words(12) && BUILD(1000) == ask_event(5));
+    }
+}
+
+/* 6 covers both, and no link drops a build; other calls leave it alone. */
+static void test_build_meanwhile(void) {
+    build_two(0);
+    CHECK(BUILD(1000) == LOGODWEN_REFUSED_BUSY);
+    PACKET_OF(0x122E);
+    CHECK(REQUEST(1000, 0, LOGODWEN_BC_WHOLE, 0) == LOGODWEN_REFUSED_BUSY && REQUEST(1000, 0, LOGODWEN_BC_FIRST, 1) == LOGODWEN_REFUSED_BUSY);
+    for (uint32_t link = 0; link < 2; link++)
+        for (uint32_t bc = 0; bc < 4; bc++) {
+            lengths[PACKET] = bc % 2;
+            CHECK(REQUEST(1000, link, bc, 0) == zero_length(LOGODWEN_BC_ABORT) && is_all_same());
+        }
+    lengths[PACKET] = 0;
+    CHECK(ERASE(1) == 0 && is_all_same() && SLOW(1000) == nothing() && is_all_same());
+    runs[STATE][LOGODWEN_AT_WRITE] = 1; /* a file of link 0 comes in packets */
+    logodwen_put_pm(runs[STATE] + LOGODWEN_AT_JOINED, 0, 3);
+    CHECK(REQUEST(1000, 1, LOGODWEN_BC_ABORT, 0) == zero_length(LOGODWEN_BC_ABORT) && is_standing(0, 3));
+    CHECK(REQUEST(1000, 0, LOGODWEN_BC_ABORT, 0) == zero_length(LOGODWEN_BC_END) && is_none_standing() && is_building(5, 1, 1000, 0, 0, 0));
+    CHECK(SLAVE_REPLY(1000, 7, LOGODWEN_BC_END, 0) == LOGODWEN_REFUSED_UNASKED && SLAVE_REPLY(1000, 0, LOGODWEN_BC_END, 0) == LOGODWEN_REFUSED_UNASKED);
+    PACKET_OF(0, 3, 1, 0x122E, 0, 2, 0);
+    CHECK(REQUESTS(1000) == done(0) && is_all_same());
+    PACKET_OF(0, 2, 0, 0, 3, 1, 0x122E);
+    CHECK(REQUESTS(1000) == done(1) && ARE_REPLIES(2, 0) && is_all_same_but_replies());
+    ask_two(0);
+    CHECK(BUILD(1000) == LOGODWEN_REFUSED_BUSY);
+    lend_with(0x20);
+    CHECK(BUILD(1000) == LOGODWEN_REFUSED_BUSY);
+}
+
+/* A byte of a build's state, set: whether it is one still. */
+static void check_building(size_t at, uint32_t value, size_t bytes, unsigned expected) {
+    build_two(0);
+    for (size_t i = 0; i < bytes; i++)
+        runs[STATE][at + i] = (uint8_t)(value >> 8 * i);
+    lengths[PACKET] = 0;
+    CHECK(logodwen_refusal(POLL(1000)) == expected && logodwen_refusal(ERASE(1)) == expected);
+    CHECK(logodwen_refusal(REQUEST(1000, 0, LOGODWEN_BC_END, 0)) == expected);
+    CHECK(logodwen_refusal(BUILD(1000)) == (expected == 0 ? LOGODWEN_REFUSED_BUSY : expected));
+    CHECK(expected == 0 || SLAVE_REPLY(1000, 5, LOGODWEN_BC_NEXT, 0) == expected);
+}
+
+static void test_build_bytes(void) {
+    static const struct {
+        uint32_t at, value, bytes, refusal;
+    } cases[] = {{LOGODWEN_AT_ASKS, 0, 1, 5}, {LOGODWEN_AT_ASKS, 1, 1, 0}, {LOGODWEN_AT_ASKS, 3, 1, 0}, {LOGODWEN_AT_ASKS, 4, 1, 5},
+                 {LOGODWEN_AT_ASKS, 255, 1, 5}, {201, 1, 1, 5}, {202, 1, 1, 5}, {203, 0x80, 1, 5},
+                 {LOGODWEN_AT_LEFT_OUT, 0xFFFFFF, 4, 0}, {LOGODWEN_AT_LEFT_OUT, 0x1000000, 4, 5}, {LOGODWEN_AT_LEFT_OUT, 0x80000000, 4, 5},
+                 {LOGODWEN_AT_TALLY, 1, 1, 0}, {LOGODWEN_AT_TALLY, 2, 1, 5}, {LOGODWEN_AT_TALLY, 3, 1, 5}, {LOGODWEN_AT_TALLY, 4, 1, 5},
+                 {LOGODWEN_AT_TALLY, 5, 1, 0}, {LOGODWEN_AT_TALLY, 6, 1, 0}, {LOGODWEN_AT_TALLY, 7, 1, 5},
+                 {LOGODWEN_AT_LINK, 1, 1, 5}, {LOGODWEN_AT_LINK, 2, 1, 5}, {LOGODWEN_AT_FROM, 1, 1, 5}, {LOGODWEN_AT_FROM, 2, 1, 5},
+                 {LOGODWEN_AT_SLAVE, 7, 1, 0}, {LOGODWEN_AT_SLAVE, 6, 1, 5}, {LOGODWEN_AT_SLAVE, 24, 1, 5}, {LOGODWEN_AT_SLAVE, 255, 1, 5},
+                 {LOGODWEN_AT_ASKED, 0xFFFFFF, 4, 0}, {LOGODWEN_AT_ASKED, 0x10000A0, 4, 5}, {LOGODWEN_AT_ASKED, 0x80, 4, 5},
+                 {LOGODWEN_AT_BUILT, 12273, 4, 0}, {LOGODWEN_AT_BUILT, 12274, 4, 5}, {LOGODWEN_AT_BUILT, 0xFFFFFFFF, 4, 5},
+                 {LOGODWEN_AT_RECEIVED, 12278, 4, 0}, {LOGODWEN_AT_RECEIVED, 12279, 4, 5}, {LOGODWEN_AT_RECEIVED, 0xFFFFFFFF, 4, 5},
+                 {LOGODWEN_AT_RX_STATUS, 1, 2, 5}, {186, 1, 1, 5}, {LOGODWEN_AT_UNREAD, 12288, 4, 0}, {LOGODWEN_AT_UNREAD, 12289, 4, 5},
+                 {LOGODWEN_AT_UNREAD, 0x80000000, 4, 5}, {LOGODWEN_AT_EVENT, 0xFFFF, 2, 0}, {LOGODWEN_AT_BUILD_ERRORS, 0xFFFF, 2, 0},
+                 {LOGODWEN_AT_PENDING, 0, 1, 5}, {LOGODWEN_AT_PENDING, 1, 1, 5}, {LOGODWEN_AT_PENDING, 2, 1, 5}, {LOGODWEN_AT_PENDING, 4, 1, 5}};
+    for (size_t i = 0; i < sizeof cases / sizeof *cases; i++)
+        check_building(cases[i].at, cases[i].value, cases[i].bytes, cases[i].refusal);
+    lend_with(0); /* an event unread, where nothing is pending */
+    logodwen_put_pm(runs[STATE] + LOGODWEN_AT_UNREAD, 0, LOGODWEN_EVENTS_WORDS + 1);
+    CHECK(ERASE(1) == LOGODWEN_REFUSED_STATE && BUILD(1) == LOGODWEN_REFUSED_STATE && SLOW(1) == LOGODWEN_REFUSED_STATE);
+}
+
+/* The event area is long enough to the byte; a longer one, with an odd byte too, is as good. */
+static void test_build_lengths(void) {
+    static const struct {
+        size_t bytes;
+        int fits;
+    } cases[] = {{0, 0}, {1, 0}, {LOGODWEN_EVENTS_BYTES - 2, 0}, {LOGODWEN_EVENTS_BYTES - 1, 0}, {LOGODWEN_EVENTS_BYTES, 1},
+                 {LOGODWEN_EVENTS_BYTES + 1, 1}, {LOGODWEN_EVENTS_BYTES + 7, 1}};
+    for (size_t i = 0; i < sizeof cases / sizeof *cases; i++) {
+        unsigned expected = cases[i].fits ? 0 : LOGODWEN_REFUSED_EVENTS_SIZE;
+        build_two(i);
+        lengths[EVENTS] = cases[i].bytes;
+        CHECK(logodwen_refusal(POLL(1000)) == expected);
+        SEALED_OF(0x0001, 0x1234, 0x0020);
+        CHECK(logodwen_refusal(SLAVE_REPLY(1000, 5, LOGODWEN_BC_WHOLE, 0)) == expected);
+        lengths[PACKET] = 0;
+        CHECK(logodwen_refusal(REQUEST(1000, 0, LOGODWEN_BC_END, 0)) == expected);
+        lend_with(0);
+        lengths[EVENTS] = cases[i].bytes;
+        CHECK(logodwen_refusal(BUILD(1000)) == expected);
+        lend_with(0);
+        lengths[EVENTS] = cases[i].bytes;
+        PACKET_OF(0, 3, 1, 0x122E);
+        CHECK(REQUESTS(1000) == done(cases[i].fits ? 1 : 0));
+    }
+}
+
+/* Read Event in a list, twice: the event, then END; it is done as often as there are events. */
+static void test_series_event(void) {
+    build_two(0);
+    SEALED_OF(0x0001, 0x0020);
+    CHECK(SLAVE_REPLY(1000, 5, LOGODWEN_BC_WHOLE, 0) == ask_event(7) && SLAVE_REPLY(1000, 7, LOGODWEN_BC_WHOLE, 0) == built(5));
+    PACKET_OF(1, 3, 1, 0x022E, 0, 3, 1, 0x012E, 1, 3, 1, 0x012E);
+    CHECK(REQUESTS(1000) == done(3) && ARE_REPLIES(3, 4, 0x0001, 0, 0x0120, 0, 3, 5, 0x0001, 0x0000, 0x00A0, 0x0100, 0, 3, 0));
+    CHECK(is_kept(1, 0, 0));
+}
+
 static void test_texts(void) {
     CHECK(strcmp(logodwen_reply_text(zero_length(0)), "NEXT") == 0 && strcmp(logodwen_reply_text(zero_length(1)), "ERROR") == 0);
     CHECK(strcmp(logodwen_reply_text(zero_length(2)), "ABORT") == 0 && strcmp(logodwen_reply_text(zero_length(3)), "END") == 0);
@@ -1989,9 +2337,9 @@ static void test_texts(void) {
     CHECK(logodwen_is_next(zero_length(0)) && !logodwen_is_next(zero_length(3)) && !logodwen_is_next(LOGODWEN_REFUSED_BUSY));
     CHECK(!logodwen_is_next((uint64_t)LOGODWEN_REPLY << 8 | (uint64_t)1 << 32)
           && !logodwen_is_next((uint64_t)LOGODWEN_WAITING << 8));
-    for (unsigned refusal = 1; refusal <= 10; refusal++)
+    for (unsigned refusal = 1; refusal <= 11; refusal++)
         CHECK(strtoul(logodwen_refusal_text(refusal), NULL, 10) == refusal);
-    CHECK(strcmp(logodwen_refusal_text(0), "done") == 0 && strcmp(logodwen_refusal_text(11), "not a refusal") == 0);
+    CHECK(strcmp(logodwen_refusal_text(0), "done") == 0 && strcmp(logodwen_refusal_text(12), "not a refusal") == 0);
     CHECK(logodwen_done(done(0xFFFFFFFF)) == 0xFFFFFFFF && logodwen_done(LOGODWEN_REFUSED_OVERRUN) == 0);
     CHECK(logodwen_refusal(done(3)) == LOGODWEN_DONE && logodwen_answer(done(3)) == 0 && logodwen_bc(done(3)) == LOGODWEN_NONE);
     CHECK(logodwen_place(done(3)) == LOGODWEN_NONE && !logodwen_is_next(done(3)) && logodwen_slave(done(3)) == LOGODWEN_NONE);
@@ -2001,6 +2349,11 @@ static void test_texts(void) {
     CHECK(logodwen_answer(send_next(0)) == LOGODWEN_SEND_NEXT && logodwen_refusal(send_next(0)) == LOGODWEN_DONE);
     CHECK(logodwen_bc(send_next(0)) == LOGODWEN_NONE && logodwen_words(send_next(0)) == 0 && !logodwen_is_next(send_next(0)));
     CHECK(strcmp(logodwen_reply_text(send_next(0)), "not a reply") == 0 && logodwen_place(send_next(0)) == LOGODWEN_NONE);
+    CHECK(logodwen_slave(ask_event(23)) == 23 && logodwen_slave(ask_event(0)) == 0 && logodwen_from(ask_event(23)) == LOGODWEN_NONE);
+    CHECK(logodwen_answer(ask_event(0)) == LOGODWEN_ASK_EVENT && logodwen_words(ask_event(23)) == 0 && logodwen_bc(ask_event(2)) == LOGODWEN_NONE);
+    CHECK(logodwen_answer(built(12288)) == LOGODWEN_BUILT && logodwen_words(built(12288)) == 12288 && logodwen_place(built(5)) == LOGODWEN_NONE);
+    CHECK(logodwen_slave(built(5)) == LOGODWEN_NONE && logodwen_bc(built(5)) == LOGODWEN_NONE && !logodwen_is_next(built(5)));
+    CHECK(logodwen_answer(no_event()) == LOGODWEN_NO_EVENT && logodwen_words(no_event()) == 0 && logodwen_slave(no_event()) == LOGODWEN_NONE);
     CHECK(logodwen_answer(handed(909)) == LOGODWEN_HANDED && logodwen_place(handed(909)) == 909 && logodwen_words(handed(909)) == 0);
     CHECK(logodwen_answer(nothing()) == LOGODWEN_NOTHING && logodwen_place(nothing()) == LOGODWEN_NONE && logodwen_words(nothing()) == 0);
     CHECK(logodwen_refusal(handed(0)) == LOGODWEN_DONE && logodwen_slave(handed(0)) == LOGODWEN_NONE && !logodwen_is_next(nothing()));
@@ -2009,7 +2362,7 @@ static void test_texts(void) {
         CHECK(logodwen_bc(other) == LOGODWEN_NONE && logodwen_slave((uint64_t)LOGODWEN_WAITING << 8) == LOGODWEN_NONE
               && logodwen_from(other << 32) == LOGODWEN_NONE);
     static const uint8_t text[8] = {0x32, 0x31, 0x34, 0x33, 0x36, 0x35, 0x38, 0x37};
-    CHECK(logodwen_fcs(text, 4) == 0xA12B && logodwen_fcs(NULL, 0) == 0xFFFF && logodwen5_fcs(text, 7) == logodwen_fcs(text, 3));
+    CHECK(logodwen_fcs(text, 4) == 0xA12B && logodwen_fcs(NULL, 0) == 0xFFFF && logodwen6_fcs(text, 7) == logodwen_fcs(text, 3));
 }
 
 /* What a slave is to be sent: the request from some word on, whole; or no words with BC 0; or nothing. */
@@ -2019,12 +2372,17 @@ static void test_to_send(void) {
     CHECK(logodwen_to_send(ask(5, 2), request, 3, &sent) && sent.bytes == request + 4 && sent.words == 1 && sent.bc == LOGODWEN_BC_WHOLE);
     CHECK(logodwen_to_send(ask(5, 1), request, 3, &sent) && sent.bytes == request + 2 && sent.words == 2 && sent.bc == LOGODWEN_BC_WHOLE);
     CHECK(logodwen_to_send(send_next(5), request, 3, &sent) && sent.bytes == NULL && sent.words == 0 && sent.bc == LOGODWEN_BC_MIDDLE);
+    for (size_t words = 0; words < 4; words += 3) { /* whatever request is kept */
+        CHECK(logodwen_to_send(ask_event(5), words == 0 ? NULL : request, words, &sent) && sent.words == 1 && sent.bc == LOGODWEN_BC_WHOLE);
+        CHECK(logodwen_get(sent.bytes, 0) == 0x012E);
+    }
     sent.bc = 9;
+    CHECK(!logodwen_to_send(no_event(), request, 3, &sent) && !logodwen_to_send(built(5), request, 3, &sent));
     CHECK(!logodwen_to_send(ask(5, 2), request, 2, &sent) && !logodwen_to_send(ask(5, 2), NULL, 0, &sent));
     CHECK(!logodwen_to_send(zero_length(0), request, 3, &sent) && !logodwen_to_send(with_words(3), request, 3, &sent));
     CHECK(!logodwen_to_send((uint64_t)LOGODWEN_WAITING << 8, request, 3, &sent) && !logodwen_to_send(broken(0), request, 3, &sent));
     CHECK(!logodwen_to_send(handed(1), request, 3, &sent) && !logodwen_to_send(nothing(), request, 3, &sent));
-    for (uint64_t refusal = 0; refusal < 11; refusal++)
+    for (uint64_t refusal = 0; refusal < 12; refusal++)
         CHECK(!logodwen_to_send(refusal, request, 3, &sent) && sent.bc == 9);
 }
 
@@ -2100,6 +2458,17 @@ int main(void) {
     test_series_refused();
     test_series_null();
     at_both_sizes(test_series_by_chance);
+    test_build();
+    test_build_asks();
+    test_build_packets();
+    test_build_codes();
+    test_build_aborts();
+    test_event_commands();
+    test_build_counts();
+    test_build_meanwhile();
+    test_build_bytes();
+    test_build_lengths();
+    test_series_event();
     test_texts();
     test_to_send();
     for (int run = 0; run < RUNS; run++) {

@@ -31,7 +31,8 @@ static unsigned slaves_in(uint32_t set) {
 
 /* What the model's node is lent. */
 static struct {
-    uint8_t state[LOGODWEN_STATE_BYTES], flash[LOGODWEN_FLASH_BYTES], area[LOGODWEN_AREA_BYTES], reply[LOGODWEN_REPLY_BYTES];
+    uint8_t state[LOGODWEN_STATE_BYTES], flash[LOGODWEN_FLASH_BYTES], area[LOGODWEN_AREA_BYTES], events[LOGODWEN_EVENTS_BYTES],
+        reply[LOGODWEN_REPLY_BYTES];
 } lent; /* and no record of a Q-List */
 
 static void start(void) {
@@ -41,7 +42,7 @@ static void start(void) {
 
 static uint64_t request(uint32_t bc, const uint8_t *packet, size_t n) {
     return model_request(0, 0, bc, 0, packet, 2 * n, lent.state, sizeof lent.state, lent.flash, sizeof lent.flash, NULL, 0, NULL, 0,
-                         NULL, 0, lent.area, sizeof lent.area, NULL, 0, lent.reply, sizeof lent.reply);
+                         NULL, 0, lent.area, sizeof lent.area, NULL, 0, lent.events, sizeof lent.events, lent.reply, sizeof lent.reply);
 }
 
 /* The request to the slaves of the mask, from a node with any status. */
@@ -87,8 +88,8 @@ static uint64_t answer(unsigned slave, unsigned mood) {
     if (n > 0 && one_in(12))
         packet[2 * n - 1] ^= 1;
     logodwen_put_pm(lent.state + LOGODWEN_AT_ASKED_AT, 0, 0);
-    return model_reply(now, slave, bc, error, rx_status, rx_address, packet, 2 * n, lent.state, sizeof lent.state, lent.reply,
-                       sizeof lent.reply);
+    return model_reply(now, slave, bc, error, rx_status, rx_address, packet, 2 * n, lent.state, sizeof lent.state, lent.events,
+                       sizeof lent.events, lent.reply, sizeof lent.reply);
 }
 
 /* A group of the mask's slaves, as the capture. Where all say the same without words there is no data: its fragments, under a right end. */

@@ -12,20 +12,21 @@
 
 /* What is lent, twice: to the library and to the model. Guard bytes stand before and behind each run. */
 
-enum { STATE_RUN, FLASH_RUN, PM_RUN, DM_RUN, IO_RUN, AREA_RUN, LIST_RUN, REPLY_RUN, REPLIES_RUN, RUNS };
+enum { STATE_RUN, FLASH_RUN, PM_RUN, DM_RUN, IO_RUN, AREA_RUN, LIST_RUN, EVENTS_RUN, REPLY_RUN, REPLIES_RUN, RUNS };
 enum { GUARD = 16 };
 enum { REPLY_ROOM = 12290, REPLIES_BYTES = 2 * (REPLY_ROOM + 8000) }; /* words that a packet of a list has to find; what is lent */
-static const char *const run_names[RUNS] = {"state", "flash", "pm", "dm", "io", "area", "list", "reply", "replies"};
+static const char *const run_names[RUNS] = {"state", "flash", "pm", "dm", "io", "area", "list", "events", "reply", "replies"};
 static const size_t room[RUNS] = {LOGODWEN_STATE_BYTES + 8, LOGODWEN_FLASH_FULL_BYTES + 8,
                                   LOGODWEN_PM_BYTES + 8,    LOGODWEN_DM_BYTES + 8,
                                   LOGODWEN_IO_BYTES + 8,    LOGODWEN_AREA_BYTES + 8,
-                                  LOGODWEN_LIST_BYTES + 2 * LOGODWEN_RECORD_BYTES, LOGODWEN_REPLY_BYTES + 8,
-                                  REPLIES_BYTES + 8};
+                                  LOGODWEN_LIST_BYTES + 2 * LOGODWEN_RECORD_BYTES, LOGODWEN_EVENTS_BYTES + 8,
+                                  LOGODWEN_REPLY_BYTES + 8, REPLIES_BYTES + 8};
 static uint8_t *library[RUNS], *model[RUNS]; /* two worlds */
 static size_t lent_bytes[RUNS];
 static size_t flash_bytes; /* of the node now tried: bench size or full size. A call may be lent other lengths */
 
-static const size_t usual_bytes[RUNS] = {LOGODWEN_STATE_BYTES, 0, 0, 0, 0, LOGODWEN_AREA_BYTES, 0, LOGODWEN_REPLY_BYTES, REPLIES_BYTES};
+static const size_t usual_bytes[RUNS] = {LOGODWEN_STATE_BYTES, 0, 0, 0, 0, LOGODWEN_AREA_BYTES, 0, LOGODWEN_EVENTS_BYTES,
+                                         LOGODWEN_REPLY_BYTES, REPLIES_BYTES};
 
 static bool is_full(void) { return flash_bytes == LOGODWEN_FLASH_FULL_BYTES; }
 
@@ -51,9 +52,9 @@ static void put_state_long(size_t at, uint32_t value) {
 static uint64_t seed;
 static unsigned long calls;
 static char call_text[256];
-static uint64_t answered;               /* the last one */
-static unsigned long tallies[7][16][9]; /* by call, by refusal, by answer */
-static unsigned long commands[256][3];  /* own commands answered with words, END, ABORT */
+static uint64_t answered;                /* the last one */
+static unsigned long tallies[8][16][12]; /* by call, by refusal, by answer */
+static unsigned long commands[256][3];   /* own commands answered with words, END, ABORT */
 
 enum { NOT_A_BYTE = INT_MIN };
 
@@ -87,13 +88,13 @@ static void compare(int call, uint64_t by_library, uint64_t by_model, const int 
     for (; *runs >= 0; runs++)
         compare_run(*runs, looked_at(*runs));
     answered = by_model;
-    tallies[call][logodwen_refusal(by_model) & 15][logodwen_answer(by_model) % 9]++;
+    tallies[call][logodwen_refusal(by_model) & 15][logodwen_answer(by_model) % 12]++;
 }
 
-static const int start_runs[] = {STATE_RUN, -1}, slave_runs[] = {STATE_RUN, REPLY_RUN, -1},
-                 erase_runs[] = {STATE_RUN, FLASH_RUN, -1}, slow_runs[] = {STATE_RUN, LIST_RUN, -1},
-                 request_runs[] = {STATE_RUN, FLASH_RUN, PM_RUN, DM_RUN, IO_RUN, AREA_RUN, LIST_RUN, REPLY_RUN, -1},
-                 series_runs[] = {STATE_RUN, FLASH_RUN, PM_RUN, DM_RUN, IO_RUN, AREA_RUN, LIST_RUN, REPLIES_RUN, -1};
+static const int start_runs[] = {STATE_RUN, -1}, slave_runs[] = {STATE_RUN, EVENTS_RUN, REPLY_RUN, -1},
+                 erase_runs[] = {STATE_RUN, FLASH_RUN, -1}, slow_runs[] = {STATE_RUN, LIST_RUN, -1}, build_runs[] = {STATE_RUN, EVENTS_RUN, -1},
+                 request_runs[] = {STATE_RUN, FLASH_RUN, PM_RUN, DM_RUN, IO_RUN, AREA_RUN, LIST_RUN, EVENTS_RUN, REPLY_RUN, -1},
+                 series_runs[] = {STATE_RUN, FLASH_RUN, PM_RUN, DM_RUN, IO_RUN, AREA_RUN, LIST_RUN, EVENTS_RUN, REPLIES_RUN, -1};
 
 /* A File Write in several packets that stands, as the state says it, and how many requests of each kind acted on one: by 02,
    request 1, and by what came of it. The last two kinds, which leave it alone, count as none. */
@@ -189,7 +190,7 @@ static void count_write(struct standing was, uint32_t link, unsigned bc, bool er
    in packets (02, request 8), from a group's first packet on. */
 
 struct group {
-    bool pending;
+    bool pending, building; /* a group; or an event build, which has the same of its own */
     uint32_t slave, built, received, room; /* room: how many more words fit */
 };
 
@@ -204,9 +205,9 @@ static struct group group(void) {
     const uint8_t *state = model[STATE_RUN];
     uint32_t slave = state[LOGODWEN_AT_SLAVE], asked = logodwen_get_pm(state + LOGODWEN_AT_ASKED, 0);
     uint32_t built = logodwen_get_pm(state + LOGODWEN_AT_BUILT, 0), received = logodwen_get_pm(state + LOGODWEN_AT_RECEIVED, 0);
-    uint64_t taken = (uint64_t)built + received + 5 * slaves_above(asked, slave) + 2;
-    bool is_state = lent_bytes[STATE_RUN] == LOGODWEN_STATE_BYTES;
-    return (struct group){is_state && state[LOGODWEN_AT_PENDING] == 2, slave, built, received,
+    bool is_state = lent_bytes[STATE_RUN] == LOGODWEN_STATE_BYTES, is_build = state[LOGODWEN_AT_PENDING] == PENDING_BUILD;
+    uint64_t taken = (uint64_t)built + received + 5 * slaves_above(asked, slave) + (is_build ? EVENT_KEPT : GROUP_KEPT);
+    return (struct group){is_state && state[LOGODWEN_AT_PENDING] == PENDING_GROUP, is_state && is_build, slave, built, received,
                           taken < LOGODWEN_REPLY_WORDS ? (uint32_t)(LOGODWEN_REPLY_WORDS - taken) : 0};
 }
 
@@ -285,6 +286,142 @@ static void count_dropped(struct group was) {
 
 static uint8_t packet[2 * 70000]; /* of the call now made */
 static size_t packet_bytes;
+
+/* Event builds, as the state says them, and how many calls of each kind fell on one or on its event (02, request 12). */
+
+static uint32_t unread(void) { return logodwen_get_pm(model[STATE_RUN] + LOGODWEN_AT_UNREAD, 0); }
+
+static unsigned next_event(void) { return (logodwen_get(model[STATE_RUN] + LOGODWEN_AT_EVENT, 0) + 1u) & 0xFFFF; }
+
+enum event_kind {
+    BEGUN,
+    OVER_AN_EVENT,
+    NO_SLAVES,
+    WHILE_PENDING,
+    ASKED_AGAIN,
+    LAST_END,
+    FRAGMENT_WHOLE,
+    FRAGMENT_LEFT_OUT,
+    JOINED_FRAGMENT,
+    JOINED_LEFT_OUT,
+    ANOTHER_NUMBER,
+    JOINED_NUMBER,
+    FEW_WORDS,
+    NO_ROOM_LEFT,
+    OTHER_FAULT,
+    PACKET_KEPT,
+    BUILD_LATE,
+    BUILD_WAITS,
+    WITHOUT_EVENT,
+    BUILT_WHOLE,
+    BUILT_WITH_ERRORS,
+    KEPT_FROM_LINK,
+    EVENT_READ,
+    NO_EVENT_READ,
+    NUMBER_READ,
+    EVENTS_RESET,
+    EVENTS_REFUSED,
+    EVENT_KINDS
+};
+static const char *const event_names[EVENT_KINDS] = {
+    [BEGUN] = "begun",
+    [OVER_AN_EVENT] = "ABORT, an event unread",
+    [NO_SLAVES] = "ABORT, no slaves",
+    [WHILE_PENDING] = "refused by 6",
+    [ASKED_AGAIN] = "asked again",
+    [LAST_END] = "the third END",
+    [FRAGMENT_WHOLE] = "a reply in one packet, whole",
+    [FRAGMENT_LEFT_OUT] = "a reply in one packet, left out",
+    [JOINED_FRAGMENT] = "a reply in packets, whole",
+    [JOINED_LEFT_OUT] = "a reply in packets, left out",
+    [ANOTHER_NUMBER] = "another number",
+    [JOINED_NUMBER] = "another number in packets",
+    [FEW_WORDS] = "below three words",
+    [NO_ROOM_LEFT] = "no room",
+    [OTHER_FAULT] = "another answer",
+    [PACKET_KEPT] = "a packet stored",
+    [BUILD_LATE] = "late",
+    [BUILD_WAITS] = "a poll that waits",
+    [WITHOUT_EVENT] = "ended without an event",
+    [BUILT_WHOLE] = "ended with an event",
+    [BUILT_WITH_ERRORS] = "ended with an event that has bit 9",
+    [KEPT_FROM_LINK] = "not dropped by a link",
+    [EVENT_READ] = "an event read",
+    [NO_EVENT_READ] = "no event to read",
+    [NUMBER_READ] = "the number read",
+    [EVENTS_RESET] = "a reset",
+    [EVENTS_REFUSED] = "refused by 11",
+};
+static unsigned long on_events[EVENT_KINDS];
+
+static void count_begun(uint64_t answer) {
+    unsigned refusal = logodwen_refusal(answer);
+    on_events[EVENTS_REFUSED] += refusal == LOGODWEN_REFUSED_EVENTS_SIZE;
+    on_events[WHILE_PENDING] += refusal == LOGODWEN_REFUSED_BUSY;
+    if (refusal == 0)
+        on_events[logodwen_answer(answer) == LOGODWEN_ASK_EVENT ? BEGUN : unread() != 0 ? OVER_AN_EVENT : NO_SLAVES]++;
+}
+
+/* Whether a build, by what it has kept or by the event that it ended in, has left a slave out. */
+static bool is_left_out(uint32_t slave, uint64_t answer) {
+    uint32_t set = logodwen_get_pm(model[STATE_RUN] + LOGODWEN_AT_LEFT_OUT, 0);
+    if (logodwen_answer(answer) == LOGODWEN_BUILT) {
+        const uint8_t *masks = model[EVENTS_RUN] + 2 * (logodwen_words(answer) - (size_t)LOGODWEN_EVENT_TAIL_WORDS);
+        set = (uint32_t)logodwen_get(masks, 0) << 16 | logodwen_get(masks, 1);
+    }
+    return (set >> slave & 1) != 0;
+}
+
+/* What an answer of the asked slave came to, by the status word of the fragment that it left. */
+static enum event_kind answer_kind(struct group was, uint64_t answer) {
+    bool is_joined = was.received != 0;
+    if (is_left_out(was.slave, answer))
+        return is_joined ? JOINED_LEFT_OUT : FRAGMENT_LEFT_OUT;
+    const uint8_t *fragment = model[EVENTS_RUN] + 2 * ((size_t)was.built + 1);
+    switch (logodwen_get(fragment, logodwen_get(fragment, 0)) >> 11) {
+    case LOGODWEN_CODE_WHOLE: return is_joined ? JOINED_FRAGMENT : FRAGMENT_WHOLE;
+    case LOGODWEN_CODE_END: return LAST_END;
+    case LOGODWEN_CODE_LATE:
+    case LOGODWEN_CODE_NEXT_LATE: return BUILD_LATE;
+    case LOGODWEN_CODE_OTHER_NUMBER: return ANOTHER_NUMBER;
+    case LOGODWEN_CODE_JOINED_NUMBER: return JOINED_NUMBER;
+    case LOGODWEN_CODE_ONE_WORD: return FEW_WORDS;
+    case LOGODWEN_CODE_NO_ROOM:
+    case LOGODWEN_CODE_PACKET_NO_ROOM: return NO_ROOM_LEFT;
+    default: return OTHER_FAULT;
+    }
+}
+
+static void count_in_build(struct group was, uint64_t answer) {
+    unsigned kind = logodwen_answer(answer);
+    on_events[EVENTS_REFUSED] += logodwen_refusal(answer) == LOGODWEN_REFUSED_EVENTS_SIZE;
+    if (logodwen_refusal(answer) != 0 || !was.building)
+        return;
+    if (kind == LOGODWEN_WAITING || kind == LOGODWEN_SEND_NEXT)
+        on_events[kind == LOGODWEN_WAITING ? BUILD_WAITS : PACKET_KEPT]++;
+    else if (kind == LOGODWEN_ASK_EVENT && logodwen_slave(answer) == was.slave)
+        on_events[ASKED_AGAIN]++;
+    else
+        on_events[answer_kind(was, answer)]++;
+    on_events[WITHOUT_EVENT] += kind == LOGODWEN_NO_EVENT;
+    if (kind == LOGODWEN_BUILT)
+        on_events[logodwen_get(model[EVENTS_RUN], logodwen_words(answer) - 2) & LOGODWEN_STATUS_ASSEMBLY ? BUILT_WITH_ERRORS : BUILT_WHOLE]++;
+}
+
+/* Of a whole own command that was answered, or of one without words while a build is pending. */
+static void count_on_events(struct group was, uint64_t answer) {
+    bool is_abort = logodwen_bc(answer) == LOGODWEN_BC_ABORT;
+    on_events[EVENTS_REFUSED] += logodwen_refusal(answer) == LOGODWEN_REFUSED_EVENTS_SIZE;
+    on_events[KEPT_FROM_LINK] += was.building && packet_bytes < 2 && is_abort;
+    if (packet_bytes != 2 || packet[0] != LOGODWEN_TO_OWN || logodwen_answer(answer) != LOGODWEN_REPLY || is_abort)
+        return;
+    switch (packet[1]) {
+    case LOGODWEN_ID_EVENT_READ: on_events[logodwen_words(answer) != 0 ? EVENT_READ : NO_EVENT_READ]++; break;
+    case LOGODWEN_ID_EVENT_NUMBER: on_events[NUMBER_READ]++; break;
+    case LOGODWEN_ID_EVENT_RESET: on_events[EVENTS_RESET]++; break;
+    default: break;
+    }
+}
 
 /* The Q-List, as the state says it, and how many calls of each kind fell on it (02, request 7). */
 
@@ -591,9 +728,10 @@ static uint64_t call_request(uint32_t link, uint32_t bc, uint32_t receive_error)
     snprintf(
         call_text, sizeof call_text,
         "request(now %08x, link %u, bc %u, error %x, packet %zu bytes from %02x%02x, flash %zu, pm %zu, dm %zu, io %zu, area %zu, "
-        "list %zu, reply %zu)",
+        "list %zu, events %zu, reply %zu)",
         now, link, bc, receive_error, packet_bytes, packet[1], packet[0], lent_bytes[FLASH_RUN], lent_bytes[PM_RUN],
-        lent_bytes[DM_RUN], lent_bytes[IO_RUN], lent_bytes[AREA_RUN], lent_bytes[LIST_RUN], lent_bytes[REPLY_RUN]);
+        lent_bytes[DM_RUN], lent_bytes[IO_RUN], lent_bytes[AREA_RUN], lent_bytes[LIST_RUN], lent_bytes[EVENTS_RUN],
+        lent_bytes[REPLY_RUN]);
     const uint8_t *words = packet_bytes == 0 ? NULL : packet;
     struct standing was = standing();
     struct group asked = group();
@@ -604,15 +742,16 @@ static uint64_t call_request(uint32_t link, uint32_t bc, uint32_t receive_error)
                          lend(library, FLASH_RUN), lent_bytes[FLASH_RUN], lend(library, PM_RUN), lent_bytes[PM_RUN],
                          lend(library, DM_RUN), lent_bytes[DM_RUN], lend(library, IO_RUN), lent_bytes[IO_RUN],
                          lend(library, AREA_RUN), lent_bytes[AREA_RUN], lend(library, LIST_RUN), lent_bytes[LIST_RUN],
-                         lend(library, REPLY_RUN), lent_bytes[REPLY_RUN]);
+                         lend(library, EVENTS_RUN), lent_bytes[EVENTS_RUN], lend(library, REPLY_RUN), lent_bytes[REPLY_RUN]);
     uint64_t b = model_request(now, link, bc, receive_error, words, packet_bytes, lend(model, STATE_RUN), lent_bytes[STATE_RUN],
                                lend(model, FLASH_RUN), lent_bytes[FLASH_RUN], lend(model, PM_RUN), lent_bytes[PM_RUN],
                                lend(model, DM_RUN), lent_bytes[DM_RUN], lend(model, IO_RUN), lent_bytes[IO_RUN],
                                lend(model, AREA_RUN), lent_bytes[AREA_RUN], lend(model, LIST_RUN), lent_bytes[LIST_RUN],
-                               lend(model, REPLY_RUN), lent_bytes[REPLY_RUN]);
+                               lend(model, EVENTS_RUN), lent_bytes[EVENTS_RUN], lend(model, REPLY_RUN), lent_bytes[REPLY_RUN]);
     compare(1, a, b, request_runs);
     count_write(was, link, bc & 3, receive_error != 0, words, packet_bytes / 2, b);
     count_dropped(asked);
+    count_on_events(asked, b);
     count_refused_flash(b);
     count_long_files(had, false);
     on_list[LIST_REFUSED] += logodwen_refusal(b) == LOGODWEN_REFUSED_LIST_SIZE;
@@ -627,9 +766,10 @@ static uint64_t call_request(uint32_t link, uint32_t bc, uint32_t receive_error)
 static uint64_t call_requests(void) {
     snprintf(
         call_text, sizeof call_text,
-        "requests(now %08x, packets %zu bytes, state %zu, flash %zu, pm %zu, dm %zu, io %zu, area %zu, list %zu, replies %zu)", now,
+        "requests(now %08x, packets %zu bytes, state %zu, flash %zu, pm %zu, dm %zu, io %zu, area %zu, list %zu, events %zu, replies %zu)",
+        now,
         series_bytes, lent_bytes[STATE_RUN], lent_bytes[FLASH_RUN], lent_bytes[PM_RUN], lent_bytes[DM_RUN], lent_bytes[IO_RUN],
-        lent_bytes[AREA_RUN], lent_bytes[LIST_RUN], lent_bytes[REPLIES_RUN]);
+        lent_bytes[AREA_RUN], lent_bytes[LIST_RUN], lent_bytes[EVENTS_RUN], lent_bytes[REPLIES_RUN]);
     const uint8_t *packets = series_bytes == 0 ? NULL : series;
     struct group asked = group();
     struct kept_flash had = kept_flash();
@@ -637,13 +777,13 @@ static uint64_t call_requests(void) {
         logodwen_requests(now, packets, series_bytes, lend(library, STATE_RUN), lent_bytes[STATE_RUN], lend(library, FLASH_RUN),
                           lent_bytes[FLASH_RUN], lend(library, PM_RUN), lent_bytes[PM_RUN], lend(library, DM_RUN),
                           lent_bytes[DM_RUN], lend(library, IO_RUN), lent_bytes[IO_RUN], lend(library, AREA_RUN),
-                          lent_bytes[AREA_RUN], lend(library, LIST_RUN), lent_bytes[LIST_RUN], lend(library, REPLIES_RUN),
-                          lent_bytes[REPLIES_RUN]);
+                          lent_bytes[AREA_RUN], lend(library, LIST_RUN), lent_bytes[LIST_RUN], lend(library, EVENTS_RUN),
+                          lent_bytes[EVENTS_RUN], lend(library, REPLIES_RUN), lent_bytes[REPLIES_RUN]);
     uint64_t b = model_requests(now, packets, series_bytes, lend(model, STATE_RUN), lent_bytes[STATE_RUN], lend(model, FLASH_RUN),
                                 lent_bytes[FLASH_RUN], lend(model, PM_RUN), lent_bytes[PM_RUN], lend(model, DM_RUN),
                                 lent_bytes[DM_RUN], lend(model, IO_RUN), lent_bytes[IO_RUN], lend(model, AREA_RUN),
-                                lent_bytes[AREA_RUN], lend(model, LIST_RUN), lent_bytes[LIST_RUN], lend(model, REPLIES_RUN),
-                                lent_bytes[REPLIES_RUN]);
+                                lent_bytes[AREA_RUN], lend(model, LIST_RUN), lent_bytes[LIST_RUN], lend(model, EVENTS_RUN),
+                                lent_bytes[EVENTS_RUN], lend(model, REPLIES_RUN), lent_bytes[REPLIES_RUN]);
     compare(6, a, b, series_runs);
     count_dropped(asked);
     count_long_files(had, true);
@@ -655,28 +795,43 @@ static uint64_t call_requests(void) {
 
 static uint64_t call_reply(uint32_t slave, uint32_t bc, uint32_t receive_error) {
     uint16_t status = (uint16_t)any(), address = (uint16_t)any();
-    snprintf(call_text, sizeof call_text, "reply(now %08x, slave %u, bc %u, error %x, packet %zu bytes, state %zu, reply %zu)", now,
-             slave, bc, receive_error, packet_bytes, lent_bytes[STATE_RUN], lent_bytes[REPLY_RUN]);
+    snprintf(call_text, sizeof call_text, "reply(now %08x, slave %u, bc %u, error %x, packet %zu bytes, state %zu, events %zu, reply %zu)",
+             now, slave, bc, receive_error, packet_bytes, lent_bytes[STATE_RUN], lent_bytes[EVENTS_RUN], lent_bytes[REPLY_RUN]);
     const uint8_t *words = packet_bytes == 0 ? NULL : packet;
     struct group was = group();
     uint64_t a = logodwen_reply(now, slave, bc, receive_error, status, address, words, packet_bytes, lend(library, STATE_RUN),
-                                lent_bytes[STATE_RUN], lend(library, REPLY_RUN), lent_bytes[REPLY_RUN]);
+                                lent_bytes[STATE_RUN], lend(library, EVENTS_RUN), lent_bytes[EVENTS_RUN], lend(library, REPLY_RUN),
+                                lent_bytes[REPLY_RUN]);
     uint64_t b = model_reply(now, slave, bc, receive_error, status, address, words, packet_bytes, lend(model, STATE_RUN),
-                             lent_bytes[STATE_RUN], lend(model, REPLY_RUN), lent_bytes[REPLY_RUN]);
+                             lent_bytes[STATE_RUN], lend(model, EVENTS_RUN), lent_bytes[EVENTS_RUN], lend(model, REPLY_RUN),
+                             lent_bytes[REPLY_RUN]);
     compare(2, a, b, slave_runs);
     count_packet(was, false, b);
+    count_in_build(was, b);
     return b;
 }
 
 static uint64_t call_poll(void) {
-    snprintf(call_text, sizeof call_text, "poll(now %08x, state %zu, reply %zu)", now, lent_bytes[STATE_RUN],
-             lent_bytes[REPLY_RUN]);
+    snprintf(call_text, sizeof call_text, "poll(now %08x, state %zu, events %zu, reply %zu)", now, lent_bytes[STATE_RUN],
+             lent_bytes[EVENTS_RUN], lent_bytes[REPLY_RUN]);
     struct group was = group();
     uint64_t a =
-        logodwen_poll(now, lend(library, STATE_RUN), lent_bytes[STATE_RUN], lend(library, REPLY_RUN), lent_bytes[REPLY_RUN]);
-    uint64_t b = model_poll(now, lend(model, STATE_RUN), lent_bytes[STATE_RUN], lend(model, REPLY_RUN), lent_bytes[REPLY_RUN]);
+        logodwen_poll(now, lend(library, STATE_RUN), lent_bytes[STATE_RUN], lend(library, EVENTS_RUN), lent_bytes[EVENTS_RUN],
+                      lend(library, REPLY_RUN), lent_bytes[REPLY_RUN]);
+    uint64_t b = model_poll(now, lend(model, STATE_RUN), lent_bytes[STATE_RUN], lend(model, EVENTS_RUN), lent_bytes[EVENTS_RUN],
+                            lend(model, REPLY_RUN), lent_bytes[REPLY_RUN]);
     compare(3, a, b, slave_runs);
     count_packet(was, true, b);
+    count_in_build(was, b);
+    return b;
+}
+
+static uint64_t call_build(void) {
+    snprintf(call_text, sizeof call_text, "build(now %08x, state %zu, events %zu)", now, lent_bytes[STATE_RUN], lent_bytes[EVENTS_RUN]);
+    uint64_t a = logodwen_build(now, lend(library, STATE_RUN), lent_bytes[STATE_RUN], lend(library, EVENTS_RUN), lent_bytes[EVENTS_RUN]);
+    uint64_t b = model_build(now, lend(model, STATE_RUN), lent_bytes[STATE_RUN], lend(model, EVENTS_RUN), lent_bytes[EVENTS_RUN]);
+    compare(7, a, b, build_runs);
+    count_begun(b);
     return b;
 }
 
@@ -893,7 +1048,8 @@ static void list_command(void) {
 
 static void own_command(void) {
     static const unsigned ids[] = {0x0C, 0x0D, 0x05, 0x05, 0x45, 0x45, 0x45, 0x06, 0x46, 0x46, 0x07, 0x47,
-                                   0x48, 0x48, 0x0F, 0x10, 0x50, 0x11, 0x51, 0x12, 0x52, 0x17, 0x57, 0x57};
+                                   0x48, 0x48, 0x0F, 0x10, 0x50, 0x11, 0x51, 0x12, 0x52, 0x17, 0x57, 0x57,
+                                   0x01, 0x01, 0x02, 0x42};
     unsigned id = one_in(50) ? below(256) : ids[below(sizeof ids / sizeof *ids)];
     own(id);
     switch (id) {
@@ -921,6 +1077,12 @@ static void own_command(void) {
     case 0x10: put_header(0); break;
     case 0x11: put_header(1); break;
     case 0x52: word(one_in(6) ? any() & 0xFFFF : below(4)); break;
+    case 0x01:
+    case 0x02:
+    case 0x42:
+        if (one_in(8))
+            word(any() & 0xFFFF);
+        break;
     case 0x57:
         word(below(one_in(20) ? 0x2000 : 0x1000));
         word(one_in(3) ? 1u << below(16) : any() & 0xFFFF);
@@ -1265,28 +1427,20 @@ static void step_reply(void) {
     call_reply(slave, bc, one_in(20) ? wild() : 0);
 }
 
-/* Puts the FCS of a reply in packets behind its last words: of those that stand in the buffer and of the packet's. */
+/* Puts the FCS of a reply in packets behind its last words: of those that stand in the buffer, or in the event area, and of the packet's. */
 static void seal_joined(struct group was) {
     static uint8_t joined[sizeof packet];
     size_t before = 2 * (size_t)was.received;
     if (was.built >= LOGODWEN_REPLY_WORDS || was.received >= LOGODWEN_REPLY_WORDS - was.built)
         return;
-    memcpy(joined, model[REPLY_RUN] + 2 * ((size_t)was.built + 1), before);
+    memcpy(joined, model[was.building ? EVENTS_RUN : REPLY_RUN] + 2 * ((size_t)was.built + 1 + was.building), before);
     memcpy(joined + before, packet, packet_bytes);
     word(logodwen_fcs(joined, (before + packet_bytes) / 2));
 }
 
-/* A packet of a reply in packets, first, middle or last, as it should be in most cases. */
-static void step_packet(void) {
-    struct group was = group();
-    bool is_last = was.received != 0 && one_in(3);
-    uint32_t bc = was.received == 0 ? 2 : is_last, high = one_in(8) ? wild() << 2 : 0, slave = one_in(40) ? wild() : was.slave;
-    unsigned count = one_in(25) ? was.room + below(3) : one_in(6) ? 1 + below(300) : one_in(3) ? 1 : 1 + below(8);
-    packet_bytes = 0;
-    for (unsigned i = is_last; i < count; i++)
-        word(any() & 0xFFFF);
-    if (is_last)
-        seal_joined(was);
+/* What stands in the packet, from the asked slave with a BC: at times damaged, empty, with another BC, late or with receive errors. */
+static void give_packet(uint32_t slave, uint32_t bc) {
+    uint32_t high = one_in(8) ? wild() << 2 : 0;
     if (one_in(12))
         damage();
     if (one_in(12))
@@ -1295,7 +1449,90 @@ static void step_packet(void) {
         bc = below(4);
     if (one_in(12))
         now += one_in(2) ? 58 + below(4) : wild();
-    call_reply(slave, high | bc, one_in(16) ? wild() : 0);
+    call_reply(one_in(40) ? wild() : slave, high | bc, one_in(16) ? wild() : 0);
+}
+
+/* A packet of a reply in packets, first, middle or last, as it should be in most cases. */
+static void step_packet(void) {
+    struct group was = group();
+    bool is_last = was.received != 0 && one_in(3);
+    unsigned count = one_in(25) ? was.room + below(3) : one_in(6) ? 1 + below(300) : one_in(3) ? 1 : 1 + below(8);
+    packet_bytes = 0;
+    for (unsigned i = is_last; i < count; i++)
+        word(any() & 0xFFFF);
+    if (is_last)
+        seal_joined(was);
+    give_packet(was.slave, was.received == 0 ? 2 : is_last);
+}
+
+/* What the asked slave of a build answers: END, a reply in one packet or in several, now and then one that is left out, as they should be in most
+   cases. */
+static void step_event(void) {
+    struct group was = group();
+    bool is_first = was.received == 0, is_last = is_first ? !one_in(4) : one_in(3);
+    unsigned count = one_in(25) ? was.room + below(3) : one_in(6) ? 1 + below(300) : 2 + below(8);
+    packet_bytes = 0;
+    if (one_in(3)) { /* three words in all */
+        count = is_last || !is_first ? 3 - was.received % 3 : 1 + below(2);
+        is_last = is_last || !is_first;
+    }
+    if (is_first && one_in(5)) {
+        call_reply(was.slave, LOGODWEN_BC_END, one_in(20) ? wild() : 0);
+        return;
+    }
+    for (unsigned i = is_last; i < count; i++)
+        word(is_first && i == is_last ? one_in(10) ? next_event() + (one_in(2) ? 1 : any()) : next_event() : any() & 0xFFFF);
+    if (is_last)
+        seal_joined(was);
+    give_packet(was.slave, (is_first ? 2 : 0) | is_last);
+}
+
+/* A command on events, from a link that doesn't drop the write that stands. */
+static void step_event_command(unsigned id) {
+    struct standing was = standing();
+    own(id);
+    call_request(was.stands ? other_link(was.link) : 0, 3, 0);
+}
+
+/* An event area that is just too short, or not, for a call whose link or slave may be none, or whose Q-List is too long. */
+static void step_short_events(void) {
+    size_t usual = lent_bytes[EVENTS_RUN], usual_list = lent_bytes[LIST_RUN];
+    lent_bytes[EVENTS_RUN] = LOGODWEN_EVENTS_BYTES - 3 + below(4);
+    if (one_in(4))
+        lent_bytes[LIST_RUN] = LOGODWEN_LIST_BYTES + LOGODWEN_RECORD_BYTES;
+    own(LOGODWEN_ID_EVENT_READ);
+    one_in(3) ? (void)call_build() : one_in(2) ? (void)call_reply(22 + below(4), wild(), 0) : (void)call_request(below(6), LOGODWEN_BC_WHOLE, 0);
+    lent_bytes[EVENTS_RUN] = usual;
+    lent_bytes[LIST_RUN] = usual_list;
+}
+
+/* A build, mostly with few slaves and with the event before read; and what is asked meanwhile. */
+static void step_build(void) {
+    struct standing was = standing();
+    if (one_in(10))
+        step_short_events();
+    uint32_t set = one_in(8) ? 0 : one_in(30) ? 0xFFFFFF : 1u << below(24) | (any() & any() & any() & any() & 0xFFFFFF);
+    if (unread() != 0 && !one_in(4))
+        step_event_command(one_in(8) ? LOGODWEN_ID_EVENT_RESET : LOGODWEN_ID_EVENT_READ);
+    if (!one_in(12)) {
+        own(LOGODWEN_ID_MASK_WRITE);
+        word(set >> 16);
+        word(set & 0xFFFF);
+        call_request(was.stands ? other_link(was.link) : 0, 3, 0);
+    }
+    if (model[STATE_RUN][LOGODWEN_AT_KIND] == LOGODWEN_CDP && one_in(2)) /* no command gives it slaves */
+        put_state_long(LOGODWEN_AT_MASKS, set);
+    if (one_in(5)) { /* the number goes round, and the errors stop */
+        put_state_word(LOGODWEN_AT_EVENT, 0xFFFE + below(2));
+        put_state_word(LOGODWEN_AT_BUILD_ERRORS, 0xFFFE + below(2));
+    }
+    call_build();
+    if (one_in(10))
+        call_build();
+    if (one_in(6)) {
+        packet_bytes = below(2);
+        call_request(one_in(4) ? below(4) : 0, 2, 0);
+    }
 }
 
 /* Words received of a reply in packets, as many as have room, or one more, or any number, and an RX status. */
@@ -1317,8 +1554,14 @@ static void step_received(void) {
 }
 
 static void step_slave(void) {
-    if (pending() == 2 && one_in(30)) {
+    if (one_in(pending() == PENDING_SLAVE ? 8 : 60))
+        call_build();
+    if (pending() >= PENDING_GROUP && one_in(30)) {
         step_received();
+        return;
+    }
+    if (pending() == PENDING_BUILD && !one_in(8)) {
+        one_in(16) ? (void)call_poll() : step_event();
         return;
     }
     if (pending() == 2 && !one_in(5)) {
@@ -1346,7 +1589,7 @@ static void step_group(void) {
 /* The same 0-length reply of each slave of a group. */
 static void step_all_alike(void) {
     uint32_t bc = below(4);
-    for (int turn = 0; turn < 24 && pending() == 2 && calls % 1000 != 999; turn++) {
+    for (int turn = 0; turn < 72 && pending() >= PENDING_GROUP && calls % 1000 != 999; turn++) {
         packet_bytes = 0;
         call_reply(model[STATE_RUN][LOGODWEN_AT_SLAVE], bc, 0);
     }
@@ -1405,7 +1648,7 @@ static void put_any(size_t from, uint32_t count, uint32_t most) {
 static void put_listing(void) {
     unsigned count = one_in(8) ? wild() & 0xFFFF : one_in(3) ? LOGODWEN_LIST_RECORDS - 1 + below(3) : below(records() + 2);
     put_state_word(LOGODWEN_AT_LISTED, count);
-    put_state_word(LOGODWEN_AT_TURN, one_in(4) ? count : one_in(8) ? wild() : count == 0 ? 0 : below(count));
+    put_state_word(LOGODWEN_AT_TURN, one_in(4) ? count : one_in(8) ? wild() : count == 0 ? below(2) : below(count));
     if (one_in(4))
         put_any(LOGODWEN_AT_RX_STATUS + 2, 2, 4);
     for (unsigned i = below(20); i > 0; i--) {
@@ -1420,12 +1663,42 @@ static uint32_t some_erased(void) {
     return one_in(3) ? wild() : one_in(3) ? high + below(words) : high + words - 2 + below(4);
 }
 
+/* A build that no calls led to, in most cases with one field that is at an end of its range, or past it. */
+static void put_build(uint32_t set) {
+    static const uint8_t tallies_of_builds[] = {0, TALLY_NO_DATA, TALLY_WHOLE, TALLY_MIXED};
+    unsigned slave = below(24);
+    put_both(STATE_RUN, LOGODWEN_AT_PENDING, PENDING_BUILD);
+    put_both(STATE_RUN, LOGODWEN_AT_LINK, 0);
+    put_both(STATE_RUN, LOGODWEN_AT_SLAVE, (uint8_t)slave);
+    put_both(STATE_RUN, LOGODWEN_AT_FROM, 0);
+    put_both(STATE_RUN, LOGODWEN_AT_TALLY, tallies_of_builds[below(4)]);
+    put_state_long(LOGODWEN_AT_ASKED, (set & 0xFFFFFF) | 1u << slave);
+    put_state_long(LOGODWEN_AT_ASKED_AT, one_in(3) ? any() : now);
+    put_state_long(LOGODWEN_AT_BUILT, one_in(3) ? 12160 + below(130) : below(12000));
+    put_state_long(LOGODWEN_AT_ASKS, 1 + below(3));
+    put_state_long(LOGODWEN_AT_LEFT_OUT, any() & 0xFFFFFF);
+    put_received(true);
+    switch (below(14)) {
+    case 0:
+    case 8: put_any(LOGODWEN_AT_ASKS, 1, 5); break;
+    case 9:
+    case 5: put_any(LOGODWEN_AT_TALLY, 1, 8); break;
+    case 1: put_any(LOGODWEN_AT_ASKS + 1, 3, 4); break;
+    case 2: put_any(LOGODWEN_AT_LEFT_OUT + 3, 1, 3); break;
+    case 3: put_any(LOGODWEN_AT_LINK, 1, 4); break;
+    case 4: put_any(LOGODWEN_AT_FROM, 1, 3); break;
+    case 6: put_any(LOGODWEN_AT_SLAVE, 1, 30); break;
+    case 7: put_state_long(LOGODWEN_AT_ASKED, set); break;
+    default: break;
+    }
+}
+
 /* A state that no start leads to: one field, within its range or not; or any byte. */
 static void step_state(void) {
     uint8_t before[LOGODWEN_STATE_BYTES];
     memcpy(before, model[STATE_RUN], sizeof before);
     uint32_t set = one_in(4) ? any() : any() & 0xFFFFFF;
-    switch (below(14)) {
+    switch (below(19)) {
     case 0: put_any(0, LOGODWEN_STATE_BYTES, 256); break;
     case 1: put_any(0, 4, 10); break;
     case 2: put_state_long(LOGODWEN_AT_AMSWIRE_ERRORS, one_in(2) ? 0xFFFEFFFE : any()); break;
@@ -1450,12 +1723,25 @@ static void step_state(void) {
         put_listing();
         one_in(2) ? step_slow() : (void)call_poll();
         break;
+    case 12:
+        put_state_word(LOGODWEN_AT_EVENT, one_in(2) ? 0xFFFE + below(2) : any() & 0xFFFF);
+        put_state_word(LOGODWEN_AT_BUILD_ERRORS, one_in(2) ? 0xFFFE : any() & 0xFFFF);
+        put_state_long(LOGODWEN_AT_UNREAD, one_in(3) ? 0 : one_in(3) ? LOGODWEN_EVENTS_WORDS - 1 + below(3) : one_in(10) ? wild() : below(40));
+        one_in(2) ? step_event_command(LOGODWEN_ID_EVENT_READ) : (void)call_build();
+        break;
+    case 13: put_any(LOGODWEN_AT_ASKS, LOGODWEN_STATE_BYTES - LOGODWEN_AT_ASKS, 4); break;
+    case 14:
+    case 15:
+    case 16:
+        put_build(set);
+        one_in(2) ? (void)call_poll() : step_event();
+        break;
     default:
         put_both(STATE_RUN, LOGODWEN_AT_PENDING, (uint8_t)(1 + below(2)));
         put_both(STATE_RUN, LOGODWEN_AT_LINK, (uint8_t)below(4));
         put_both(STATE_RUN, LOGODWEN_AT_SLAVE, (uint8_t)below(one_in(10) ? 40 : 24));
         put_state_long(LOGODWEN_AT_ASKED_AT, one_in(3) ? any() : now);
-        bool is_group = model[STATE_RUN][LOGODWEN_AT_PENDING] == 2;
+        bool is_group = model[STATE_RUN][LOGODWEN_AT_PENDING] == PENDING_GROUP;
         put_both(STATE_RUN, LOGODWEN_AT_FROM, (uint8_t)(is_group ? 1 + below(one_in(10) ? 255 : 2) : 0));
         put_both(STATE_RUN, LOGODWEN_AT_TALLY, (uint8_t)(is_group ? below(one_in(10) ? 10 : 7) : 0));
         put_state_long(LOGODWEN_AT_ASKED, is_group ? set | (one_in(10) ? 0 : 1u << model[STATE_RUN][LOGODWEN_AT_SLAVE] % 24) : 0);
@@ -1645,15 +1931,19 @@ static void step_lengths(void) {
         int run = (int)below(RUNS);
         static const size_t most[RUNS] = {LOGODWEN_STATE_BYTES, LOGODWEN_FLASH_FULL_BYTES, LOGODWEN_PM_BYTES,
                                           LOGODWEN_DM_BYTES,    LOGODWEN_IO_BYTES,         LOGODWEN_AREA_BYTES,
-                                          LOGODWEN_LIST_BYTES + LOGODWEN_RECORD_BYTES, LOGODWEN_REPLY_BYTES,
-                                          2 * REPLY_ROOM};
+                                          LOGODWEN_LIST_BYTES + LOGODWEN_RECORD_BYTES, LOGODWEN_EVENTS_BYTES,
+                                          LOGODWEN_REPLY_BYTES, 2 * REPLY_ROOM};
         lent_bytes[run] = one_in(5) ? 0 : one_in(4) ? below((uint32_t)room[run]) : most[run] - 4 + below(9);
         if (run == FLASH_RUN && !one_in(4))
             lent_bytes[run] = some_flash_bytes();
     }
-    int kind = (int)below(10);
+    int kind = (int)below(12);
     if (kind == 0)
         step_start();
+    else if (kind == 11)
+        call_reply(22 + below(4), wild(), 0);
+    else if (kind == 10)
+        call_build();
     else if (kind == 9)
         step_series();
     else if (kind == 1)
@@ -1696,7 +1986,7 @@ static void step(void) {
     else if (one_in(pending() != 0 ? 60 : standing().stands ? 16 : 5))
         step_series();
     else if (pending() != 0 && !one_in(10))
-        one_in(20) ? step_all_alike() : one_in(40) ? step_slow() : step_slave();
+        one_in(pending() == PENDING_BUILD ? 100 : 20) ? step_all_alike() : one_in(40) ? step_slow() : step_slave();
     else if (erasing != 0 && one_in(3))
         step_erase();
     else if (is_full() && one_in(5))
@@ -1717,6 +2007,8 @@ static void step(void) {
         step_start();
     else if (pending() == 0 && one_in(7))
         step_group();
+    else if (pending() == 0 && one_in(model[STATE_RUN][LOGODWEN_AT_KIND] == LOGODWEN_CDDC ? 9 : 60))
+        step_build();
     else if (pending() == 0 && one_in(6))
         step_list();
     else if (standing().stands ? one_in(40) : one_in(8))
@@ -1736,6 +2028,7 @@ static void fresh(void) {
     lent_bytes[IO_RUN] = below(large ? LOGODWEN_IO_BYTES + 1 : 400);
     lent_bytes[AREA_RUN] += below(4);
     lent_bytes[LIST_RUN] = one_in(4) ? LOGODWEN_LIST_BYTES + below(LOGODWEN_RECORD_BYTES) : below(12 * LOGODWEN_RECORD_BYTES);
+    lent_bytes[EVENTS_RUN] += below(4);
     lent_bytes[REPLY_RUN] += below(4);
     lent_bytes[REPLIES_RUN] += below(4);
     if (one_in(2))
@@ -1758,17 +2051,19 @@ static void make_worlds(void) {
 }
 
 static void print_tallies(void) {
-    static const char *const names[] = {"start", "request", "reply", "poll", "erase", "slow", "requests"};
-    for (int call = 0; call < 7; call++) {
+    static const char *const names[] = {"start", "request", "reply", "poll", "erase", "slow", "requests", "build"};
+    for (int call = 0; call < 8; call++) {
         printf("  %-8s", names[call]);
         if (call == 0 || call == 4 || call == 6)
             printf(" done %lu", tallies[call][0][0]);
         else if (call == 5)
             printf(" handed out %lu, nothing %lu", tallies[call][0][LOGODWEN_HANDED], tallies[call][0][LOGODWEN_NOTHING]);
         else
-            printf(" reply %lu, ask %lu, send NEXT %lu, waiting %lu", tallies[call][0][LOGODWEN_REPLY], tallies[call][0][LOGODWEN_ASK],
-                   tallies[call][0][LOGODWEN_SEND_NEXT], tallies[call][0][LOGODWEN_WAITING]);
-        for (int refusal = 1; refusal < 11; refusal++)
+            printf(" reply %lu, ask %lu, send NEXT %lu, waiting %lu, ask for an event %lu, no event %lu, built %lu",
+                   tallies[call][0][LOGODWEN_REPLY], tallies[call][0][LOGODWEN_ASK], tallies[call][0][LOGODWEN_SEND_NEXT],
+                   tallies[call][0][LOGODWEN_WAITING], tallies[call][0][LOGODWEN_ASK_EVENT], tallies[call][0][LOGODWEN_NO_EVENT],
+                   tallies[call][0][LOGODWEN_BUILT]);
+        for (int refusal = 1; refusal < 12; refusal++)
             if (tallies[call][refusal][0] != 0)
                 printf(", refused by %d %lu", refusal, tallies[call][refusal][0]);
         printf("\n");
@@ -1802,6 +2097,12 @@ static void print_tallies(void) {
     printf("  lists of requests: %lu calls, with %lu packets done\n", of_series, packets_done);
     for (int kind = 0; kind < SERIES_KINDS; kind++)
         printf("  list of requests, %s: %lu\n", series_names[kind], in_series[kind]);
+    unsigned long of_events = 0;
+    for (int kind = 0; kind < EVENT_KINDS; kind++)
+        of_events += on_events[kind];
+    printf("  event builds: %lu calls fall in a build or on an event\n", of_events);
+    for (int kind = 0; kind < EVENT_KINDS; kind++)
+        printf("  event build, %s: %lu\n", event_names[kind], on_events[kind]);
     unsigned long of_long = 0;
     for (int kind = 0; kind < LONG_KINDS; kind++)
         of_long += on_flash[kind];

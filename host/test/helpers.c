@@ -63,6 +63,9 @@ static const struct {
              {"mode_read", logodwen_make_mode_read},
              {"mask_read", logodwen_make_mask_read},
              {"list_read", logodwen_make_list_read},
+             {"event_read", logodwen_make_event_read},
+             {"event_number", logodwen_make_event_number},
+             {"event_reset", logodwen_make_event_reset},
              {"list_delete_expired", logodwen_make_list_delete_expired},
              {"list_delete_all", logodwen_make_list_delete_all},
              {"to_all", logodwen_make_to_all}};
@@ -324,15 +327,21 @@ static void read_list(void) {
     free(reply);
 }
 
-/* The whole walk, into a text: a reply that breaks off has none of it. */
-static void read_group(void) {
+/* The whole walk, into a text: a reply that breaks off has none of it. Of an event its number, the slaves left out and its status come first. */
+static void read_group(bool is_event) {
     static uint32_t numbers[MOST];
     uint8_t *reply = words_from(0);
     struct logodwen_fragment fragment;
-    size_t at = 0, told = 0;
-    bool is_whole = logodwen_is_sealed(reply, count) && count > LOGODWEN_TAIL_WORDS;
-    while (is_whole && at + LOGODWEN_TAIL_WORDS < count) {
-        at = logodwen_read_fragment(reply, count, at, &fragment);
+    struct logodwen_event event;
+    size_t at = is_event ? LOGODWEN_EVENT_HEAD_WORDS : 0, tail = is_event ? LOGODWEN_EVENT_TAIL_WORDS : LOGODWEN_TAIL_WORDS, told = 0;
+    bool is_whole = is_event ? logodwen_read_event(reply, count, &event) : logodwen_is_sealed(reply, count) && count > tail;
+    if (is_whole && is_event) {
+        numbers[told++] = event.number;
+        numbers[told++] = event.left_out;
+        numbers[told++] = event.status;
+    }
+    while (is_whole && at + tail < count) {
+        at = is_event ? logodwen_read_event_fragment(reply, count, at, &fragment) : logodwen_read_fragment(reply, count, at, &fragment);
         is_whole = at != 0;
         if (!is_whole)
             break;
@@ -347,6 +356,16 @@ static void read_group(void) {
     if (is_whole)
         print_numbers(numbers, told);
     printf("\n");
+    free(reply);
+}
+
+static void read_event_number(void) {
+    uint8_t *reply = words_from(0);
+    unsigned number;
+    if (logodwen_read_event_number(reply, count, &number))
+        printf("1 %X\n", number);
+    else
+        printf("0\n");
     free(reply);
 }
 
@@ -388,8 +407,10 @@ static void answer_line(const char *name) {
         read_record(strcmp(name, "read_listed") == 0);
     else if (strcmp(name, "read_list") == 0)
         read_list();
-    else if (strcmp(name, "read_group") == 0)
-        read_group();
+    else if (strcmp(name, "read_group") == 0 || strcmp(name, "read_event") == 0)
+        read_group(strcmp(name, "read_event") == 0);
+    else if (strcmp(name, "read_event_number") == 0)
+        read_event_number();
     else if (strcmp(name, "code_text") == 0)
         print_text(logodwen_code_text(given[0]));
     else if (strcmp(name, "packet_text") == 0)
@@ -493,7 +514,14 @@ static void try_group(unsigned long turn) {
             differs("the end of a fragment", turn);
         if (past != 0 && logodwen_get(reply, past - 1) != (fragment.code << 11 | fragment.slave_status | fragment.slave))
             differs("a fragment's status word", turn);
+        past = logodwen_read_event_fragment(reply, words, from, &fragment);
+        if (past != 0 && (past > words - LOGODWEN_EVENT_TAIL_WORDS || past != from + 1 + logodwen_get(reply, from)))
+            differs("the end of an event's fragment", turn);
     }
+    struct logodwen_event event;
+    unsigned number;
+    logodwen_read_event(reply, words, &event);
+    logodwen_read_event_number(reply, words, &number);
     struct logodwen_status status;
     struct logodwen_entry entry;
     logodwen_read_status(reply, words, &status);
@@ -506,6 +534,7 @@ struct talk {
     uint8_t reply[2 * 12];
     size_t words, said;
     uint32_t now;
+    unsigned number; /* that replies mostly begin with; 0 for any */
 };
 
 static void reply_by_chance(struct talk *talk) {
@@ -513,6 +542,8 @@ static void reply_by_chance(struct talk *talk) {
     talk->words = any() % 3 == 0 ? 0 : 1 + any() % 12;
     for (size_t i = 0; i < talk->words; i++)
         logodwen_put(talk->reply, i, (uint16_t)any());
+    if (talk->words > 1 && talk->number != 0 && any() % 8 != 0)
+        logodwen_put(talk->reply, 0, (uint16_t)talk->number);
     if (talk->words > 1 && any() % 8 != 0)
         logodwen_put(talk->reply, talk->words - 1, logodwen_fcs(talk->reply, talk->words - 1));
 }
@@ -580,6 +611,48 @@ static void try_capture(unsigned long turn) {
         differs("the number of fragments in a captured reply", turn);
 }
 
+/* An event of a node, from slaves that mostly begin with its number: the walk goes over a fragment of each slave that is not left out, in order,
+   to the tail, and Read Event hands out what stands in the event area. */
+static void try_event(unsigned long turn) {
+    static struct logodwen_node node;
+    static struct talk talk;
+    uint32_t mask = (uint32_t)1 << any() % LOGODWEN_SLAVES | (any() & (any() % 4 == 0 ? 0xFFFFFFu : 0x3Cu));
+    uint8_t request[LOGODWEN_COMMAND_BYTES];
+    struct logodwen_packet sent;
+    struct logodwen_event event;
+    if (turn == 0)
+        start_on(&node, unwritten, LOGODWEN_FLASH_BYTES, LOGODWEN_CDDC, 1);
+    logodwen_node_send(&node, talk.now, 0, request, logodwen_make_mask_write(request, 0, mask));
+    unsigned number = logodwen_get(node.state + LOGODWEN_AT_EVENT, 0);
+    uint64_t answered = logodwen_node_build(&node, talk.now);
+    talk.number = number + 1;
+    while (logodwen_to_send(answered, NULL, 0, &sent))
+        answered = answer_by_chance(&node, &sent, logodwen_slave(answered), &talk);
+    talk.number = 0;
+    if (logodwen_answer(answered) == LOGODWEN_NO_EVENT)
+        return;
+    size_t words = logodwen_words(answered);
+    if (logodwen_answer(answered) != LOGODWEN_BUILT || !logodwen_read_event(node.events, words, &event))
+        differs("the end of a build", turn);
+    if (event.number != ((number + 1) & 0xFFFF) || (event.left_out & ~mask) != 0)
+        differs("an event's number, or the slaves left out,", turn);
+    uint32_t slaves = mask & ~event.left_out;
+    for (size_t at = LOGODWEN_EVENT_HEAD_WORDS; at + LOGODWEN_EVENT_TAIL_WORDS < words; slaves &= slaves - 1) {
+        struct logodwen_fragment fragment;
+        at = logodwen_read_event_fragment(node.events, words, at, &fragment);
+        if (at == 0 || slaves == 0 || (slaves & (0 - slaves)) != (uint32_t)1 << fragment.slave)
+            differs("a fragment of an event", turn);
+    }
+    if (slaves != 0 || logodwen_node_build(&node, talk.now) != (LOGODWEN_REPLY << 8 | LOGODWEN_BC_ABORT << 16))
+        differs("the number of fragments in an event", turn);
+    if (logodwen_words(logodwen_node_send(&node, talk.now, 0, request, logodwen_make_event_read(request))) != words
+        || memcmp(node.reply, node.events, 2 * words) != 0)
+        differs("an event that is read", turn);
+    answered = logodwen_node_send(&node, talk.now, 0, request, logodwen_make_event_number(request));
+    if (!logodwen_read_event_number(node.reply, logodwen_words(answered), &number) || number != event.number)
+        differs("the number of the last event", turn);
+}
+
 static void try_sequence(unsigned long turn) {
     size_t words = any() % 70;
     uint8_t *bytes = malloc(2 * words + 1);
@@ -588,7 +661,7 @@ static void try_sequence(unsigned long turn) {
     for (size_t i = 0; i <= 2 * words; i++)
         bytes[i] = (uint8_t)any();
     uint16_t expected = model_fcs(bytes, words);
-    if (logodwen_fcs(bytes, words) != expected || logodwen5_fcs(bytes, 2 * words + 1) != expected)
+    if (logodwen_fcs(bytes, words) != expected || logodwen6_fcs(bytes, 2 * words + 1) != expected)
         differs("a check sequence", turn);
     if (logodwen_is_sealed(bytes, words) != (words >= 2 && model_fcs(bytes, words - 1) == word_at(bytes, words - 1)))
         differs("whether a reply is sealed", turn);
@@ -647,7 +720,7 @@ static void try_write(unsigned long turn) {
     uint64_t answered = logodwen_node_write(&ours, 0, link, packet, room, file, words, &sent);
     uint64_t expected = model_request(0, link, LOGODWEN_BC_WHOLE, 0, whole, 2 * length, other.state, sizeof other.state, other.flash,
                                       other.flash_len, NULL, 0, NULL, 0, NULL, 0, other.area, sizeof other.area, other.list,
-                                      sizeof other.list, other.reply, sizeof other.reply);
+                                      sizeof other.list, other.events, sizeof other.events, other.reply, sizeof other.reply);
     if (answered != expected || sent != words || !are_alike(&ours, &other))
         differs("a file in packets", turn);
     bool is_next = logodwen_is_next(logodwen_node_request(&ours, 0, link, LOGODWEN_BC_FIRST, 0, whole, length));
@@ -790,6 +863,7 @@ int main(int arguments, char **argument) {
         try_file(turn);
         try_group(turn);
         try_capture(turn);
+        try_event(turn);
         try_sequence(turn);
         try_write(turn);
         try_list(turn);

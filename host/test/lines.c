@@ -6,9 +6,9 @@
 #include <stdio.h>
 #include <stdlib.h>
 
-enum { FLASH, PROGRAM, DATA_MEMORY, REGISTERS, BUFFER, JOINING, LISTING, MEMORIES };
-enum { MOST_RUN = 65552, NODE_WORDS = 101 };
-static const size_t rooms[MEMORIES] = {262160, 32784, 32784, 4112, 16400, 32784, 6386};
+enum { FLASH, PROGRAM, DATA_MEMORY, REGISTERS, BUFFER, JOINING, LISTING, EVENTS, MEMORIES };
+enum { MOST_RUN = 65552, NODE_WORDS = 108 };
+static const size_t rooms[MEMORIES] = {262160, 32784, 32784, 4112, 16400, 32784, 6386, 12304};
 static const struct limits wide = {32768, 32768, 4096, SIZE_MAX};
 
 static uint8_t *memories[MEMORIES];
@@ -85,6 +85,11 @@ static void words_of_node(uint16_t words[NODE_WORDS]) {
     put_halves(&to, node.joined);
     *to++ = node.listed;
     *to++ = node.turn;
+    *to++ = node.event;
+    *to++ = node.build_errors;
+    put_halves(&to, node.unread);
+    *to++ = (uint16_t)node.asks;
+    put_halves(&to, node.left_out);
 }
 
 static void print_node(void) {
@@ -131,6 +136,13 @@ static void set_pending(unsigned kind, unsigned link, uint32_t at) {
     node.tally = (uint32_t)number(1);
     node.received = (uint32_t)number(2);
     node.rx_status = (uint16_t)number(1);
+    node.asks = (uint32_t)number(1);
+    node.left_out = (uint32_t)number(2);
+    if (kind == PENDING_BUILD) {
+        node.link = node.from = 0;
+        return;
+    }
+    node.asks = node.left_out = 0;
     if (kind != PENDING_GROUP)
         node.asked = node.from = node.built = node.tally = node.received = node.rx_status = 0;
     if (kind == PENDING_NOTHING)
@@ -174,6 +186,10 @@ static void set(void) {
         break;
     case 20: node.listed = (uint16_t)value; break;
     case 21: node.turn = (uint16_t)value; break;
+    case 22: node.event = (uint16_t)value; break;
+    case 23: node.build_errors = (uint16_t)value; break;
+    case 24: node.unread = value; break;
+    case 25: set_pending(PENDING_BUILD, index, value); break;
     default: set_pending(field - 15, index, value); break;
     }
 }
@@ -189,20 +205,20 @@ static uint64_t start(void) {
                             lent_run(FLASH));
 }
 
-static struct lent lent_to_requests(void) {
+static struct lent all_lent(void) {
     return (struct lent){lent_run(FLASH),   lent_run(PROGRAM), lent_run(DATA_MEMORY), lent_run(REGISTERS),
-                         lent_run(JOINING), lent_run(LISTING), lent_run(BUFFER)};
+                         lent_run(JOINING), lent_run(LISTING), lent_run(EVENTS),      lent_run(BUFFER)};
 }
 
 static uint64_t request(void) {
     uint32_t now = (uint32_t)number(2), link = (uint32_t)number(2), bc = (uint32_t)number(1), error = (uint32_t)number(1);
-    struct lent lent = lent_to_requests();
+    struct lent lent = all_lent();
     return model_node_request(&wide, &node, now, link, bc, error, run_bytes, run_of_line(run_bytes), &lent);
 }
 
 static uint64_t requests(void) {
     uint32_t now = (uint32_t)number(2);
-    struct lent lent = lent_to_requests();
+    struct lent lent = all_lent();
     return model_node_requests(&wide, &node, now, run_bytes, run_of_line(run_bytes), &lent);
 }
 
@@ -210,14 +226,23 @@ static uint64_t reply(void) {
     uint32_t now = (uint32_t)number(2), slave = (uint32_t)number(2), bc = (uint32_t)number(1), error = (uint32_t)number(1);
     uint16_t status = (uint16_t)number(1), address = (uint16_t)number(1);
     return model_node_reply(&wide, &node, now, slave, bc, error, status, address, run_bytes, run_of_line(run_bytes),
-                            lent_run(BUFFER));
+                            lent_run(EVENTS), lent_run(BUFFER));
+}
+
+static void print_words(int memory, unsigned words) {
+    printf(" %u %04x", words, digest_of(memory, 0, words));
+    for (unsigned i = 0; words <= 16 && i < words; i++)
+        printf(" %04x", word_at(memories[memory], i));
 }
 
 static void print_reply(uint64_t answer) {
-    unsigned bc = answer >> 16 & 0xFF, words = (unsigned)(answer >> 32);
-    printf("reply %u %u %04x", bc, words, digest_of(BUFFER, 0, words));
-    for (unsigned i = 0; words <= 16 && i < words; i++)
-        printf(" %04x", word_at(memories[BUFFER], i));
+    printf("reply %u", (unsigned)(answer >> 16 & 0xFF));
+    print_words(BUFFER, (unsigned)(answer >> 32));
+}
+
+static void print_built(uint64_t answer) {
+    printf("built");
+    print_words(EVENTS, (unsigned)(answer >> 32));
 }
 
 static void print_answer(int does, uint64_t answer) {
@@ -240,6 +265,12 @@ static void print_answer(int does, uint64_t answer) {
         printf("handed %u", (unsigned)(answer >> 32));
     else if (kind == 7)
         printf("nothing");
+    else if (kind == 9)
+        printf("read %u", (unsigned)(answer >> 16 & 0xFF));
+    else if (kind == 10)
+        printf("no event");
+    else if (kind == 11)
+        print_built(answer);
     else
         printf("waiting");
 }
@@ -249,15 +280,16 @@ static void call(int does) {
     uint64_t answer = does == 1    ? start()
                       : does == 2  ? request()
                       : does == 3  ? reply()
-                      : does == 4  ? model_node_poll(&node, (uint32_t)number(2), lent_run(BUFFER))
+                      : does == 4  ? model_node_poll(&node, (uint32_t)number(2), lent_run(EVENTS), lent_run(BUFFER))
                       : does == 5  ? model_node_erase(&node, number(4), lent_run(FLASH))
                       : does == 13 ? requests()
+                      : does == 14 ? model_node_build(&node, (uint32_t)number(2), lent_run(EVENTS))
                                    : model_node_slow(&node, (uint32_t)number(2), lent_run(LISTING));
     printf("%04x ", digest_of_node());
     print_answer(does, answer);
     for (int memory = 0; memory < MEMORIES; memory++)
         if (show >> memory & 1)
-            printf(" %c %04x", "fpdiral"[memory], digest_of(memory, 0, lent_words[memory]));
+            printf(" %c %04x", "fpdirale"[memory], digest_of(memory, 0, lent_words[memory]));
 }
 
 static void lend(void) {

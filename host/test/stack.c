@@ -105,6 +105,9 @@ static void requests(void) {
     request(logodwen_make_status(packet));
     request(logodwen_make_summary(packet));
     request(logodwen_make_mode_read(packet));
+    request(logodwen_make_event_read(packet));
+    request(logodwen_make_event_number(packet));
+    request(logodwen_make_event_reset(packet));
     request(logodwen_make_mask_read(packet));
     request(logodwen_make_ping(packet, ROOM, NULL, 0));
     request(logodwen_make_ping(packet, ROOM, image, 8000));
@@ -142,13 +145,14 @@ static void lists(void) {
         exit(2);
 }
 
-/* All replies of the group that was asked last, and the words of its own. */
+/* All replies of the group or the build that was asked last, and the words of its own; in a build they begin with the event's number. */
 static size_t replied;
+static uint16_t first_word;
 
 /* A slave's reply of so many words, sealed, in packets of so many; the last with an FCS that is wrong, or a receive error. */
 static void reply_in_packets(unsigned slave, size_t words, size_t part, unsigned wrong, uint32_t error) {
     for (size_t i = 0; i < words; i++)
-        logodwen_put(packet, i, (uint16_t)i);
+        logodwen_put(packet, i, i == 0 ? first_word : (uint16_t)i);
     logodwen_put(packet, words - 1, (uint16_t)(logodwen_fcs(packet, words - 1) ^ wrong));
     for (size_t at = 0, next; at < words; at = next) {
         next = words - at > part ? at + part : words;
@@ -167,6 +171,23 @@ static void replies(void) {
     reply_in_packets(6, 11000, 4000, 0, 0);
     for (unsigned slave = 7; slave < LOGODWEN_SLAVES; slave++)
         reply_in_packets(slave, 4, slave % 4 + 1, 0, 0);
+}
+
+static void builds(void) {
+    if (logodwen_answer(logodwen_node_build(&node, 0)) != LOGODWEN_ASK_EVENT)
+        exit(2);
+}
+
+static void event_replies(void) {
+    first_word = (uint16_t)(logodwen_get(node.state + LOGODWEN_AT_EVENT, 0) + 1);
+    replies();
+    first_word = 0;
+}
+
+/* The event that these make is read whole. */
+static void event_reads(void) {
+    request(logodwen_make_event_read(packet));
+    expect(LOGODWEN_BC_WHOLE, replied);
 }
 
 static void polls(void) {
@@ -242,6 +263,11 @@ static int measure_all(size_t flash_len) {
     wrong += measure("capture", captures, LOGODWEN_STACK_CAPTURE);
     group_request();
     wrong += measure("poll", polls, LOGODWEN_STACK_POLL);
+    wrong += measure("build", builds, LOGODWEN_STACK_BUILD);
+    wrong += measure("poll", polls, LOGODWEN_STACK_POLL); /* none has an event */
+    builds();
+    wrong += measure("reply", event_replies, LOGODWEN_STACK_REPLY);
+    wrong += measure("request", event_reads, LOGODWEN_STACK_REQUEST);
     wrong += measure("erase", erases, LOGODWEN_STACK_ERASE);
     wrong += measure("slow", steps, LOGODWEN_STACK_SLOW);
     wrong += measure("fcs", sequences, LOGODWEN_STACK_FCS);

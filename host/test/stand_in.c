@@ -22,6 +22,7 @@ enum { BARE_REPLIES = 38, LITTLE_ROOM, STOPPED_YET_CHANGED, REFUSED_YET_BEGUN, C
 enum { LONG_STORED_WRONG = 44, ABORT_ENDED };                                                   /* of a file that is too long for File Read */
 enum { ODD_TAKEN = 46, OTHER_SIZE_TAKEN, FRONT_ALONE, BYTES_SWAPPED, LONG_REFUSED, LENGTH_CUT }; /* of a flash of either size */
 enum { ALL_TOUCHED = 52 };                                                                      /* of what a call looks at */
+enum { HANDED_TWICE = 53, NUMBER_LOST, LINK_DROPS_BUILD, BUILT_OVER, ERRORS_UNCOUNTED, EVENT_SEALED, NUMBER_NOT_RESET }; /* of events */
 enum { DIRECTORY_BYTES = 64, ENTRY_WORDS = 4, FIRST = 0, STATUS = 2, LENGTH = 3 };
 enum { REPETITIONS = 1, DUE = 10 }; /* in a record: a word, and a byte */
 
@@ -211,6 +212,54 @@ static uint64_t long_with_fault(uint64_t answered, const uint8_t *before, uint8_
     return answered;
 }
 
+/* What is kept of events, 0 of bytes that are no state's. */
+
+struct kept_of_events {
+    uint16_t number, errors;
+    uint32_t unread;
+};
+
+static struct kept_of_events events_in(const uint8_t *state, size_t state_len) {
+    if (state_len != LOGODWEN_STATE_BYTES)
+        return (struct kept_of_events){0, 0, 0};
+    return (struct kept_of_events){logodwen_get(state + LOGODWEN_AT_EVENT, 0), logodwen_get(state + LOGODWEN_AT_BUILD_ERRORS, 0),
+                                   logodwen_get_pm(state + LOGODWEN_AT_UNREAD, 0)};
+}
+
+/* The answer to a command on events, with a fault: an event is there still when it has been handed out, has the node's own status word and
+   another FCS behind its own, or a reset leaves the number. */
+static uint64_t event_with_fault(uint64_t answered, const uint8_t *packet, size_t packet_len, struct kept_of_events before, uint8_t *state,
+                                 uint8_t *reply) {
+    size_t words = logodwen_words(answered);
+    if (FAULT == NUMBER_NOT_RESET && is_own(packet, packet_len, 0x42) && logodwen_bc(answered) == LOGODWEN_BC_END)
+        logodwen_put(state + LOGODWEN_AT_EVENT, 0, before.number);
+    if (!is_own(packet, packet_len, 0x01) || words == 0)
+        return answered;
+    if (FAULT == HANDED_TWICE)
+        logodwen_put_pm(state + LOGODWEN_AT_UNREAD, 0, before.unread);
+    if (FAULT != EVENT_SEALED || words + 2 > LOGODWEN_REPLY_WORDS)
+        return answered;
+    logodwen_put(reply, words, LOGODWEN_STATUS_OWN);
+    logodwen_put(reply, words + 1, logodwen_fcs(reply, words + 1));
+    return answered + ((uint64_t)2 << 32);
+}
+
+/* A request of no words that drops a build, with a fault: link 0 does, since that is what its state has for a link. */
+static bool drops_build(uint32_t link, uint32_t bc, uint32_t receive_error, size_t packet_len, const uint8_t *state, size_t state_len) {
+    bool is_drop = link == 0 && (bc & 3) == LOGODWEN_BC_ABORT && receive_error == 0 && packet_len < 2;
+    return FAULT == LINK_DROPS_BUILD && is_drop && state_len == LOGODWEN_STATE_BYTES && state[LOGODWEN_AT_PENDING] == 3;
+}
+
+/* The state behind a build, with a fault: its number, or its errors, are as they were. */
+static void built_with_fault(uint64_t answered, struct kept_of_events before, uint8_t *state) {
+    if (logodwen_answer(answered) != LOGODWEN_BUILT)
+        return;
+    if (FAULT == NUMBER_LOST)
+        logodwen_put(state + LOGODWEN_AT_EVENT, 0, before.number);
+    if (FAULT == ERRORS_UNCOUNTED)
+        logodwen_put(state + LOGODWEN_AT_BUILD_ERRORS, 0, before.errors);
+}
+
 /* What a request looks at, with a fault: every sector. */
 static void look_with_fault(const uint8_t *flash, size_t flash_len) {
     static volatile uint8_t seen;
@@ -219,7 +268,7 @@ static void look_with_fault(const uint8_t *flash, size_t flash_len) {
     (void)seen;
 }
 
-uint32_t logodwen5_start(uint32_t kind, uint32_t ports, uint32_t subdetector, uint16_t program_version,
+uint32_t logodwen6_start(uint32_t kind, uint32_t ports, uint32_t subdetector, uint16_t program_version,
                          uint16_t subdetector_version, uint16_t start_tests, uint32_t clock, const uint8_t *flash, size_t flash_len,
                          uint8_t *state, size_t state_len) {
     uint8_t *changed = (uint8_t *)(uintptr_t)flash; /* and changed back */
@@ -235,10 +284,10 @@ uint32_t logodwen5_start(uint32_t kind, uint32_t ports, uint32_t subdetector, ui
     return refusal;
 }
 
-uint64_t logodwen5_request(uint32_t now, uint32_t link, uint32_t bc, uint32_t receive_error, const uint8_t *packet,
+uint64_t logodwen6_request(uint32_t now, uint32_t link, uint32_t bc, uint32_t receive_error, const uint8_t *packet,
                            size_t packet_len, uint8_t *state, size_t state_len, uint8_t *flash, size_t flash_len, uint8_t *pm,
                            size_t pm_len, uint8_t *dm, size_t dm_len, uint8_t *io, size_t io_len, uint8_t *area, size_t area_len,
-                           uint8_t *list, size_t list_len, uint8_t *reply, size_t reply_len) {
+                           uint8_t *list, size_t list_len, const uint8_t *events, size_t events_len, uint8_t *reply, size_t reply_len) {
     static uint8_t spare_state[LOGODWEN_STATE_BYTES], spare_flash[LOGODWEN_FLASH_FULL_BYTES];
     uint8_t before[DIRECTORY_BYTES];
     bool is_write = is_own(packet, packet_len, 0x45), is_read = is_own(packet, packet_len, 0x05);
@@ -257,10 +306,19 @@ uint64_t logodwen5_request(uint32_t now, uint32_t link, uint32_t bc, uint32_t re
         packet = erase_with_fault(packet, packet_len, before);
     }
     look_with_fault(flash, flash_len);
+    struct kept_of_events kept = events_in(state, state_len);
+    bool is_dropped = drops_build(link, bc, receive_error, packet_len, state, state_len);
     size_t lent = lent_with_fault(state, state_len, flash, flash_len);
     uint64_t answered = model_request(now, link, bc, receive_error, packet, packet_len, state, state_len, flash, lent, pm,
-                                      pm_len, dm, dm_len, io, io_len, area, area_len, list, list_len, reply, reply_len);
+                                      pm_len, dm, dm_len, io, io_len, area, area_len, list, list_len, events, events_len, reply,
+                                      reply_len);
     change_back(state, state_len, flash, flash_len);
+    if (is_dropped && logodwen_refusal(answered) == 0) {
+        state[LOGODWEN_AT_PENDING] = 0;
+        memset(state + LOGODWEN_AT_LINK, 0, LOGODWEN_AT_MASKS - LOGODWEN_AT_LINK);
+        memset(state + LOGODWEN_AT_RECEIVED, 0, LOGODWEN_AT_LISTED - LOGODWEN_AT_RECEIVED);
+        memset(state + LOGODWEN_AT_ASKS, 0, LOGODWEN_STATE_BYTES - LOGODWEN_AT_ASKS);
+    }
     if (FAULT == ODD_BYTE_CLEARED && logodwen_answer(answered) == LOGODWEN_REPLY && dm_len % 2 == 1)
         dm[dm_len - 1] = 0;
     if (FAULT == JOINED_TOO_MUCH && (bc & 2) == 0 && joined + packet_len / 2 > LOGODWEN_AREA_WORDS &&
@@ -272,6 +330,7 @@ uint64_t logodwen5_request(uint32_t now, uint32_t link, uint32_t bc, uint32_t re
         answered = long_with_fault(answered, before, state + LOGODWEN_AT_DIRECTORY, flash, flash_len);
     }
     list_with_fault(answered, packet, packet_len, turn, state, list, list_len);
+    answered = event_with_fault(answered, packet, packet_len, kept, state, reply);
     if (is_summary && logodwen_words(answered) != 0)
         summary_with_fault(answered, reply);
     if (written == NULL && is_write && standing(state, state_len) != NULL)
@@ -304,9 +363,10 @@ static size_t lay_reply(uint64_t answered, const uint8_t *reply, uint8_t *to, si
 }
 
 /* A list, by the model; with a fault, by the requests above one after the other, so that it has theirs too. */
-uint64_t logodwen5_requests(uint32_t now, const uint8_t *packets, size_t packets_len, uint8_t *state, size_t state_len, uint8_t *flash,
+uint64_t logodwen6_requests(uint32_t now, const uint8_t *packets, size_t packets_len, uint8_t *state, size_t state_len, uint8_t *flash,
                             size_t flash_len, uint8_t *pm, size_t pm_len, uint8_t *dm, size_t dm_len, uint8_t *io, size_t io_len,
-                            uint8_t *area, size_t area_len, uint8_t *list, size_t list_len, uint8_t *replies, size_t replies_len) {
+                            uint8_t *area, size_t area_len, uint8_t *list, size_t list_len, const uint8_t *events, size_t events_len,
+                            uint8_t *replies, size_t replies_len) {
     static uint8_t reply[LOGODWEN_REPLY_BYTES], before[LOGODWEN_STATE_BYTES];
     size_t words = packets_len / 2, room = replies_len / 2, laid = 0, done = 0, end = 0;
     size_t least = FAULT == LITTLE_ROOM ? LOGODWEN_REPLY_WORDS : LOGODWEN_REPLIES_WORDS;
@@ -315,14 +375,15 @@ uint64_t logodwen5_requests(uint32_t now, const uint8_t *packets, size_t packets
     uint32_t link;
     if (FAULT == NO_FAULT)
         return model_requests(now, packets, packets_len, state, state_len, flash, flash_len, pm, pm_len, dm, dm_len, io, io_len, area,
-                              area_len, list, list_len, replies, replies_len);
+                              area_len, list, list_len, events, events_len, replies, replies_len);
     for (size_t at = 0; (FAULT == REFUSED_YET_BEGUN || !is_refused) && room - laid >= least; end = at, done++) {
         at = logodwen_read_packet(packets, words, at, &link, &packet);
         if (at == 0)
             break;
         memcpy(before, is_state ? state : before, sizeof before);
-        uint64_t answered = logodwen5_request(now, link, packet.bc, 0, packet.bytes, 2 * packet.words, state, state_len, flash, flash_len, pm,
-                                              pm_len, dm, dm_len, io, io_len, area, area_len, list, list_len, reply, sizeof reply);
+        uint64_t answered = logodwen6_request(now, link, packet.bc, 0, packet.bytes, 2 * packet.words, state, state_len, flash, flash_len, pm,
+                                              pm_len, dm, dm_len, io, io_len, area, area_len, list, list_len, events, events_len, reply,
+                                              sizeof reply);
         if (logodwen_answer(answered) == LOGODWEN_ASK && FAULT != ASKED_IN_LIST)
             memcpy(state, before, sizeof before);
         if (logodwen_answer(answered) != LOGODWEN_REPLY)
@@ -342,28 +403,45 @@ static void next_with_fault(uint32_t asked_at, uint8_t *state) {
         logodwen_put(state + LOGODWEN_AT_RX_STATUS, 0, 0);
 }
 
-uint64_t logodwen5_reply(uint32_t now, uint32_t slave, uint32_t bc, uint32_t receive_error, uint16_t rx_status, uint16_t rx_address,
-                         const uint8_t *packet, size_t packet_len, uint8_t *state, size_t state_len, uint8_t *reply,
-                         size_t reply_len) {
+uint64_t logodwen6_reply(uint32_t now, uint32_t slave, uint32_t bc, uint32_t receive_error, uint16_t rx_status, uint16_t rx_address,
+                         const uint8_t *packet, size_t packet_len, uint8_t *state, size_t state_len, uint8_t *events, size_t events_len,
+                         uint8_t *reply, size_t reply_len) {
+    struct kept_of_events kept = events_in(state, state_len);
     uint32_t asked_at = state_len == LOGODWEN_STATE_BYTES ? logodwen_get_pm(state + LOGODWEN_AT_ASKED_AT, 0) : 0;
-    uint64_t answered =
-        model_reply(now, slave, bc, receive_error, rx_status, rx_address, packet, packet_len, state, state_len, reply, reply_len);
+    uint64_t answered = model_reply(now, slave, bc, receive_error, rx_status, rx_address, packet, packet_len, state, state_len, events,
+                                    events_len, reply, reply_len);
     if (FAULT == REFUSED_YET_CHANGED && logodwen_refusal(answered) == LOGODWEN_REFUSED_UNASKED)
         state[LOGODWEN_AT_AMSWIRE_ERRORS] ^= 1;
     if (FAULT == TALLY_FORGOTTEN && logodwen_answer(answered) == LOGODWEN_ASK)
         state[LOGODWEN_AT_TALLY] = 6;
     if (logodwen_answer(answered) == LOGODWEN_SEND_NEXT)
         next_with_fault(asked_at, state);
+    built_with_fault(answered, kept, state);
     return answered;
 }
 
-uint64_t logodwen5_poll(uint32_t now, uint8_t *state, size_t state_len, uint8_t *reply, size_t reply_len) {
+uint64_t logodwen6_poll(uint32_t now, uint8_t *state, size_t state_len, uint8_t *events, size_t events_len, uint8_t *reply,
+                        size_t reply_len) {
+    struct kept_of_events kept = events_in(state, state_len);
     if (FAULT == CLOCK_COMPARED && state_len == LOGODWEN_STATE_BYTES && now < logodwen_get_pm(state + LOGODWEN_AT_ASKED_AT, 0))
         now = logodwen_get_pm(state + LOGODWEN_AT_ASKED_AT, 0);
-    return model_poll(now, state, state_len, reply, reply_len);
+    uint64_t answered = model_poll(now, state, state_len, events, events_len, reply, reply_len);
+    built_with_fault(answered, kept, state);
+    return answered;
 }
 
-uint64_t logodwen5_erase(uint64_t budget, uint8_t *state, size_t state_len, uint8_t *flash, size_t flash_len) {
+/* An event build, with a fault: it begins over an event that is not read. */
+uint64_t logodwen6_build(uint32_t now, uint8_t *state, size_t state_len, const uint8_t *events, size_t events_len) {
+    struct kept_of_events kept = events_in(state, state_len);
+    if (FAULT == BUILT_OVER && 0 < kept.unread && kept.unread <= LOGODWEN_EVENTS_WORDS)
+        logodwen_put_pm(state + LOGODWEN_AT_UNREAD, 0, 0);
+    uint64_t answered = model_build(now, state, state_len, events, events_len);
+    if (FAULT == BUILT_OVER && logodwen_answer(answered) != LOGODWEN_ASK_EVENT && kept.unread != 0)
+        logodwen_put_pm(state + LOGODWEN_AT_UNREAD, 0, kept.unread);
+    return answered;
+}
+
+uint64_t logodwen6_erase(uint64_t budget, uint8_t *state, size_t state_len, uint8_t *flash, size_t flash_len) {
     uint8_t before[DIRECTORY_BYTES];
     if (state_len == LOGODWEN_STATE_BYTES)
         memcpy(before, state + LOGODWEN_AT_DIRECTORY, sizeof before);
@@ -387,7 +465,7 @@ static uint8_t *in_turn(const uint8_t *state, size_t state_len, uint8_t *list, s
 
 /* The slow-control step, with a fault: times are compared as they stand; the turn waits until its entry is handed out; or an entry that is
    handed out for the last time keeps its due time. */
-uint64_t logodwen5_slow(uint32_t now, uint8_t *state, size_t state_len, uint8_t *list, size_t list_len) {
+uint64_t logodwen6_slow(uint32_t now, uint8_t *state, size_t state_len, uint8_t *list, size_t list_len) {
     uint8_t *record = in_turn(state, state_len, list, list_len);
     if (record == NULL)
         return model_slow(now, state, state_len, list, list_len);
@@ -403,7 +481,7 @@ uint64_t logodwen5_slow(uint32_t now, uint8_t *state, size_t state_len, uint8_t 
     return answered;
 }
 
-uint16_t logodwen5_fcs(const uint8_t *bytes, size_t len) { return model_fcs(bytes, len / 2); }
+uint16_t logodwen6_fcs(const uint8_t *bytes, size_t len) { return model_fcs(bytes, len / 2); }
 
 /* A captured group reply, with a fault: an FCS is taken for right, whatever it is, or words left over are not looked at. */
 static uint64_t capture_with_fault(uint64_t answered, uint32_t mask, const uint8_t *words) {
@@ -418,7 +496,7 @@ static uint64_t capture_with_fault(uint64_t answered, uint32_t mask, const uint8
     return model_capture(mask, resealed, 2 * place + 2) == LOGODWEN_ACCEPTED << 8 ? LOGODWEN_ACCEPTED << 8 : answered;
 }
 
-uint64_t logodwen5_capture(uint32_t mask, const uint8_t *words, size_t words_len) {
+uint64_t logodwen6_capture(uint32_t mask, const uint8_t *words, size_t words_len) {
     uint64_t answered = model_capture(FAULT == MASK_CUT ? mask & 0xFFFFFFu : mask, words, words_len);
     if (FAULT == ALL_READABLE)
         return LOGODWEN_ACCEPTED << 8;

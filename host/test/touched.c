@@ -95,6 +95,9 @@ static void test_none(void) {
     whole("Q-List Write", NONE, logodwen_make_list_write(packet, 100, &entry, 1), end);
     whole("Q-List Read", NONE, logodwen_make_list_read(packet), with_words(8));
     whole("Q-List Delete", NONE, logodwen_make_list_delete_all(packet), end);
+    whole("Event Number", NONE, logodwen_make_event_number(packet), with_words(4));
+    whole("Event Reset", NONE, logodwen_make_event_reset(packet), end);
+    whole("Read Event of none", NONE, logodwen_make_event_read(packet), end);
     whole("File Read of no file", NONE, logodwen_make_file_read(packet, 0xEE), end);
     whole("File Load of no file", NONE, logodwen_make_file_load(packet, 0xEE), aborted);
     whole("Erase of no file", NONE, logodwen_make_erase_start(packet, 0xEE), aborted);
@@ -104,6 +107,23 @@ static void test_none(void) {
     erase("erase progress with nothing to erase", NONE, 100, 0);
     open_parts(NONE);
     expect("a refused request", logodwen_node_request(&node, 0, 9, LOGODWEN_BC_WHOLE, 0, packet, 1), LOGODWEN_REFUSED_NUMBER);
+}
+
+/* A build, and its event read: none. */
+static void test_build(void) {
+    const uint64_t asked = (uint64_t)LOGODWEN_ASK_EVENT << 8 | 5u << 16;
+    whole("Mask Write", NONE, logodwen_make_mask_write(packet, 0, 1u << 5), zero_length(LOGODWEN_BC_END));
+    call = "build";
+    expect(call, logodwen_node_build(&node, 0), asked);
+    call = "a slave's END";
+    expect(call, logodwen_node_reply(&node, 0, 5, LOGODWEN_BC_END, 0, 0, 0, NULL, 0), asked);
+    call = "a slave's event";
+    logodwen_put(packet, 0, 1);
+    logodwen_put(packet, 1, 0x1234);
+    expect(call, logodwen_node_reply(&node, 0, 5, LOGODWEN_BC_FIRST, 0, 0, 0, packet, 2), (uint64_t)LOGODWEN_SEND_NEXT << 8 | 5u << 16);
+    call = "a late slave";
+    expect(call, logodwen_node_poll(&node, LOGODWEN_LATE_TICKS), (uint64_t)LOGODWEN_BUILT << 8 | (uint64_t)10 << 32);
+    whole("Read Event", NONE, logodwen_make_event_read(packet), with_words(10));
 }
 
 /* A command on a file: its own sector. */
@@ -171,6 +191,7 @@ int main(void) {
     program();
     expect(call, logodwen_node_start(&node, &given), LOGODWEN_DONE);
     test_none();
+    test_build();
     test_own_sector();
     test_write();
     test_erase();
