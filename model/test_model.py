@@ -1,8 +1,8 @@
 #!/usr/bin/env python3
 """The model against documents 01 and 02: each example of 01, the lines of the bench, what 01 says of every call, and what 02 says of
 files that come in several packets, of the masks at start, of the lengths in the summary, of remains behind a file, of names that
-several sectors have, of captured group replies, of slaves that answer in packets, of the Q-List, of lists of requests and of event
-builds."""
+several sectors have, of captured group replies, of slaves that answer in packets, of the Q-List, of lists of requests, of event
+builds and of saving what is readable."""
 
 import random
 import unittest
@@ -16,7 +16,7 @@ from event import Building
 from event_vectors import Build
 from fcs import fcs
 from files import DM, IO, PM, sealed
-from flash import SECTORS, address_of, attributed, directory_of, extent, kept
+from flash import BAD, SECTORS, address_of, attributed, directory_of, extent, judged, kept, store, words_in
 from group import ABORT, AREA, END, ERROR, MORE, NEXT, Answer, ending, fragment, is_late, tally_with, zero_length
 from memory import index, read
 from node import CDDC, CDP, ZEROS, Built, Lent, Pending, Write, build, erase, poll, reply, request, slow, start
@@ -25,6 +25,8 @@ from script import Script
 from scripts_flash import flash_step
 from scripts_series import in_a_row, some_list
 from runs import check_sequence
+from salvage import COPIED, LOST, REDUCED, salvage, salvage_sector, spans
+from salvage_vectors import inputs as sectors
 from series import requests
 from words import digest, words_of
 
@@ -1919,6 +1921,124 @@ class CapturesTried(unittest.TestCase):
     def test_two_slaves(self):
         for palette in ((1, 0x1005, 0x1006), (1, 0x2006, 0x2805)):
             self.compare([5, 6], palette, 4, 7)
+
+
+class Salvage(unittest.TestCase):
+    """02, request 14. A036 is the FCS of 0001 1234, as in README's image."""
+
+    ONE = words_of("4003 9000 0001 1234 A036")  # a DM segment of three words
+    BROKEN = words_of("4003 9000 0001 1234 A037")
+    OTHER = words_of("8003 4000 0001 1234 A036")  # IO, which ignores its page
+    BLANKS = [0xFFFF] * 4
+
+    def comes_to(self, words, kept, how, new):
+        """A sector, and the words that its new one begins with: all others are blank."""
+        self.assertEqual(salvage_sector(words), (kept, how, new + [0xFFFF] * (len(words) - len(new))), words)
+
+    def test_empty_and_good_sectors_go_over_unchanged(self):
+        for words in ([0xFFFF], self.BLANKS):
+            self.comes_to(words, 0, COPIED, words)
+        for words in ([0x7421, *self.ONE], [0x7421, *self.ONE, *self.BLANKS]):
+            self.comes_to(words, 1, COPIED, words)
+        self.comes_to([0x7422, *self.ONE, *self.OTHER, *self.BLANKS], 2, COPIED, [0x7422, *self.ONE, *self.OTHER])
+
+    def test_the_valid_segments_are_kept_in_order(self):
+        for parts in product((self.ONE, self.OTHER, self.BROKEN), repeat=3):
+            if self.BROKEN not in parts:
+                continue
+            held = [part for part in parts if part != self.BROKEN]
+            words = [0x7423, *sum(parts, []), *self.BLANKS]
+            new = [0x7420 | len(held), *sum(held, [])] if held else []
+            self.comes_to(words, len(held), REDUCED if held else LOST, new)
+
+    def test_what_stood_behind_the_file_goes(self):
+        for behind in ([0x0000], [0xFFFF, 0xFFFE], self.ONE):
+            self.comes_to([0x7421, *self.ONE, *behind], 1, REDUCED, [0x7421, *self.ONE])
+            self.comes_to([0x7422, *self.BROKEN, *self.ONE, *behind], 1, REDUCED, [0x7421, *self.ONE])
+
+    def test_type_and_count(self):
+        for first in (0xB421, 0xF421, 0x7420, 0x742F):
+            self.comes_to([first, *self.ONE, *self.BLANKS], 0, LOST, [])
+        for count in range(1, 15):  # two zeros are a header of PM with length 0: it leads on, and is dropped
+            self.comes_to([0x3210 | count, *self.ONE, *[0] * 2 * count], 1, REDUCED, [0x3211, *self.ONE])
+        self.comes_to([0x321F, *self.ONE, *[0] * 30], 0, LOST, [])
+
+    def test_a_length_that_is_not_permitted_is_followed(self):
+        for part in ("0000 0000", "4000 0000", "4001 0000 FFFF", "8000 0000", "8001 0000 FFFF", "C002 0000 0001 1234"):
+            self.comes_to([0x7422, *words_of(part), *self.ONE], 1, REDUCED, [0x7421, *self.ONE])
+            self.comes_to([0x7422, *self.ONE, *words_of(part)], 1, REDUCED, [0x7421, *self.ONE])
+            self.comes_to([0x7421, *words_of(part), *self.BLANKS], 0, LOST, [])
+
+    def test_an_odd_program_length_is_not(self):
+        for part in ("0001 0000", "0001 0000 FFFF", "0003 0000 0001 0002 0003 0004 0005"):
+            self.comes_to([0x7422, *words_of(part), *self.ONE], 0, LOST, [])
+            self.comes_to([0x7422, *self.ONE, *words_of(part)], 0, LOST, [])
+
+    def test_each_rule_of_a_segment(self):
+        for part in ("0002 0000 AABB CC01", "0002 4000 AABB CC00"):  # a byte that is not zero, a page that there is not
+            body = words_of(part)[2:]
+            self.comes_to([0x7422, *words_of(part), fcs(body), *self.ONE], 1, REDUCED, [0x7421, *self.ONE])
+        program = [*words_of("0002 8000 AABB CC00"), fcs([0xAABB, 0xCC00])]
+        self.comes_to([0x7422, *self.BROKEN, *program], 1, REDUCED, [0x7421, *program])
+        self.comes_to([0x7422, 0x4003, 0x5000, *self.ONE[2:], *self.OTHER], 1, REDUCED, [0x7421, *self.OTHER])
+
+    def test_a_header_that_leads_out(self):
+        for last in (self.ONE[:1], self.ONE[:2], self.ONE[:4], [0x4006, *self.ONE[1:]], [0xFFFF] * 2):
+            self.comes_to([0x7422, *self.BROKEN, *last], 0, LOST, [])
+            self.comes_to([0x7423, *self.ONE, *self.BROKEN, *last], 0, LOST, [])
+            self.comes_to([0x7422, *self.ONE, *last], 0, LOST, [])
+        self.comes_to([0x7422, *self.ONE, 0x4005, *self.ONE[1:], 0xFFFF, 0xFFFF], 1, REDUCED, [0x7421, *self.ONE])  # to the end
+        self.comes_to([0x7422, *self.ONE, *self.BLANKS], 0, LOST, [])  # blank words are a header too, of 16,383 words
+
+    def test_a_header_of_blank_words_is_followed(self):
+        body = [0x1234] * 16382
+        for end, held in ((check_sequence(body), 1), (check_sequence(body) ^ 1, 0)):
+            part = [0xFFFF, 0xFFFF, *body, end]
+            sector = [0x7423, *self.BROKEN, *part, *self.ONE]
+            sector += [0xFFFF] * (32768 - len(sector))
+            self.comes_to(sector, held + 1, REDUCED, [0x7421 + held, *part * held, *self.ONE])
+
+    def test_what_is_written(self):
+        """Of every stored sector: the new one is empty or good, its segments are some of the old one's, and a second run changes nothing."""
+        for line in sectors().splitlines():
+            words = words_of(line)
+            count, how, new = salvage_sector(words)
+            self.assertEqual(len(new), len(words))
+            self.assertNotEqual(judged(tuple(new))[0], BAD)
+            self.assertEqual(salvage_sector(new), (count, COPIED, new))
+            if how == REDUCED:
+                self.assertEqual((new[0] >> 4, new[0] & 15), (words[0] >> 4, count))
+                held = iter([words[at:past] for at, past in spans(words)])
+                self.assertTrue(all(new[at:past] in held for at, past in spans(new)))  # in order: what was passed is not found again
+
+    def test_flashes(self):
+        for size in (BENCH, 262144):
+            first, second = [0xFFFF] * size, [0xFFFF] * size
+            first[:size // 16] = [0x1234] * (size // 16)  # sectors 0 to 2 are not looked at
+            store(first, 3, [0x7421, *self.ONE])
+            store(first, 5, [0x7421, *self.ONE])
+            store(first, 6, [0x7422, *self.BROKEN, *self.ONE])
+            store(first, 10, [0x7421, *self.BROKEN])
+            before = list(first)
+            hows = {3: (1, COPIED), 5: (1, COPIED), 6: (1, REDUCED), 10: (0, LOST)}
+            refused, lines, new = salvage(first, second)
+            self.assertEqual((refused, lines), (0, [(sector, *hows.get(sector, (0, COPIED))) for sector in SECTORS]))
+            self.assertEqual((first, set(new[:size // 16])), (before, {0xFFFF}))
+            self.assertEqual(words_in(new, 3), words_in(new, 5)[:size // 16])  # a doubled name goes over
+            self.assertEqual(words_in(new, 6)[:8], [0x7421, *self.ONE, 0xFFFF, 0xFFFF])
+            self.assertEqual(set(words_in(new, 10)), {0xFFFF})
+            self.assertEqual(salvage(new, second), (0, [(sector, kept, COPIED) for sector, kept, _ in lines], new))
+
+    def test_refusals(self):
+        for size in (0, 1, BENCH - 1, BENCH + 1, 262143):
+            self.assertEqual(salvage([0xFFFF] * size, [0xFFFF] * size), (1, [], [0xFFFF] * size))
+        flash = [0xFFFF] * BENCH
+        for size in (0, BENCH - 1, BENCH + 1, 262144):
+            self.assertEqual(salvage(flash, [0xFFFF] * size), (12, [], [0xFFFF] * size))
+        for at in (0, 2047, 2048, BENCH - 1):
+            second = flash[:at] + [0x7FFF] + flash[at + 1:]
+            self.assertEqual(salvage(flash, second), (12, [], second))
+            self.assertEqual(salvage(flash[1:], second), (1, [], second))
 
 
 if __name__ == "__main__":
