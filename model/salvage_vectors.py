@@ -87,8 +87,12 @@ def broken(pick, memory):
 
 
 def empty(pick):
+    """Blank sectors, and such as are blank but for a bit or a word."""
     for count in (1, 2, 3, 4, 5, 17, 80):
         yield blanks(count)
+        for at in {0, 1, count // 2, count - 1} & set(range(count)):
+            yield flipped(pick, blanks(count), (at,))
+            yield blanks(at) + [pick.randrange(65536)] + blanks(count - at - 1)
 
 
 def good(pick):
@@ -265,4 +269,4 @@ def inputs():
 
 def outputs(stdin):
     answers = (salvage_sector(words_of(line)) for line in stdin.splitlines())
-    return "".join("%d\t%s\t%s" % (kept, how, line_of(words)) for kept, how, words in answers)
+    return "".join("%d\t%s\t%s" % (kept, how, line_of(words).lower()) for kept, how, words in answers)

@@ -223,4 +223,10 @@ uint64_t model_slow(uint32_t now, uint8_t *state, size_t state_len, uint8_t *lis
 
 uint64_t model_capture(uint32_t mask, const uint8_t *words, size_t words_len);
 
+/* Saving what is readable (salvage.c). Of a sector, into one that is blank: the segments kept in the low four bits, above them 1 copied,
+   2 reduced, 3 lost. Of a flash, by the number that logodwen_salvage answers. */
+
+unsigned model_salvage_sector(const uint8_t *from, size_t n, uint8_t *to);
+uint64_t model_salvage(const uint8_t *first, size_t first_len, uint8_t *second, size_t second_len);
+
 #endif

@@ -5,7 +5,7 @@
 #include <stdint.h>
 #include <stdlib.h>
 
-enum { MOST_WORDS = 1024 };
+enum { MOST_WORDS = 4096 }; /* those of a sector */
 
 /* The words of a line, one after the other; past its end a word is 0. */
 static uint16_t line_words[MOST_WORDS];

@@ -1,0 +1,4 @@
+pub mod Follow
+pub mod Keeps
+pub mod Saves
+pub mod Promised

@@ -1,0 +1,3 @@
+pub mod Follow
+pub mod Sector
+pub mod Promised
