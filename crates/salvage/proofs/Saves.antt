@@ -8,7 +8,6 @@ use native.Mathlib.Omega.{arith}
 use lib.ListN.{length, getD, set, take, drop, length-append, length-take, length-drop, length-replicate}
 use lib.Dec.{eqb}
 use borrow.Author.Tests.{eq-eqb, ne-eqb, eqb-true}
-use Rattle.base.specs.Pick.{pick}
 use Rattle.base.specs.Words.{part, laid, blanks}
 use Rattle.base.proofs.Pick.{yes, no, pick-case, and-left, and-right}
 use Rattle.base.proofs.Laid.{laid-none, laid-whole}

@@ -1,3 +1,4 @@
 pub mod Follow
 pub mod Sector
+pub mod Flash
 pub mod Promised

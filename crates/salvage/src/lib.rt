@@ -18,6 +18,8 @@ use image::segment_end;
 use image::segments_of;
 use image::span_of;
 
+pub mod whole;
+
 pub enum How {
     Copied,
     Reduced,

@@ -1,8 +1,6 @@
 -- `salvage::keep` meets its contract. The loop's invariant: what is kept and what is left to keep are all there is to keep (Keeps). The measure is how many
 -- headers are left. Assumes nothing.
 use borrow.Author.Needs.{needs}
-use Prim.Native.Nat.{_-_, _≤_}
-use mathlib.Core.Path.{_≡_, refl, sym, _∙_}
 use native.Mathlib.Omega.{arith}
 use Rattle.salvage.specs.Follow.{filling}
 use Rattle.salvage.proofs.Keeps.{Keeps, keeps-first, keeps-on, keeps-next, keeps-last}

@@ -1,5 +1,6 @@
+-- `salvage::save` meets its contract, by what the sector is (Saves). Assumes nothing.
 use Prim.Native.Nat.{ℕ}
-use mathlib.Core.Path.{_≡_, refl, sym, ap, _∙_}
+use mathlib.Core.Path.{sym, ap, _∙_}
 use native.Mathlib.Omega.{arith}
 use Rattle.salvage.specs.Sector.{kept}
 use Rattle.salvage.specs.declared.How.{How}
@@ -7,87 +8,61 @@ use Rattle.salvage.proofs.Saves.{good-some, long-as, saves-empty, saves
 use borrow.Author.Needs.{needs}
 use Rattle.salvage.proofs.save.Statement.{statement}
 use Rattle.salvage.proofs.save.Tie as tie
-use Rattle.salvage.proofs.save.Reads as reads
-use Rattle.salvage.proofs.save.Lts as lts
-use Rattle.base.proofs.copy.Reads as copy-reads
-use Rattle.flash.proofs.sectors.status_of.Reads as status-of-reads
-use Rattle.image.proofs.segments_of.Reads as segments-of-reads
-use Rattle.salvage.proofs.copied.Reads as copied-reads
-use Rattle.salvage.proofs.save_bad.Reads as save-bad-reads
 
--- src/lib.rt:178:9
 status-of-requires : tie.Need-status-of-requires
 status-of-requires c κs = search needs
 
--- src/lib.rt:180:26
 enum-told : tie.Need-enum-told
 enum-told c = search needs
 
--- src/lib.rt:180:26
 copied-requires : tie.Need-copied-requires
 copied-requires c κs = search needs
 
--- src/lib.rt:181:22
 enum-known-status : tie.Need-enum-known-status
 enum-known-status c = search needs
 
--- src/lib.rt:182:13
 copy-requires : tie.Need-copy-requires
 copy-requires c κs = omega (arith, long-as (c .before .before .before .before .before .before .before .args .first .now) (c .before .before .before .before .before .before .before .pre))
 
--- src/lib.rt:183:32
 shared-slice-read-segments-of : tie.Need-shared-slice-read-segments-of
 shared-slice-read-segments-of c = omega (arith, good-some (c .before .before .before .before .before .before .before .before .before .before .before .args .first .now) _ (sym (c .before .before .before .before .before .before .before .before .status-of .ensures) ∙ c .before .before .before .before .before .before .status .given .1))
 
--- src/lib.rt:183:20
 segments-of-requires : tie.Need-segments-of-requires
 segments-of-requires c κs = search needs
 
--- src/lib.rt:183:13
 copied-requires-2 : tie.Need-copied-requires-2
 copied-requires-2 c κs = search needs
 
--- src/lib.rt:185:40
 enum-told-2 : tie.Need-enum-told-2
 enum-told-2 c = search needs
 
--- src/lib.rt:185:24
 save-bad-requires : tie.Need-save-bad-requires
 save-bad-requires c κs = search needs
 
--- src/lib.rt:186:44
 enum-told-3 : tie.Need-enum-told-3
 enum-told-3 c = search needs
 
--- src/lib.rt:186:28
 save-bad-requires-2 : tie.Need-save-bad-requires-2
 save-bad-requires-2 c κs = search needs
 
--- src/lib.rt:174:1
 returns : tie.Need-returns
 returns c = saves-empty (c .before .before .before .before .before .before .args .first .now) (c .before .before .before .before .before .before .pre) (sym (c .before .before .before .status-of .ensures) ∙ c .before .enum-told .given .1) (c .copied .ensures)
 
--- src/lib.rt:174:1
 same-length : tie.Need-same-length
 same-length c = search needs
 
--- src/lib.rt:174:1
 returns-2 : tie.Need-returns-2
 returns-2 c = saves-good (c .before .before .before .before .before .before .before .before .before .before .before .before .before .args .first .now) (c .before .before .before .before .before .before .before .before .before .before .before .before .before .pre) (sym (c .before .before .before .before .before .before .before .before .before .before .status-of .ensures) ∙ c .before .before .before .before .before .before .before .before .status .given .1) (c .before .before .before .before .before .copy .ensures) (c .copied2 .ensures ∙ ap (λ (n : ℕ). kept n How.Copied) (c .before .segments-of .ensures))
 
--- src/lib.rt:174:1
 same-length-2 : tie.Need-same-length-2
 same-length-2 c = search needs
 
--- src/lib.rt:174:1
 returns-3 : tie.Need-returns-3
 returns-3 c = saves-bad (c .before .before .before .before .before .before .before .before .before .args .first .now) (c .before .before .before .before .before .before .before .before .before .pre) (sym (c .before .before .before .before .before .before .status-of .ensures) ∙ c .before .before .before .before .enum-told2 .given .1) (c .before .before .save-bad .ensures)
 
--- src/lib.rt:174:1
 same-length-3 : tie.Need-same-length-3
 same-length-3 c = search needs
 
--- src/lib.rt:174:1
 returns-4 : tie.Need-returns-4
 returns-4 c = saves-erasing (c .before .before .before .before .before .before .before .before .before .args .first .now) (c .before .before .before .before .before .before .before .before .before .pre) (sym (c .before .before .before .before .before .before .status-of .ensures) ∙ c .before .before .before .before .enum-told3 .given .1) (c .before .before .save-bad2 .ensures)
 

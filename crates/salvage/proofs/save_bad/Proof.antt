@@ -1,5 +1,6 @@
+-- `salvage::save_bad` meets its contract, by what was found (Saves). Assumes nothing.
 use Prim.Native.Nat.{ℕ}
-use mathlib.Core.Path.{_≡_, refl, sym, ap, _∙_}
+use mathlib.Core.Path.{_≡_, sym, ap, _∙_}
 use mathlib.Core.Bool.{_&&_}
 use lib.ListN.{length, getD, length-replicate, List·getD-eq-default}
 use native.Mathlib.Omega.{arith}
@@ -10,88 +11,62 @@ use Rattle.salvage.proofs.Saves.{valid-few, lost-bad, count, long, none
 use borrow.Author.Needs.{needs}
 use Rattle.salvage.proofs.save_bad.Statement.{statement}
 use Rattle.salvage.proofs.save_bad.Tie as tie
-use Rattle.salvage.proofs.save_bad.Reads as reads
-use Rattle.salvage.proofs.save_bad.Lts as lts
-use Rattle.image.proofs.header_ok.Reads as header-ok-reads
-use Rattle.image.proofs.segments_of.Reads as segments-of-reads
-use Rattle.salvage.proofs.can_follow.Reads as can-follow-reads
-use Rattle.salvage.proofs.keep.Reads as keep-reads
-use Rattle.salvage.proofs.lost.Reads as lost-reads
 
--- src/lib.rt:152:9
 lost-requires : tie.Need-lost-requires
 lost-requires c κs = search needs
 
--- src/lib.rt:152:9
 returns : tie.Need-returns
 unfolding headerOk
 returns c = let e : getD (c .before .before .before .before .args .first .now) 0 0 ≡ 0 = List·getD-eq-default (c .before .before .before .before .args .first .now) 0 {n = 0} (omega arith) in lost-bad (c .before .before .before .before .args .first .now) (c .before .before .before .before .pre) (ap (λ (h : ℕ). headerOk h && leads (segmentsOf h) (c .before .before .before .before .args .first .now) 1) e) (c .lost .ensures)
 
--- src/lib.rt:154:18
 shared-slice-read-header : tie.Need-shared-slice-read-header
 shared-slice-read-header c = search needs
 
--- src/lib.rt:155:9
 header-ok-requires : tie.Need-header-ok-requires
 header-ok-requires c κs = search needs
 
--- src/lib.rt:156:9
 lost-requires-2 : tie.Need-lost-requires-2
 lost-requires-2 c κs = search needs
 
--- src/lib.rt:156:9
 returns-2 : tie.Need-returns-2
 returns-2 c = lost-bad (c .before .before .before .before .before .before .before .args .first .now) (c .before .before .before .before .before .before .before .pre) (λ i. (sym (c .before .before .header-ok .ensures) ∙ not-true _ (c .before .if2 .taken)) i && leads (segmentsOf (getD (c .before .before .before .before .before .before .before .args .first .now) 0 0)) (c .before .before .before .before .before .before .before .args .first .now) 1) (c .lost2 .ensures)
 
--- src/lib.rt:158:9
 segments-of-requires : tie.Need-segments-of-requires
 segments-of-requires c κs = search needs
 
--- src/lib.rt:159:9
 can-follow-requires : tie.Need-can-follow-requires
 can-follow-requires c κs = search needs
 
--- src/lib.rt:160:9
 lost-requires-3 : tie.Need-lost-requires-3
 lost-requires-3 c κs = search needs
 
--- src/lib.rt:160:9
 returns-3 : tie.Need-returns-3
 returns-3 c = lost-bad (c .before .before .before .before .before .before .before .before .before .before .args .first .now) (c .before .before .before .before .before .before .before .before .before .before .pre) (λ i. (sym (c .before .before .before .before .before .header-ok .ensures) ∙ not-false _ (c .before .before .before .before .if2 .left)) i && (ap (λ (n : ℕ). leads n (c .before .before .before .before .before .before .before .before .before .before .args .first .now) 1) (sym (c .before .before .before .segments-of .ensures)) ∙ sym (c .before .before .can-follow .ensures) ∙ not-true _ (c .before .if3 .taken)) i) (c .lost3 .ensures)
 
--- src/lib.rt:162:9
 keep-requires : tie.Need-keep-requires
 keep-requires c κs = (sym (c .before .before .can-follow .ensures) ∙ not-false _ (c .before .if3 .left), omega (arith, ap length (c .before .before .before .before .before .before .before .before .before .before .pre), length-replicate {A = ℕ} (length (c .before .before .before .before .before .before .before .before .before .before .args .first .now)) 0xFFFF), omega (arith, c .before .before .before .segments-of .ensures))
 
--- src/lib.rt:164:9
 lost-requires-4 : tie.Need-lost-requires-4
 lost-requires-4 c κs = search needs
 
--- src/lib.rt:164:9
 same-length : tie.Need-same-length
 same-length c = search needs
 
--- src/lib.rt:164:9
 returns-4 : tie.Need-returns-4
 returns-4 c = none-kept (c .before .before .before .before .before .before .before .before .before .before .before .before .before .before .before .before .args .first .now) (c .before .before .before .before .before .before .before .before .before .before .before .before .before .before .before .before .pre) (λ i. (sym (c .before .before .before .before .before .before .before .before .before .before .before .header-ok .ensures) ∙ not-false _ (c .before .before .before .before .before .before .before .before .before .before .if2 .left)) i && (ap (λ (n : ℕ). leads n (c .before .before .before .before .before .before .before .before .before .before .before .before .before .before .before .before .args .first .now) 1) (sym (c .before .before .before .before .before .before .before .before .before .segments-of .ensures)) ∙ sym (c .before .before .before .before .before .before .before .before .can-follow .ensures) ∙ not-false _ (c .before .before .before .before .before .before .before .if3 .left)) i) (c .before .before .before .before .before .keep .ensures ∙ ap (λ (n : ℕ). allKept (validFrom n (c .before .before .before .before .before .before .before .before .before .before .before .before .before .before .before .before .args .first .now) 1) (filling (c .before .before .before .before .before .before .before .before .before .before .before .before .before .before .before .before .args .second .now) 0 1)) (c .before .before .before .before .before .before .before .before .before .segments-of .ensures)) (c .before .if4 .taken) (c .lost4 .ensures)
 
--- src/lib.rt:166:17
 mul-second : tie.Need-mul-second
 mul-second c = omega (arith, c .before .before .before .before .before .before .before .before .before .before .before .shared-slice-known2 .given 0)
 
--- src/lib.rt:166:17
 add-second : tie.Need-add-second
 add-second c = omega (arith, c .before .before .before .before .before .before .before .before .before .before .before .before .shared-slice-known2 .given 0, count (c .before .before .before .before .before .before .before .before .before .before .before .before .before .before .before .before .args .first .now) (c .before .before .before .before .before .before .before .before .before .before .before .before .before .before .before .before .pre) (λ i. (sym (c .before .before .before .before .before .before .before .before .before .before .before .header-ok .ensures) ∙ not-false _ (c .before .before .before .before .before .before .before .before .before .before .if2 .left)) i && (ap (λ (n : ℕ). leads n (c .before .before .before .before .before .before .before .before .before .before .before .before .before .before .before .before .args .first .now) 1) (sym (c .before .before .before .before .before .before .before .before .before .segments-of .ensures)) ∙ sym (c .before .before .before .before .before .before .before .before .can-follow .ensures) ∙ not-false _ (c .before .before .before .before .before .before .before .if3 .left)) i) (c .before .before .before .before .before .keep .ensures ∙ ap (λ (n : ℕ). allKept (validFrom n (c .before .before .before .before .before .before .before .before .before .before .before .before .before .before .before .before .args .first .now) 1) (filling (c .before .before .before .before .before .before .before .before .before .before .before .before .before .before .before .before .args .second .now) 0 1)) (c .before .before .before .before .before .before .before .before .before .segments-of .ensures)), valid-few (segmentsOf (getD (c .before .before .before .before .before .before .before .before .before .before .before .before .before .before .before .before .args .first .now) 0 0)) (c .before .before .before .before .before .before .before .before .before .before .before .before .before .before .before .before .args .first .now) 1)
 
--- src/lib.rt:166:5
 slice-write-second : tie.Need-slice-write-second
 slice-write-second c = omega (arith, long (c .before .before .before .before .before .before .before .before .before .before .before .before .before .before .before .before .args .first .now) (c .before .before .before .before .before .before .before .before .before .before .before .before .before .before .before .before .pre) (λ i. (sym (c .before .before .before .before .before .before .before .before .before .before .before .header-ok .ensures) ∙ not-false _ (c .before .before .before .before .before .before .before .before .before .before .if2 .left)) i && (ap (λ (n : ℕ). leads n (c .before .before .before .before .before .before .before .before .before .before .before .before .before .before .before .before .args .first .now) 1) (sym (c .before .before .before .before .before .before .before .before .before .segments-of .ensures)) ∙ sym (c .before .before .before .before .before .before .before .before .can-follow .ensures) ∙ not-false _ (c .before .before .before .before .before .before .before .if3 .left)) i) (c .before .before .before .before .before .keep .ensures ∙ ap (λ (n : ℕ). allKept (validFrom n (c .before .before .before .before .before .before .before .before .before .before .before .before .before .before .before .before .args .first .now) 1) (filling (c .before .before .before .before .before .before .before .before .before .before .before .before .before .before .before .before .args .second .now) 0 1)) (c .before .before .before .before .before .before .before .before .before .segments-of .ensures)))
 
--- src/lib.rt:147:1
 same-length-2 : tie.Need-same-length-2
 same-length-2 c = search needs
 
--- src/lib.rt:147:1
 returns-5 : tie.Need-returns-5
 returns-5 c = some-kept (c .before .before .before .before .before .before .before .before .before .before .before .before .before .before .before .before .args .first .now) (c .before .before .before .before .before .before .before .before .before .before .before .before .before .before .before .before .pre) (λ i. (sym (c .before .before .before .before .before .before .before .before .before .before .before .header-ok .ensures) ∙ not-false _ (c .before .before .before .before .before .before .before .before .before .before .if2 .left)) i && (ap (λ (n : ℕ). leads n (c .before .before .before .before .before .before .before .before .before .before .before .before .before .before .before .before .args .first .now) 1) (sym (c .before .before .before .before .before .before .before .before .before .segments-of .ensures)) ∙ sym (c .before .before .before .before .before .before .before .before .can-follow .ensures) ∙ not-false _ (c .before .before .before .before .before .before .before .if3 .left)) i) (c .before .before .before .before .before .keep .ensures ∙ ap (λ (n : ℕ). allKept (validFrom n (c .before .before .before .before .before .before .before .before .before .before .before .before .before .before .before .before .args .first .now) 1) (filling (c .before .before .before .before .before .before .before .before .before .before .before .before .before .before .before .before .args .second .now) 0 1)) (c .before .before .before .before .before .before .before .before .before .segments-of .ensures)) (omega arith) (c .before .if4 .left)
 

@@ -1,5 +1,4 @@
 -- `salvage::span_end` meets its contract: what is tested is the definition's. Assumes nothing.
-use Prim.Native.Nat.{_+_}
 use mathlib.Core.Path.{refl, sym, _∙_}
 use lib.ListN.{length}
 use native.Mathlib.Omega.{arith}

@@ -1,3 +1,4 @@
+-- `salvage_vectors::answer` meets its contract: a part of a blank run is blank. Assumes nothing.
 use Prim.Native.Nat.{_-_}
 use mathlib.Core.Path.{_≡_, ap, _∙_}
 use native.Mathlib.Omega.{arith}
@@ -7,36 +8,25 @@ use Rattle.salvage.proofs.Saves.{blank-part}
 use borrow.Author.Needs.{needs}
 use Rattle.salvage_vectors.proofs.answer.Statement.{statement}
 use Rattle.salvage_vectors.proofs.answer.Tie as tie
-use Rattle.salvage_vectors.proofs.answer.Reads as reads
-use Rattle.salvage_vectors.proofs.answer.Lts as lts
-use Rattle.salvage_vectors.proofs.blank_room.Reads as blank-room-reads
-use Rattle.salvage_vectors.proofs.say_saved.Reads as say-saved-reads
 
--- src/main.rt:75:21
 blank-room-requires : tie.Need-blank-room-requires
 blank-room-requires c κs = search needs
 
--- src/main.rt:78:9
 returns : tie.Need-returns
 returns c = search needs
 
--- src/main.rt:80:22
 sub-say-saved : tie.Need-sub-say-saved
 sub-say-saved c = search needs
 
--- src/main.rt:80:22
 part-place-start : tie.Need-part-place-start
 part-place-start c = search needs
 
--- src/main.rt:80:22
 part-place-end : tie.Need-part-place-end
 part-place-end c = search needs
 
--- src/main.rt:80:5
 say-saved-requires : tie.Need-say-saved-requires
 say-saved-requires c κs = let len = length (c .before .before .before .before .args .words .now) in let e : len - 0 ≡ len = omega arith in ap (take (len - 0)) (c .before .before .blank-room .ensures) ∙ blank-part 4096 0 (len - 0) (omega arith) ∙ ap blanks e
 
--- src/main.rt:74:1
 returns-2 : tie.Need-returns-2
 returns-2 c = search needs
 

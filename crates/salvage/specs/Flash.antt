@@ -1,0 +1,53 @@
+-- A whole flash saved in a second one: 02, request 14. Assumes nothing.
+use Prim.Native.Nat.{ℕ, zero, suc, _+_, _*_}
+use mathlib.Core.Bool.{Bool, _||_, not}
+use mathlib.Core.List.{List, [], _++_}
+use lib.Dec.{eqb}
+use lib.ListN.{length}
+use Rattle.base.specs.Pick.{pick}
+use Rattle.base.specs.Words.{blanks}
+use Rattle.flash.specs.Geometry.{unitOf, sectorOf}
+use Rattle.flash.specs.Status.{isEmpty}
+use Rattle.salvage.specs.Sector.{savedOf}
+use Rattle.salvage.specs.declared.How.{How}
+use Rattle.salvage.specs.declared.Kept.{Kept}
+
+-- Refusal 1, the first flash has neither 32,768 nor 262,144 words; then 12, the second has another size or isn't blank; 0 where neither holds.
+abbrev pub isSize : ℕ → Bool
+isSize n = eqb n 32768 || eqb n 262144
+
+unfoldable pub refusalOf : List ℕ → List ℕ → ℕ
+refusalOf first second = pick (not (isSize (length first))) 1 (pick (not (eqb (length second) (length first)) || not (isEmpty second)) 12 0)
+
+-- The sectors from one on, so many, as they are saved, one behind the other.
+unfoldable pub wordsFrom : ℕ → ℕ → List ℕ → List ℕ
+wordsFrom zero s first = []
+wordsFrom (suc n) s first = savedOf (sectorOf first s) .words ++ wordsFrom n (s + 1) first
+
+-- The second flash: sectors 0 to 2, which are the words before sector 3, stay blank; then sectors 3 to 10.
+abbrev pub savedFlash : List ℕ → List ℕ
+savedFlash first = blanks (unitOf first) ++ wordsFrom 8 3 first
+
+-- The number that tells it, of a sector in six bits: the segments kept in the low four, above them 1 copied, 2 reduced, 3 lost; that of sector 3 lowest.
+abbrev pub howNumber : How → ℕ
+howNumber How.Copied = 1
+howNumber How.Reduced = 2
+howNumber How.Lost = 3
+
+abbrev pub sectorNumber : Kept → ℕ
+sectorNumber k = howNumber (k .how) * 16 + k .segments
+
+unfoldable pub numberFrom : ℕ → ℕ → List ℕ → ℕ
+numberFrom zero s first = 0
+numberFrom (suc n) s first = numberFrom n (s + 1) first * 64 + sectorNumber (savedOf (sectorOf first s) .kept)
+
+-- The number answered, and the second flash: the refusal in bits 7-0, and nothing is written; or above them what is told of the sectors.
+pub record Told : Type 0 where
+  pub number : ℕ
+  pub second : List ℕ
+
+abbrev pub told : ℕ → List ℕ → Told
+told number second = record { number = number; second = second }
+
+unfoldable pub salvageOf : List ℕ → List ℕ → Told
+salvageOf first second = pick (eqb (refusalOf first second) 0) (told (numberFrom 8 3 first * 256) (savedFlash first)) (told (refusalOf first second) second)
