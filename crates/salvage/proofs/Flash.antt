@@ -61,14 +61,14 @@ module _ (first second words : List ℕ) (s start end : ℕ) (is : words ≡ sec
 abbrev pub edge : ℕ → ℕ → ℕ
 edge u s = pick (eqb s 3) u ((s - 3) * (u * 2))
 
-begins-at : (u s : ℕ) → 3 ≤ s → s ≤ 10 → startOf u s ≡ edge u s
+pub begins-at : (u s : ℕ) → 3 ≤ s → s ≤ 10 → startOf u s ≡ edge u s
 begins-at u s l m = by (eqb s 3) refl
   where
     by : (t : Bool) → eqb s 3 ≡ t → startOf u s ≡ pick t u ((s - 3) * (u * 2))
     by true e = by-third s u ((s - 3) * (u * 2)) (eqb-true s 3 e)
     by false e = by-later s u ((s - 3) * (u * 2)) (is-sector s l m) (eqb-false s 3 e)
 
-ends-at : (u s : ℕ) → 3 ≤ s → s ≤ 10 → startOf u s + sizeOf u s ≡ edge u (s + 1)
+pub ends-at : (u s : ℕ) → 3 ≤ s → s ≤ 10 → startOf u s + sizeOf u s ≡ edge u (s + 1)
 ends-at u s l m = by (eqb s 3) refl
   where
     next : edge u (s + 1) ≡ (s + 1 - 3) * (u * 2)
@@ -112,7 +112,7 @@ how-few How.Lost = omega arith
 pub six-bits : (words : List ℕ) → sectorNumber (savedOf words .kept) ≤ 63
 six-bits words = omega (arith, how-few (savedOf words .kept .how), kept-few words)
 
-number-small : (n s : ℕ) (first : List ℕ) → numberFrom n s first + 1 ≤ 64 ^ n
+pub number-small : (n s : ℕ) (first : List ℕ) → numberFrom n s first + 1 ≤ 64 ^ n
 unfolding numberFrom
 number-small zero s first = omega arith
 number-small (suc n) s first =
@@ -217,7 +217,7 @@ whole-units n e = by (eqb n 32768) (eqb n 262144) refl refl e
 
 -- refused or saved
 module _ (first second : List ℕ) where
-  by-refusal : (r : ℕ) → refusalOf first second ≡ r → pick (eqb r 0) (told (numberFrom 8 3 first * 256) (savedFlash first)) (told r second) ≡ salvageOf first second
+  pub by-refusal : (r : ℕ) → refusalOf first second ≡ r → pick (eqb r 0) (told (numberFrom 8 3 first * 256) (savedFlash first)) (told r second) ≡ salvageOf first second
   unfolding salvageOf
   by-refusal r e = sym (ap (λ (x : ℕ). pick (eqb x 0) (told (numberFrom 8 3 first * 256) (savedFlash first)) (told x second)) e)
 

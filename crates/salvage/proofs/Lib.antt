@@ -3,3 +3,5 @@ pub mod Keeps
 pub mod Saves
 pub mod Promised
 pub mod Flash
+pub mod Runs
+pub mod ShutOut

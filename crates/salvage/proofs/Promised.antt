@@ -1,6 +1,6 @@
 -- A file of valid segments is valid, so a sector that is saved is empty or good, and is then copied. Assumes nothing.
-use Prim.Native.Nat.{ℕ, zero, suc, _+_, _-_, _≤_, _<_}
-use mathlib.Core.Path.{_≡_, refl, sym, ap, _∙_}
+use Prim.Native.Nat.{ℕ, zero, suc, _+_, _-_, _/_, _≤_, _<_}
+use mathlib.Core.Path.{_≡_, refl, sym, ap, subst, _∙_}
 use mathlib.Core.Bool.{Bool, true, false, _&&_, false≢true}
 use mathlib.Core.List.{List, [], _∷_, _++_, append-assoc}
 use native.Mathlib.Nat.{add-zero}
@@ -8,10 +8,10 @@ use native.Mathlib.Omega.{arith}
 use lib.Dec.{leb, ltb, eqb}
 use lib.ListN.{length, getD, take, drop, length-append, length-replicate}
 use lib.Seq.{take-add, take-all, drop-drop, drop-at, getD-take, getD-drop}
-use borrow.Author.Tests.{ne-eqb, eqb-false, le-leb, leb-true, ltb-true, lt-ltb}
+use borrow.Author.Tests.{eq-eqb, ne-eqb, le-leb, leb-true, leb-false, ltb-true, lt-ltb}
 use Rattle.base.specs.Pick.{pick}
 use Rattle.base.specs.Words.{part, laid, blanks}
-use Rattle.base.proofs.Pick.{no, pick-case, and-left, and-right}
+use Rattle.base.proofs.Pick.{yes, no, pick-case, and-left, and-right}
 use Rattle.base.proofs.Part.{length-part, part-append}
 use Rattle.base.proofs.Laid.{length-laid}
 use Rattle.image.specs.Header.{typeOf, headerOk, segmentsOf}
@@ -19,16 +19,16 @@ use Rattle.image.specs.Segment.{spanOf, segmentOk, segmentEnd}
 use Rattle.image.specs.File.{walk, fileEnd}
 use Rattle.image.specs.declared.End.{End}
 use Rattle.image.specs.declared.Span.{Span}
-use Rattle.image.proofs.Segment.{segment-told, segment-tells}
+use Rattle.image.proofs.Segment.{SegmentAt, segment-told, segment-tells}
 use Rattle.image.proofs.File.{walk-told, walk-end, file-told}
 use Rattle.flash.specs.Status.{isEmpty, statusBy, statusOf}
 use Rattle.flash.specs.declared.Status.{Status}
 use Rattle.flash.proofs.Statuses.{empty-blanks, empty-drop, status-empty}
 use Rattle.salvage.specs.Follow.{spanEnd, leadsBy, leads, validBy, validFrom, wordsIn}
 use Rattle.salvage.specs.Sector.{kept, Saved, saved, lost, counted, fileOf, savedBad, savedAs, savedOf}
-use Rattle.salvage.specs.Promised.{isSound, EmptyOrGood, SameSize, AgainTheSame, dividedBy, divided, validOnes, AllTheValid}
+use Rattle.salvage.specs.Promised.{isSound, standing, dividedBy, divided, segmentsIn, canFollow, Divides, validOnes, hasValid, Reduces, Promised}
 use Rattle.salvage.specs.declared.How.{How}
-use Rattle.salvage.proofs.Follow.{span-tells}
+use Rattle.salvage.proofs.Follow.{by-span, span-tells}
 use Rattle.salvage.proofs.Saves.{valid-few}
 
 -- segments that are valid by themselves, as long as their headers say
@@ -69,40 +69,74 @@ all-valid (suc n) words at = by (spanEnd words at) refl (λ end. all-valid n wor
         pick-case AllValid (segmentOk (part words at (end - at))) (λ ok. (alone words at end e ok, rest end)) (λ _. rest end)
     by End.Invalid e rest = tt
 
--- the same segments behind some words
+-- one that is valid by itself is so behind some words, and its header leads past it
+module _ (front s tail : List ℕ) (v : segmentEnd s 0 ≡ End.At (length s)) where
+  abbrev all : List ℕ
+  all = front ++ (s ++ tail)
+
+  abbrev past : ℕ
+  past = length front + length s
+
+  here : part all (length front) (length s) ≡ s
+  here = part-append front s tail (length front) (length s) refl refl
+
+  placed : SegmentAt all (length front) past
+  placed =
+      let t = segment-tells s 0 (length s) v in
+      let size : t .size ≡ length s = omega (arith, t .ends) in
+      let head : getD all (length front) 0 ≡ getD s 0 0 =
+      sym (part-first all (length front) (length s) (omega (arith, size, t .least))) ∙ ap (λ (l : List ℕ). getD l 0 0) here in
+      record {
+        size = length s;
+        span = ap spanOf head ∙ t .span ∙ ap Span.Words size;
+        ends = refl;
+        fits = omega (arith, length-append front (s ++ tail), length-append s tail);
+        least = omega (arith, t .least, size);
+        valid = ap segmentOk here ∙ sym (ap (λ (n : ℕ). segmentOk (take n s)) size ∙ ap segmentOk (take-all (length s) s (omega arith))) ∙ t .valid;
+      }
+
+  led : spanEnd all (length front) ≡ End.At past
+  led =
+      sym (by-span all (length front) (omega (arith, placed .fits, placed .least, placed .ends)) (placed .span)
+      (yes _ (le-leb (length front + placed .size) (length all) (omega (arith, placed .fits, placed .ends))) (ap End.At (sym (placed .ends)))))
+
+-- all of them behind some words: `image` finds them valid, and their headers divide them as they are
+module _ (front s : List ℕ) (ss : List (List ℕ)) (rest : List ℕ) where
+  split : front ++ ((s ++ wordsIn ss) ++ rest) ≡ front ++ (s ++ (wordsIn ss ++ rest))
+  split = ap (λ (l : List ℕ). front ++ l) (append-assoc s (wordsIn ss) rest)
+
+  more : (front ++ s) ++ (wordsIn ss ++ rest) ≡ front ++ (s ++ (wordsIn ss ++ rest))
+  more = append-assoc front s (wordsIn ss ++ rest)
+
 walked : (front : List ℕ) (ss : List (List ℕ)) (rest : List ℕ) → AllValid ss
     → walk (length ss) (front ++ (wordsIn ss ++ rest)) (length front) ≡ End.At (length front + length (wordsIn ss))
 unfolding AllValid wordsIn
 walked front [] rest v = walk-end 0 _ _ (omega arith) ∙ ap End.At (sym (add-zero (length front)))
 walked front (s ∷ ss) rest v =
     let W : List ℕ = wordsIn ss in
-    let words : List ℕ = front ++ ((s ++ W) ++ rest) in
-    let split : words ≡ front ++ (s ++ (W ++ rest)) = ap (λ (l : List ℕ). front ++ l) (append-assoc s W rest) in
-    let t = segment-tells s 0 (length s) (v .0) in
-    let size : t .size ≡ length s = omega (arith, t .ends) in
-    let here : part words (length front) (length s) ≡ s =
-    ap (λ (l : List ℕ). part l (length front) (length s)) split ∙ part-append front s (W ++ rest) (length front) (length s) refl refl in
-    let head : getD words (length front) 0 ≡ getD s 0 0 =
-    sym (part-first words (length front) (length s) (omega (arith, size, t .least))) ∙ ap (λ (l : List ℕ). getD l 0 0) here in
-    let first : segmentEnd words (length front) ≡ End.At (length front + length s) =
-    segment-told words (length front) (length front + length s)
-    (record {
-      size = length s;
-      span = ap spanOf head ∙ t .span ∙ ap Span.Words size;
-      ends = refl;
-      fits = omega (arith, length-append front ((s ++ W) ++ rest), length-append (s ++ W) rest, length-append s W);
-      least = omega (arith, t .least, size);
-      valid = ap segmentOk here ∙ sym (ap (λ (n : ℕ). segmentOk (take n s)) size ∙ ap segmentOk (take-all (length s) s (omega arith))) ∙ t .valid;
-    }) in
-    let more : (front ++ s) ++ (W ++ rest) ≡ words = append-assoc front s (W ++ rest) ∙ sym split in
+    let words : List ℕ = front ++ (s ++ (W ++ rest)) in
     let at : length (front ++ s) ≡ length front + length s = length-append front s in
     let end : length (front ++ s) + length W ≡ length front + length (s ++ W) = omega (arith, at, length-append s W) in
-    walk-told (length ss) words (length front) (length front + length (s ++ W))
+    ap (λ (ws : List ℕ). walk (suc (length ss)) ws (length front)) (split front s ss rest)
+    ∙ walk-told (length ss) words (length front) (length front + length (s ++ W))
     (record {
       next = length front + length s;
-      first = first;
-      rest = (λ i. walk (length ss) (sym more i) (sym at i)) ∙ walked (front ++ s) ss rest (v .1) ∙ ap End.At end;
+      first = segment-told words (length front) (length front + length s) (placed front s (W ++ rest) (v .0));
+      rest = (λ i. walk (length ss) (sym (more front s ss rest) i) (sym at i)) ∙ walked (front ++ s) ss rest (v .1) ∙ ap End.At end;
     })
+
+divides-them : (front : List ℕ) (ss : List (List ℕ)) (rest : List ℕ) → AllValid ss → divided (length ss) (front ++ (wordsIn ss ++ rest)) (length front) ≡ ss
+unfolding AllValid wordsIn divided
+divides-them front [] rest v = refl
+divides-them front (s ∷ ss) rest v =
+    let W : List ℕ = wordsIn ss in
+    let words : List ℕ = front ++ (s ++ (W ++ rest)) in
+    let at : length (front ++ s) ≡ length front + length s = length-append front s in
+    let size : length front + length s - length front ≡ length s = omega arith in
+    ap (λ (ws : List ℕ). divided (suc (length ss)) ws (length front)) (split front s ss rest)
+    ∙ ap (λ (e : End). dividedBy words (length front) e (λ end. divided (length ss) words end)) (led front s (W ++ rest) (v .0))
+    ∙ (λ i. (ap (λ (n : ℕ). part words (length front) n) size ∙ here front s (W ++ rest) (v .0)) i
+    ∷ ((λ j. divided (length ss) (sym (more front s ss rest) j) (sym at j)) ∙ divides-them (front ++ s) ss rest (v .1)) i)
 
 -- a sector that holds a file of them, and is blank behind it
 module _ (header n : ℕ) (ss : List (List ℕ)) (ok : headerOk header ≡ true) (some : 1 ≤ length ss) (few : length ss ≤ 14) (valid : AllValid ss) where
@@ -156,57 +190,13 @@ module _ (header n : ℕ) (ss : List (List ℕ)) (ok : headerOk header ≡ true)
   unfolding laid
   head-is = same-count
 
--- what is saved
-abbrev Fine : Saved → Type 0
-Fine s = (isSound (statusOf (s .words)) ≡ true) × (savedOf (s .words) ≡ saved (kept (s .kept .segments) How.Copied) (s .words))
+  same-name : getD sector 0 0 / 16 ≡ header / 16
+  unfolding laid
+  same-name = omega (arith, few)
 
-fine-lost : (words : List ℕ) → Fine (lost words)
-unfolding savedOf
-fine-lost words =
-    let e = status-empty (blanks (length words)) (empty-blanks (length words)) in
-    (ap isSound e, ap (λ (s : Status). savedAs s (blanks (length words))) e)
-
-fine-bad : (words : List ℕ) → Fine (savedBad words)
-unfolding savedOf headerOk
-fine-bad words =
-    pick-case Fine (headerOk header && leads (segmentsOf header) words 1)
-    (λ e. pick-case Fine (eqb (length valid) 0) (λ _. fine-lost words)
-    (λ z.
-    let ok = and-left (headerOk header) (leads (segmentsOf header) words 1) e in
-    let some : 1 ≤ length valid = positive (eqb-false (length valid) 0 z) in
-    let few : length valid ≤ 14 = omega (arith, valid-few (segmentsOf header) words 1, most ok) in
-    let g = good-file header (length words) valid ok some few (all-valid (segmentsOf header) words 1) in
-    let h = head-is header (length words) valid ok some few (all-valid (segmentsOf header) words 1) in
-    (ap isSound g, ap (λ (s : Status). savedAs s (laid (blanks (length words)) 0 (fileOf header valid))) g ∙ ap (λ (k : ℕ). saved (kept k How.Copied) (laid (blanks (length words)) 0 (fileOf header valid))) h)))
-    (λ _. fine-lost words)
-  where
-    header : ℕ
-    header = getD words 0 0
-
-    valid : List (List ℕ)
-    valid = validFrom (segmentsOf header) words 1
-
-    positive : (length valid ≡ 0 → ⊥) → 1 ≤ length valid
-    positive f = omega (arith, f)
-
-    most : headerOk header ≡ true → segmentsOf header ≤ 14
-    most ok = leb-true (segmentsOf header) 14 (and-right (ltb (typeOf header) 2 && leb 1 (segmentsOf header)) (leb (segmentsOf header) 14) ok)
-
-fine : (words : List ℕ) → Fine (savedOf words)
-unfolding savedOf
-fine words = by (statusOf words) refl
-  where
-    by : (s : Status) → statusOf words ≡ s → Fine (savedAs s words)
-    by Status.Empty e = (ap isSound e, ap (λ (s : Status). savedAs s words) e)
-    by (Status.Good n) e = (ap isSound e, ap (λ (s : Status). savedAs s words) e)
-    by Status.Bad e = fine-bad words
-    by Status.Erasing e = fine-bad words
-
-pub empty-or-good : EmptyOrGood
-empty-or-good words = fine words .0
-
-pub again-the-same : AgainTheSame
-again-the-same words = fine words .1
+  its-segments : segmentsIn sector ≡ ss
+  unfolding laid rest
+  its-segments = ap (λ (k : ℕ). divided k sector 1) same-count ∙ divides-them (counted header (length ss) ∷ []) ss rest valid
 
 -- those kept fit where the headers lead
 valid-fit : (n : ℕ) (words : List ℕ) (at : ℕ) → leads n words at ≡ true → at ≤ length words → at + length (wordsIn (validFrom n words at)) ≤ length words
@@ -249,7 +239,7 @@ same-bad words =
     long [] e = absurd (false≢true e)
     long (w ∷ ws) e = omega arith
 
-pub same-size : SameSize
+pub same-size : (words : List ℕ) → length (savedOf words .words) ≡ length words
 unfolding savedOf
 same-size words = by (statusOf words)
   where
@@ -301,5 +291,117 @@ divided-words (suc n) words at e = by (spanEnd words at) refl e (λ end. divided
         ∙ ap (λ (k : ℕ). part words at k) total
     by End.Invalid q f rest = absurd (false≢true f)
 
-pub all-the-valid : AllTheValid
-all-the-valid = record { kept = valid-ones; count = divided-count; sources = divided-words }
+pub divides : (words : List ℕ) → canFollow words ≡ true → Divides words
+divides words e =
+    let l = and-right (headerOk (getD words 0 0)) (leads (segmentsOf (getD words 0 0)) words 1) e in
+    record { count = divided-count (segmentsOf (getD words 0 0)) words 1 l; sources = divided-words (segmentsOf (getD words 0 0)) words 1 l }
+
+-- a sector saved: it is empty or good, and is then copied
+abbrev Fine : Saved → Type 0
+Fine s = (isSound (statusOf (s .words)) ≡ true) × (savedOf (s .words) ≡ saved (kept (s .kept .segments) How.Copied) (s .words))
+
+-- what is saved of a bad sector, by whether it has a valid segment
+module _ (words : List ℕ) where
+  abbrev header : ℕ
+  header = getD words 0 0
+
+  abbrev valid : List (List ℕ)
+  valid = validFrom (segmentsOf header) words 1
+
+  abbrev reducedTo : Saved
+  reducedTo = saved (kept (length valid) How.Reduced) (laid (blanks (length words)) 0 (fileOf header valid))
+
+  ones : valid ≡ validOnes (segmentsIn words)
+  ones = valid-ones (segmentsOf header) words 1
+
+  module _ (e : hasValid words ≡ true) where
+    follows : canFollow words ≡ true
+    follows = and-left (canFollow words) (leb 1 (length (validOnes (segmentsIn words)))) e
+
+    head : headerOk header ≡ true
+    head = and-left (headerOk header) (leads (segmentsOf header) words 1) follows
+
+    some : 1 ≤ length valid
+    some = omega (arith, leb-true 1 (length (validOnes (segmentsIn words))) (and-right (canFollow words) (leb 1 (length (validOnes (segmentsIn words)))) e), ap length ones)
+
+    few : length valid ≤ 14
+    unfolding headerOk
+    few = omega (arith, valid-few (segmentsOf header) words 1, leb-true (segmentsOf header) 14 (and-right (ltb (typeOf header) 2 && leb 1 (segmentsOf header)) (leb (segmentsOf header) 14) head))
+
+    bad-reduced : reducedTo ≡ savedBad words
+    bad-reduced = yes _ follows (no _ (ne-eqb (length valid) 0 (λ z. omega (arith, z, some))) refl)
+
+    fine-reduced : Fine reducedTo
+    unfolding savedOf
+    fine-reduced =
+        let g = good-file header (length words) valid head some few (all-valid (segmentsOf header) words 1) in
+        let h = head-is header (length words) valid head some few (all-valid (segmentsOf header) words 1) in
+        (ap isSound g, ap (λ (s : Status). savedAs s (reducedTo .words)) g ∙ ap (λ (k : ℕ). saved (kept k How.Copied) (reducedTo .words)) h)
+
+    reduces : Reduces words reducedTo
+    reduces = record {
+      told = ap (λ (ss : List (List ℕ)). kept (length ss) How.Reduced) ones;
+      segments = its-segments header (length words) valid head some few (all-valid (segmentsOf header) words 1) ∙ ones;
+      header = same-name header (length words) valid head some few (all-valid (segmentsOf header) words 1);
+    }
+
+  bad-lost : hasValid words ≡ false → lost words ≡ savedBad words
+  bad-lost e = by (canFollow words) refl e
+    where
+      by : (t : Bool) → canFollow words ≡ t → (t && leb 1 (length (validOnes (segmentsIn words)))) ≡ false → lost words ≡ savedBad words
+      by false f q = no _ f refl
+      by true f q = yes _ f (yes _ (eq-eqb (length valid) 0 (omega (arith, leb-false 1 (length (validOnes (segmentsIn words))) q, ap length ones))) refl)
+
+  fine-lost : Fine (lost words)
+  unfolding savedOf
+  fine-lost =
+      let e = status-empty (blanks (length words)) (empty-blanks (length words)) in
+      (ap isSound e, ap (λ (s : Status). savedAs s (blanks (length words))) e)
+
+  fine-bad : Fine (savedBad words)
+  fine-bad = by (hasValid words) refl
+    where
+      by : (t : Bool) → hasValid words ≡ t → Fine (savedBad words)
+      by true e = subst Fine (bad-reduced e) (fine-reduced e)
+      by false e = subst Fine (bad-lost e) fine-lost
+
+  -- and of any
+  fine : Fine (savedOf words)
+  unfolding savedOf
+  fine = by (statusOf words) refl
+    where
+      by : (s : Status) → statusOf words ≡ s → Fine (savedAs s words)
+      by Status.Empty e = (ap isSound e, ap (λ (s : Status). savedAs s words) e)
+      by (Status.Good n) e = (ap isSound e, ap (λ (s : Status). savedAs s words) e)
+      by Status.Bad e = fine-bad
+      by Status.Erasing e = fine-bad
+
+  as-it-is : isSound (statusOf words) ≡ true → savedOf words ≡ saved (kept (standing (statusOf words) words) How.Copied) words
+  unfolding savedOf
+  as-it-is = by (statusOf words)
+    where
+      by : (s : Status) → isSound s ≡ true → savedAs s words ≡ saved (kept (standing s words) How.Copied) words
+      by Status.Empty e = refl
+      by (Status.Good n) e = refl
+      by Status.Bad e = absurd (false≢true e)
+      by Status.Erasing e = absurd (false≢true e)
+
+  as-bad : isSound (statusOf words) ≡ false → savedBad words ≡ savedOf words
+  unfolding savedOf
+  as-bad = by (statusOf words)
+    where
+      by : (s : Status) → isSound s ≡ false → savedBad words ≡ savedAs s words
+      by Status.Empty e = absurd (false≢true (sym e))
+      by (Status.Good n) e = absurd (false≢true (sym e))
+      by Status.Bad e = refl
+      by Status.Erasing e = refl
+
+pub promised : Promised savedOf
+promised = record {
+  size = same-size;
+  sound = λ words. fine words .0;
+  again = λ words. fine words .1;
+  copied = as-it-is;
+  reduced = λ words e h. subst (Reduces words) (bad-reduced words h ∙ as-bad words e) (reduces words h);
+  lost = λ words e h. sym (bad-lost words h ∙ as-bad words e);
+}

@@ -1,35 +1,33 @@
--- What is promised of a sector that is saved: 02, request 14. Assumes nothing.
-use Prim.Native.Nat.{ℕ, zero, suc, _-_}
+-- What is promised of a sector that is saved, whatever saves it: 02, request 14. Assumes nothing.
+use Prim.Native.Nat.{ℕ, zero, suc, _-_, _/_}
 use mathlib.Core.Path.{_≡_}
-use mathlib.Core.Bool.{Bool, true, false}
+use mathlib.Core.Bool.{Bool, true, false, _&&_}
 use mathlib.Core.List.{List, [], _∷_}
-use lib.ListN.{length}
+use lib.Dec.{leb}
+use lib.ListN.{length, getD}
 use Rattle.base.specs.Pick.{pick}
 use Rattle.base.specs.Words.{part}
+use Rattle.image.specs.Header.{headerOk, segmentsOf}
 use Rattle.image.specs.Segment.{segmentOk}
 use Rattle.image.specs.declared.End.{End}
 use Rattle.flash.specs.Status.{statusOf}
 use Rattle.flash.specs.declared.Status.{Status}
-use Rattle.salvage.specs.Follow.{spanEnd, leads, validFrom, wordsIn}
-use Rattle.salvage.specs.Sector.{kept, Saved, saved, savedOf}
+use Rattle.salvage.specs.Follow.{spanEnd, leads, wordsIn}
+use Rattle.salvage.specs.Sector.{kept, Saved, saved, lost}
 use Rattle.salvage.specs.declared.How.{How}
 
--- Every sector written is empty or good.
+-- Empty or good; and how many segments such a sector has.
 abbrev pub isSound : Status → Bool
 isSound Status.Empty = true
 isSound (Status.Good n) = true
 isSound Status.Bad = false
 isSound Status.Erasing = false
 
-abbrev pub EmptyOrGood : Type 0
-EmptyOrGood = (words : List ℕ) → isSound (statusOf (savedOf words .words)) ≡ true
-
--- It has as many words as its source; and a run on it changes nothing, and says that it was copied, with as many segments.
-abbrev pub SameSize : Type 0
-SameSize = (words : List ℕ) → length (savedOf words .words) ≡ length words
-
-abbrev pub AgainTheSame : Type 0
-AgainTheSame = (words : List ℕ) → let s : Saved = savedOf words in savedOf (s .words) ≡ saved (kept (s .kept .segments) How.Copied) (s .words)
+abbrev pub standing : Status → List ℕ → ℕ
+standing Status.Empty words = 0
+standing (Status.Good n) words = segmentsOf (getD words 0 0)
+standing Status.Bad words = 0
+standing Status.Erasing words = 0
 
 -- The segments of a sector as its headers divide it, from a place on: they stand one behind the other.
 abbrev pub dividedBy : List ℕ → ℕ → End → (ℕ → List (List ℕ)) → List (List ℕ)
@@ -40,14 +38,40 @@ unfoldable pub divided : ℕ → List ℕ → ℕ → List (List ℕ)
 divided zero words at = []
 divided (suc n) words at = dividedBy words at (spanEnd words at) (λ end. divided n words end)
 
--- The valid ones of some, in order.
+-- All of them: where its headers can be followed they are as many as the count says, and their words are the sector's own, from word 1 on (`divides`).
+abbrev pub segmentsIn : List ℕ → List (List ℕ)
+segmentsIn words = divided (segmentsOf (getD words 0 0)) words 1
+
+abbrev pub canFollow : List ℕ → Bool
+canFollow words = headerOk (getD words 0 0) && leads (segmentsOf (getD words 0 0)) words 1
+
+pub record Divides (words : List ℕ) : Type 0 where
+  pub count : length (segmentsIn words) ≡ segmentsOf (getD words 0 0)
+  pub sources : wordsIn (segmentsIn words) ≡ part words 1 (length (wordsIn (segmentsIn words)))
+
+-- The valid ones of some, in order; and whether a sector that can be followed has one.
 unfoldable pub validOnes : List (List ℕ) → List (List ℕ)
 validOnes [] = []
 validOnes (segment ∷ segments) = pick (segmentOk segment) (segment ∷ validOnes segments) (validOnes segments)
 
--- So those kept are all the valid ones among them, in order, and equal their sources: where all headers can be followed, the segments are the sector's
--- words from word 1 on.
-pub record AllTheValid : Type 0 where
-  pub kept : (n : ℕ) (words : List ℕ) (at : ℕ) → validFrom n words at ≡ validOnes (divided n words at)
-  pub count : (n : ℕ) (words : List ℕ) (at : ℕ) → leads n words at ≡ true → length (divided n words at) ≡ n
-  pub sources : (n : ℕ) (words : List ℕ) (at : ℕ) → leads n words at ≡ true → wordsIn (divided n words at) ≡ part words at (length (wordsIn (divided n words at)))
+abbrev pub hasValid : List ℕ → Bool
+hasValid words = canFollow words && leb 1 (length (validOnes (segmentsIn words)))
+
+-- What a bad sector is reduced to: its segments are all the valid ones of its source, in order, each as it was, and the count says how many; name,
+-- attribute and type are as they were.
+pub record Reduces (words : List ℕ) (s : Saved) : Type 0 where
+  pub told : s .kept ≡ kept (length (validOnes (segmentsIn words))) How.Reduced
+  pub segments : segmentsIn (s .words) ≡ validOnes (segmentsIn words)
+  pub header : getD (s .words) 0 0 / 16 ≡ getD words 0 0 / 16
+
+pub record Promised (save : List ℕ → Saved) : Type 0 where
+  -- what is written is as large as its source, and empty or good
+  pub size : (words : List ℕ) → length (save words .words) ≡ length words
+  pub sound : (words : List ℕ) → isSound (statusOf (save words .words)) ≡ true
+  -- a run on it changes nothing, and says that it was copied, with as many segments
+  pub again : (words : List ℕ) → save (save words .words) ≡ saved (kept (save words .kept .segments) How.Copied) (save words .words)
+  -- an empty sector and a good one go over as they are
+  pub copied : (words : List ℕ) → isSound (statusOf words) ≡ true → save words ≡ saved (kept (standing (statusOf words) words) How.Copied) words
+  -- a bad one with a valid segment is reduced to all that it has, any other is lost
+  pub reduced : (words : List ℕ) → isSound (statusOf words) ≡ false → hasValid words ≡ true → Reduces words (save words)
+  pub lost : (words : List ℕ) → isSound (statusOf words) ≡ false → hasValid words ≡ false → save words ≡ lost words
