@@ -27,7 +27,7 @@ use Rattle.salvage.proofs.Saves.{valid-few, blank-words, blank-part}
 use Rattle.salvage.proofs.Promised.{same-size}
 
 -- words put back in the place of as many
-put-back : (ws new : List ℕ) (at n : ℕ) → length new ≡ n → take at ws ++ (new ++ drop n (drop at ws)) ≡ laid ws at new
+pub put-back : (ws new : List ℕ) (at n : ℕ) → length new ≡ n → take at ws ++ (new ++ drop n (drop at ws)) ≡ laid ws at new
 unfolding laid
 put-back ws new at n e =
     ap (λ (l : List ℕ). take at ws ++ (new ++ l)) (drop-drop n at ws ∙ ap (λ (k : ℕ). drop (at + k) ws) (sym e))

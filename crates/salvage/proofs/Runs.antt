@@ -6,7 +6,7 @@ use mathlib.Core.List.{List, _++_, append-assoc}
 use native.Mathlib.Nat.{div-div-eq-div-mul}
 use native.Mathlib.Omega.{arith}
 use lib.Dec.{eqb}
-use lib.ListN.{length, take, length-append, length-replicate}
+use lib.ListN.{length, length-append, length-replicate}
 use lib.Seq.{take-at}
 use borrow.Author.Tests.{eqb-true, eqb-false, eq-eqb, ne-eqb}
 use Rattle.base.specs.Pick.{pick}
@@ -20,7 +20,6 @@ use Rattle.salvage.specs.Sector.{kept, Saved, savedOf}
 use Rattle.salvage.specs.Flash.{isSize, sectorNumber, refusalOf, wordsFrom, numberFrom, savedFlash, Told, told, salvageOf}
 use Rattle.salvage.specs.Promised.{isSound}
 use Rattle.salvage.specs.Runs.{RefusedAsItWas, SavesAll, EachSaved, SaysCopied, RunAgain}
-use Rattle.salvage.specs.declared.How.{How}
 use Rattle.salvage.proofs.Promised.{promised, same-size}
 use Rattle.salvage.proofs.Flash.{edge, begins-at, ends-at, six-bits, number-small, whole-units, by-refusal}
 

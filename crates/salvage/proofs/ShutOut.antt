@@ -1,8 +1,8 @@
 -- The wrong ones are shut out, each by what it makes of one bad sector. Assumes nothing.
 use Prim.Native.Nat.{ℕ}
-use mathlib.Core.Path.{_≡_, refl, sym, ap, _∙_}
-use mathlib.Core.Bool.{Bool, true, false, false≢true}
-use mathlib.Core.List.{List, [], _∷_, _++_}
+use mathlib.Core.Path.{_≡_, refl, ap}
+use mathlib.Core.Bool.{true, false, false≢true}
+use mathlib.Core.List.{List, [], _∷_}
 use native.Mathlib.Omega.{arith}
 use lib.ListN.{length}
 use Rattle.base.specs.Words.{laid}
@@ -13,7 +13,7 @@ use Rattle.image.specs.File.{walk, fileEnd}
 use Rattle.flash.specs.Status.{isEmpty, statusOf}
 use Rattle.salvage.specs.Follow.{spanEnd, leads, validFrom, wordsIn}
 use Rattle.salvage.specs.Sector.{savedOf}
-use Rattle.salvage.specs.Promised.{isSound, divided, segmentsIn, validOnes, hasValid, Promised}
+use Rattle.salvage.specs.Promised.{isSound, divided, validOnes, hasValid, Promised}
 use Rattle.salvage.specs.ShutOut.{keeping, before, dropping, forgetting, ShutOut}
 
 -- three DM segments of one word each, of which the second has another FCS

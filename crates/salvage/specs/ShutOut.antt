@@ -1,6 +1,6 @@
 -- Wrong ones that save sectors: what is promised shuts them out. 02, request 14. Assumes nothing.
 use Prim.Native.Nat.{ℕ}
-use mathlib.Core.List.{List, [], _∷_, _++_}
+use mathlib.Core.List.{List, [], _∷_}
 use lib.ListN.{getD, drop}
 use Rattle.base.specs.Pick.{pick}
 use Rattle.image.specs.Segment.{segmentOk}

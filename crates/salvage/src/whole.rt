@@ -37,7 +37,7 @@ fn how_number(how: How) -> u64
 }
 
 // What is told of a sector, in six bits.
-fn sector_number(kept: Kept) -> u64
+pub fn sector_number(kept: Kept) -> u64
     ensures { λ r. ⌜ r ≡ sectorNumber kept ⌝ }
 {
     let how = kept.how;
