@@ -1,5 +1,5 @@
-/* What the programs behind host/audit and host/capture have in common: texts, which files, files as words, the command line, and the lines
-   that are printed. Words are two bytes, the low byte first, and count from 0. */
+/* What the programs behind host/audit, host/capture and host/salvage have in common: texts, which files, files as words, where files stand, the
+   command line, and the lines that are printed. Words are two bytes, the low byte first, and count from 0. */
 #ifndef COMMON_H
 #define COMMON_H
 
@@ -8,7 +8,7 @@
 #include <stdbool.h>
 #include <stdio.h>
 
-#define RELEASE "1.0" /* of the audit, the bench and the capture: the tools around the node */
+#define RELEASE "1.0" /* of the audit, the bench, the capture and the salvage: the tools around the node */
 
 /* Which of the programs it is, as its command is called; each says so in its main.c. */
 extern const char program[];
@@ -51,6 +51,14 @@ struct look {
 bool look_at(const char *path, struct look *look);      /* where links lead */
 bool look_at_name(const char *path, struct look *look); /* a link itself */
 bool look_into(int file, struct look *look);
+
+/* Where a file stands that is written whole or not at all (places.c). What answers a path answers NULL where there is none, with errno. */
+
+char *place_of_new(const char *path);                        /* of a file that isn't there: its folder's, without links, and its name */
+char *place_beside(const char *real, const char *ending);    /* a hidden file in its folder, of its name and an ending */
+bool place_is_written(int out, const uint8_t *bytes, size_t count);
+bool place_is_there(const char *path, int file);             /* whether an open file still has its name */
+void place_settle(const char *real);                         /* the name's change, written through to the disk as far as the system can */
 
 /* What is asked (asked.c): the options that every program has, and its files and folders. */
 

@@ -483,6 +483,10 @@ uint64_t logodwen6_slow(uint32_t now, uint8_t *state, size_t state_len, uint8_t 
 
 uint16_t logodwen6_fcs(const uint8_t *bytes, size_t len) { return model_fcs(bytes, len / 2); }
 
+uint64_t logodwen6_salvage(const uint8_t *first, size_t first_len, uint8_t *second, size_t second_len) {
+    return model_salvage(first, first_len, second, second_len);
+}
+
 /* A captured group reply, with a fault: an FCS is taken for right, whatever it is, or words left over are not looked at. */
 static uint64_t capture_with_fault(uint64_t answered, uint32_t mask, const uint8_t *words) {
     static uint8_t resealed[LOGODWEN_REPLY_BYTES];
