@@ -1,6 +1,7 @@
 -- The entries are settled: each contract gives the number and what is left in every run as one value, and two results equal to one value
 -- are equal. Assumes nothing.
 use mathlib.Core.Path.{refl, sym, ap, _∙_}
+use Rattle.salvage.specs.Flash.{Told}
 use Rattle.logodwen.specs.Entry.{Answered}
 use Rattle.border.specs.Settled.{EntriesSettled, LinesSettled}
 
@@ -15,6 +16,7 @@ entries-settled =
       build = λ κs given x y v w p q. (ap (λ (a : Answered). a .number) (p ∙ sym q), λ i. (v .0, ((p ∙ sym q) i .state, (v .1 .1 .0, v .1 .1 .1))));
       fcs = λ κs given x y v w p q. (p ∙ sym q, refl);
       capture = λ κs given x y v w p q. (p ∙ sym q, refl);
+      salvage = λ κs given x y v w p q. (ap (λ (t : Told). t .number) (p ∙ sym q), λ i. (v .0, ((p ∙ sym q) i .second, v .1 .1)));
       erase = λ κs given x y v w p q. (ap (λ (a : Answered). a .number) (p ∙ sym q), λ i. (v .0, ((p ∙ sym q) i .state, ((p ∙ sym q) i .runs .flash, v .1 .1 .1))));
       slow = λ κs given x y v w p q. (ap (λ (a : Answered). a .number) (p ∙ sym q), λ i. (v .0, ((p ∙ sym q) i .state, ((p ∙ sym q) i .runs .further .list, v .1 .1 .1))));
     }

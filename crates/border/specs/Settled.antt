@@ -5,7 +5,7 @@ use Rattle.demands.specs.Settled.{Settles}
 use Rattle.logodwen.proofs as Logodwen
 use Rattle.lines.proofs as Lines
 
--- The seven entries, the list of requests, the check sequence, and the reader of captured replies.
+-- The seven entries, the list of requests, the check sequence, the reader of captured replies, and the one that saves a flash.
 pub record EntriesSettled : Type 0 where
   pub start : Settles Logodwen.logodwen6_start.Kinds.ps Logodwen.logodwen6_start.Kinds.r Logodwen.logodwen6_start.Reads.Learnt
   pub request : Settles Logodwen.logodwen6_request.Kinds.ps Logodwen.logodwen6_request.Kinds.r Logodwen.logodwen6_request.Reads.Learnt
@@ -17,6 +17,7 @@ pub record EntriesSettled : Type 0 where
   pub slow : Settles Logodwen.logodwen6_slow.Kinds.ps Logodwen.logodwen6_slow.Kinds.r Logodwen.logodwen6_slow.Reads.Learnt
   pub fcs : Settles Logodwen.sequence.logodwen6_fcs.Kinds.ps Logodwen.sequence.logodwen6_fcs.Kinds.r Logodwen.sequence.logodwen6_fcs.Reads.Learnt
   pub capture : Settles Logodwen.captured.logodwen6_capture.Kinds.ps Logodwen.captured.logodwen6_capture.Kinds.r Logodwen.captured.logodwen6_capture.Reads.Learnt
+  pub salvage : Settles Logodwen.salvaged.logodwen6_salvage.Kinds.ps Logodwen.salvaged.logodwen6_salvage.Kinds.r Logodwen.salvaged.logodwen6_salvage.Reads.Learnt
 
 -- The readers of lines, the bench's and captures: what a line says, and each word of the buffer.
 pub record LinesSettled : Type 0 where

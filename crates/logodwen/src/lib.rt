@@ -35,6 +35,7 @@ use touch::starting::on_start;
 mod answers;
 pub mod captured;
 mod checks;
+pub mod salvaged;
 pub mod sequence;
 mod taking;
 

@@ -25,11 +25,11 @@ use Rattle.flash.specs.Status.{isEmpty, statusBy, statusOf}
 use Rattle.flash.specs.declared.Status.{Status}
 use Rattle.flash.proofs.Statuses.{empty-blanks, empty-drop, status-empty}
 use Rattle.salvage.specs.Follow.{spanEnd, leadsBy, leads, validBy, validFrom, wordsIn}
-use Rattle.salvage.specs.Sector.{kept, Saved, saved, lost, counted, fileOf, savedBad, savedAs, savedOf}
-use Rattle.salvage.specs.Promised.{isSound, standing, dividedBy, divided, segmentsIn, canFollow, Divides, validOnes, hasValid, Reduces, Promised}
+use Rattle.salvage.specs.Sector.{kept, Saved, saved, lost, counted, fileOf, canFollow, savedBad, savedAs, savedOf}
+use Rattle.salvage.specs.Promised.{isSound, standing, dividedBy, divided, segmentsIn, Divides, validOnes, hasValid, Reduces, Promised}
 use Rattle.salvage.specs.declared.How.{How}
 use Rattle.salvage.proofs.Follow.{by-span, span-tells}
-use Rattle.salvage.proofs.Saves.{valid-few}
+use Rattle.salvage.proofs.Saves.{valid-few, valid-fit}
 
 -- segments that are valid by themselves, as long as their headers say
 unfoldable AllValid : List (List ℕ) → Type 0
@@ -197,24 +197,6 @@ module _ (header n : ℕ) (ss : List (List ℕ)) (ok : headerOk header ≡ true)
   its-segments : segmentsIn sector ≡ ss
   unfolding laid rest
   its-segments = ap (λ (k : ℕ). divided k sector 1) same-count ∙ divides-them (counted header (length ss) ∷ []) ss rest valid
-
--- those kept fit where the headers lead
-valid-fit : (n : ℕ) (words : List ℕ) (at : ℕ) → leads n words at ≡ true → at ≤ length words → at + length (wordsIn (validFrom n words at)) ≤ length words
-unfolding validFrom leads wordsIn
-valid-fit zero words at e l = omega (arith, l)
-valid-fit (suc n) words at e l = by (spanEnd words at) refl e (λ end. valid-fit n words end)
-  where
-    by : (x : End) → spanEnd words at ≡ x → leadsBy x (λ end. leads n words end) ≡ true
-        → ((end : ℕ) → leads n words end ≡ true → end ≤ length words → end + length (wordsIn (validFrom n words end)) ≤ length words)
-        → at + length (wordsIn (validBy words at x (λ end. validFrom n words end))) ≤ length words
-    by (End.At end) q f rest =
-        let t = span-tells words at end q in
-        let k = rest end f (t .fits) in
-        let seg : List ℕ = part words at (end - at) in
-        let m : length seg ≡ end - at = length-part words at (end - at) (omega (arith, t .past, t .fits)) in
-        pick-case (λ (ss : List (List ℕ)). at + length (wordsIn ss) ≤ length words) (segmentOk seg)
-        (λ _. omega (arith, k, m, t .past, length-append seg (wordsIn (validFrom n words end)))) (λ _. omega (arith, k, t .past))
-    by End.Invalid q f rest = absurd (false≢true f)
 
 same-bad : (words : List ℕ) → length (savedBad words .words) ≡ length words
 unfolding headerOk

@@ -7,13 +7,13 @@ use lib.Dec.{leb}
 use lib.ListN.{length, getD}
 use Rattle.base.specs.Pick.{pick}
 use Rattle.base.specs.Words.{part}
-use Rattle.image.specs.Header.{headerOk, segmentsOf}
+use Rattle.image.specs.Header.{segmentsOf}
 use Rattle.image.specs.Segment.{segmentOk}
 use Rattle.image.specs.declared.End.{End}
 use Rattle.flash.specs.Status.{statusOf}
 use Rattle.flash.specs.declared.Status.{Status}
-use Rattle.salvage.specs.Follow.{spanEnd, leads, wordsIn}
-use Rattle.salvage.specs.Sector.{kept, Saved, saved, lost}
+use Rattle.salvage.specs.Follow.{spanEnd, wordsIn}
+use Rattle.salvage.specs.Sector.{kept, Saved, saved, lost, canFollow}
 use Rattle.salvage.specs.declared.How.{How}
 
 -- Empty or good; and how many segments such a sector has.
@@ -41,9 +41,6 @@ divided (suc n) words at = dividedBy words at (spanEnd words at) (λ end. divide
 -- All of them: where its headers can be followed they are as many as the count says, and their words are the sector's own, from word 1 on (`divides`).
 abbrev pub segmentsIn : List ℕ → List (List ℕ)
 segmentsIn words = divided (segmentsOf (getD words 0 0)) words 1
-
-abbrev pub canFollow : List ℕ → Bool
-canFollow words = headerOk (getD words 0 0) && leads (segmentsOf (getD words 0 0)) words 1
 
 pub record Divides (words : List ℕ) : Type 0 where
   pub count : length (segmentsIn words) ≡ segmentsOf (getD words 0 0)

@@ -1,6 +1,6 @@
 -- What is saved of a sector: 02, request 14. Assumes nothing.
 use Prim.Native.Nat.{ℕ, _+_, _*_, _/_}
-use mathlib.Core.Bool.{_&&_}
+use mathlib.Core.Bool.{Bool, _&&_}
 use mathlib.Core.List.{List, _∷_}
 use lib.Dec.{eqb}
 use lib.ListN.{length, getD}
@@ -40,11 +40,13 @@ abbrev pub reduced : List ℕ → List (List ℕ) → Saved
 reduced words valid =
     pick (eqb (length valid) 0) (lost words) (saved (kept (length valid) How.Reduced) (laid (blanks (length words)) 0 (fileOf (getD words 0 0) valid)))
 
--- A bad sector: of type 00 or 01 with 1 to 14 segments whose headers can be followed, the valid segments, in order; any other is lost.
+-- Of type 00 or 01 with 1 to 14 segments, whose headers can be followed.
+abbrev pub canFollow : List ℕ → Bool
+canFollow words = headerOk (getD words 0 0) && leads (segmentsOf (getD words 0 0)) words 1
+
+-- A bad sector: of one that can be followed the valid segments, in order; any other is lost.
 abbrev pub savedBad : List ℕ → Saved
-savedBad words =
-    pick (headerOk (getD words 0 0) && leads (segmentsOf (getD words 0 0)) words 1)
-    (reduced words (validFrom (segmentsOf (getD words 0 0)) words 1)) (lost words)
+savedBad words = pick (canFollow words) (reduced words (validFrom (segmentsOf (getD words 0 0)) words 1)) (lost words)
 
 -- An empty sector and a good one go over as they are. (That one is being erased a state alone tells; here it is as any bad one.)
 abbrev pub savedAs : Status → List ℕ → Saved

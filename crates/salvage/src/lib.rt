@@ -6,11 +6,10 @@ ghost use lib.ListN.{length};
 ghost use Rattle.base.specs.Words.{blanks};
 ghost use Rattle.image.specs.Segment.{segmentEnd};
 ghost use Rattle.salvage.specs.Follow.{spanEnd, leads, validFrom, filling, keptBy, allKept};
-ghost use Rattle.salvage.specs.Sector.{kept, saved, savedBad, savedOf};
+ghost use Rattle.salvage.specs.Sector.{kept, saved, canFollow, savedOf};
 ghost use Rattle.salvage.specs.declared.How.{How};
 use base::copy;
-use flash::Status;
-use flash::sectors::status_of;
+use flash::sectors::is_empty;
 use image::End;
 use image::Span;
 use image::header_ok;
@@ -53,6 +52,15 @@ fn copied(segments: u16) -> Kept
     Kept {
         segments,
         how: How::Copied,
+    }
+}
+
+fn reduced(segments: u16) -> Kept
+    ensures { λ r. ⌜ r ≡ kept segments How.Reduced ⌝ }
+{
+    Kept {
+        segments,
+        how: How::Reduced,
     }
 }
 
@@ -145,31 +153,42 @@ fn keep(first: &[u16], second: &mut [u16], count: u16) -> Filled
     filled
 }
 
-// What is saved of a bad sector, in a blank place of its size.
-fn save_bad(first: &[u16], second: &mut [u16]) -> Kept
-    requires { ⌜ now second ≡ blanks (length (now first)) ⌝ }
-    ensures { λ r. ⌜ saved r (now (second .exit)) ≡ savedBad (now (first .entry)) ⌝ }
+// Whether the headers of a sector can be followed.
+fn is_followed(first: &[u16]) -> bool
+    ensures { λ r. ⌜ r ≡ canFollow (now (first .entry)) ⌝ }
 {
     if first.len() == 0 {
-        return lost();
+        return false;
     }
     let header = first[0];
     if !header_ok(header) {
-        return lost();
+        return false;
     }
+    can_follow(first, segments_of(header))
+}
+
+// What is saved of a sector whose headers can be followed, in a blank place of its size. Which of its segments are valid is worked out once: where all
+// are, and it is blank behind them, it was good.
+fn save_file(first: &[u16], second: &mut [u16]) -> Kept
+    requires { ⌜ (now second ≡ blanks (length (now first))) × (canFollow (now first) ≡ true) ⌝ }
+    ensures { λ r. ⌜ saved r (now (second .exit)) ≡ savedOf (now (first .entry)) ⌝ }
+{
+    let header = first[0];
     let count = segments_of(header);
-    if !can_follow(first, count) {
-        return lost();
-    }
     let filled = keep(first, second, count);
-    if filled.segments == 0 {
+    let segments = filled.segments;
+    let end = filled.words;
+    if segments == 0 {
         return lost();
     }
-    second[0] = header / 16 * 16 + filled.segments;
-    Kept {
-        segments: filled.segments,
-        how: How::Reduced,
+    second[0] = header / 16 * 16 + segments;
+    if segments < count {
+        return reduced(segments);
     }
+    if !is_empty(&first[end..]) {
+        return reduced(segments);
+    }
+    copied(segments)
 }
 
 // What is saved of a sector, in a blank place of its size.
@@ -177,14 +196,11 @@ pub fn save(first: &[u16], second: &mut [u16]) -> Kept
     requires { ⌜ now second ≡ blanks (length (now first)) ⌝ }
     ensures { λ r. ⌜ saved r (now (second .exit)) ≡ savedOf (now (first .entry)) ⌝ }
 {
-    let status = status_of(first);
-    match status {
-        Status::Empty => copied(0),
-        Status::Good(n) => {
-            copy(second, 0, first);
-            copied(segments_of(first[0]))
-        }
-        Status::Bad => save_bad(first, second),
-        Status::Erasing => save_bad(first, second),
+    if is_empty(first) {
+        return copied(0);
     }
+    if is_followed(first) {
+        return save_file(first, second);
+    }
+    lost()
 }

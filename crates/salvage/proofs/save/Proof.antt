@@ -1,91 +1,48 @@
--- `salvage::save` meets its contract, by what the sector is (Saves). Assumes nothing.
-use Prim.Native.Nat.{ℕ}
-use mathlib.Core.Path.{sym, ap, _∙_}
-use native.Mathlib.Omega.{arith}
-use Rattle.salvage.specs.Sector.{kept}
-use Rattle.salvage.specs.declared.How.{How}
-use Rattle.salvage.proofs.Saves.{good-some, long-as, saves-empty, saves-good, saves-bad, saves-erasing}
+-- `salvage::save` meets its contract, by whether the sector is empty, or can be followed (Goods). Assumes nothing.
+use mathlib.Core.Path.{sym, _∙_}
+use Rattle.salvage.specs.Sector.{saved}
+use Rattle.salvage.proofs.Goods.{saves-empty, saves-none}
 use borrow.Author.Needs.{needs}
 use Rattle.salvage.proofs.save.Statement.{statement}
 use Rattle.salvage.proofs.save.Tie as tie
 
-status-of-requires : tie.Need-status-of-requires
-status-of-requires c κs = search needs
-
-enum-told : tie.Need-enum-told
-enum-told c = search needs
+is-empty-requires : tie.Need-is-empty-requires
+is-empty-requires c κs = search needs
 
 copied-requires : tie.Need-copied-requires
 copied-requires c κs = search needs
 
-enum-known-status : tie.Need-enum-known-status
-enum-known-status c = search needs
-
-copy-requires : tie.Need-copy-requires
-copy-requires c κs = omega (arith, long-as (c .before .before .before .before .before .before .before .args .first .now) (c .before .before .before .before .before .before .before .pre))
-
-shared-slice-read-segments-of : tie.Need-shared-slice-read-segments-of
-shared-slice-read-segments-of c = omega (arith, good-some (c .before .before .before .before .before .before .before .before .before .before .before .args .first .now) _ (sym (c .before .before .before .before .before .before .before .before .status-of .ensures) ∙ c .before .before .before .before .before .before .status .given .1))
-
-segments-of-requires : tie.Need-segments-of-requires
-segments-of-requires c κs = search needs
-
-copied-requires-2 : tie.Need-copied-requires-2
-copied-requires-2 c κs = search needs
-
-enum-told-2 : tie.Need-enum-told-2
-enum-told-2 c = search needs
-
-save-bad-requires : tie.Need-save-bad-requires
-save-bad-requires c κs = search needs
-
-enum-told-3 : tie.Need-enum-told-3
-enum-told-3 c = search needs
-
-save-bad-requires-2 : tie.Need-save-bad-requires-2
-save-bad-requires-2 c κs = search needs
-
 returns : tie.Need-returns
-returns c = saves-empty (c .before .before .before .before .before .before .args .first .now) (c .before .before .before .before .before .before .pre) (sym (c .before .before .before .status-of .ensures) ∙ c .before .enum-told .given .1) (c .copied .ensures)
+returns c = (λ i. saved (c .copied .ensures i) (c .before .before .before .before .before .pre i)) ∙ saves-empty (c .before .before .before .before .before .args .first .now) (sym (c .before .before .is-empty .ensures) ∙ c .before .if1 .taken)
+
+is-followed-requires : tie.Need-is-followed-requires
+is-followed-requires c κs = search needs
+
+save-file-requires : tie.Need-save-file-requires
+save-file-requires c κs = (c .before .before .before .before .before .before .before .pre, sym (c .before .before .is-followed .ensures) ∙ c .before .if2 .taken)
 
 same-length : tie.Need-same-length
 same-length c = search needs
 
 returns-2 : tie.Need-returns-2
-returns-2 c = saves-good (c .before .before .before .before .before .before .before .before .before .before .before .before .before .args .first .now) (c .before .before .before .before .before .before .before .before .before .before .before .before .before .pre) (sym (c .before .before .before .before .before .before .before .before .before .before .status-of .ensures) ∙ c .before .before .before .before .before .before .before .before .status .given .1) (c .before .before .before .before .before .copy .ensures) (c .copied2 .ensures ∙ ap (λ (n : ℕ). kept n How.Copied) (c .before .segments-of .ensures))
+returns-2 c = search needs
 
-same-length-2 : tie.Need-same-length-2
-same-length-2 c = search needs
+lost-requires : tie.Need-lost-requires
+lost-requires c κs = search needs
 
 returns-3 : tie.Need-returns-3
-returns-3 c = saves-bad (c .before .before .before .before .before .before .before .before .before .args .first .now) (c .before .before .before .before .before .before .before .before .before .pre) (sym (c .before .before .before .before .before .before .status-of .ensures) ∙ c .before .before .before .before .enum-told2 .given .1) (c .before .before .save-bad .ensures)
-
-same-length-3 : tie.Need-same-length-3
-same-length-3 c = search needs
-
-returns-4 : tie.Need-returns-4
-returns-4 c = saves-erasing (c .before .before .before .before .before .before .before .before .before .args .first .now) (c .before .before .before .before .before .before .before .before .before .pre) (sym (c .before .before .before .before .before .before .status-of .ensures) ∙ c .before .before .before .before .enum-told3 .given .1) (c .before .before .save-bad2 .ensures)
+returns-3 c = (λ i. saved (c .lost .ensures i) (c .before .before .before .before .before .before .before .pre i)) ∙ saves-none (c .before .before .before .before .before .before .before .args .first .now) (sym (c .before .before .before .before .is-empty .ensures) ∙ c .before .before .before .if1 .left) (sym (c .before .before .is-followed .ensures) ∙ c .before .if2 .left)
 
 pub save-spec : {M : Type 1} → statement M
 save-spec =
     tie.close
     (tie.spec
-    status-of-requires
-    enum-told
+    is-empty-requires
     copied-requires
-    enum-known-status
-    copy-requires
-    shared-slice-read-segments-of
-    segments-of-requires
-    copied-requires-2
-    enum-told-2
-    save-bad-requires
-    enum-told-3
-    save-bad-requires-2
     returns
+    is-followed-requires
+    save-file-requires
     same-length
     returns-2
-    same-length-2
-    returns-3
-    same-length-3
-    returns-4)
+    lost-requires
+    returns-3)
