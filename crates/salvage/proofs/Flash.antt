@@ -1,7 +1,7 @@
 -- A whole flash saved in a second one, sector by sector: what stands in it after each, and what is told. Assumes nothing.
 use Prim.Native.Nat.{ℕ, zero, suc, _+_, _-_, _*_, _/_, _^_, _≤_, _<_}
 use mathlib.Core.Path.{_≡_, refl, sym, ap, _∙_}
-use mathlib.Core.Bool.{Bool, true, false, _&&_, _||_, not, false≢true}
+use mathlib.Core.Bool.{Bool, true, false, _&&_, _||_, false≢true}
 use mathlib.Core.List.{List, _++_, append-assoc, append-nil}
 use native.Mathlib.Nat.{add-mul, pow-suc, pow-le-pow-right}
 use native.Mathlib.Omega.{arith}
@@ -23,6 +23,7 @@ use Rattle.salvage.specs.Sector.{kept, Saved, saved, savedBad, savedAs, 
 use Rattle.salvage.specs.Flash.{isSize, howNumber, sectorNumber, refusalOf, wordsFrom, numberFrom, savedFlash, Told, told, salvageOf}
 use Rattle.salvage.specs.declared.How.{How}
 use Rattle.salvage.specs.declared.Kept.{Kept}
+use Rattle.salvage.proofs.Refusals.{by-one, by-size, by-use, by-none}
 use Rattle.salvage.proofs.Saves.{valid-few, blank-words, blank-part}
 use Rattle.salvage.proofs.Promised.{same-size}
 
@@ -94,7 +95,7 @@ bad-few words =
     (λ _. omega (arith, valid-few (segmentsOf (getD words 0 0)) words 1)))
     (λ _. omega arith)
 
-kept-few : (words : List ℕ) → savedOf words .kept .segments ≤ 15
+pub kept-few : (words : List ℕ) → savedOf words .kept .segments ≤ 15
 unfolding savedOf
 kept-few words = by (statusOf words)
   where
@@ -217,28 +218,26 @@ whole-units n e = by (eqb n 32768) (eqb n 262144) refl refl e
 
 -- refused or saved
 module _ (first second : List ℕ) where
-  pub by-refusal : (r : ℕ) → refusalOf first second ≡ r → pick (eqb r 0) (told (numberFrom 8 3 first * 256) (savedFlash first)) (told r second) ≡ salvageOf first second
-  unfolding salvageOf
-  by-refusal r e = sym (ap (λ (x : ℕ). pick (eqb x 0) (told (numberFrom 8 3 first * 256) (savedFlash first)) (told x second)) e)
+  abbrev all : Told
+  all = told (numberFrom 8 3 first * 256) (savedFlash first)
 
   pub refused-first : isSize (length first) ≡ false → told 1 second ≡ salvageOf first second
-  unfolding refusalOf
-  refused-first e = by-refusal 1 (ap (λ (t : Bool). pick (not t) 1 (pick (not (eqb (length second) (length first)) || not (isEmpty second)) 12 0)) e)
+  unfolding salvageOf refusalOf
+  refused-first e = by-one all second (eqb (length second) (length first)) (isEmpty second) e
 
   pub refused-size : isSize (length first) ≡ true → (length second ≡ length first → ⊥) → told 12 second ≡ salvageOf first second
-  unfolding refusalOf
-  refused-size e f = by-refusal 12 (λ i. pick (not (e i)) 1 (pick (not (ne-eqb (length second) (length first) f i) || not (isEmpty second)) 12 0))
+  unfolding salvageOf refusalOf
+  refused-size e f = by-size all second (isEmpty second) e (ne-eqb (length second) (length first) f)
 
   pub refused-blank : isSize (length first) ≡ true → length second ≡ length first → isEmpty second ≡ false → told 12 second ≡ salvageOf first second
-  unfolding refusalOf
-  refused-blank e f b = by-refusal 12 (λ i. pick (not (e i)) 1 (pick (not (eq-eqb (length second) (length first) f i) || not (b i)) 12 0))
+  unfolding salvageOf refusalOf
+  refused-blank e f b = by-use all second e (eq-eqb (length second) (length first) f) b
 
   pub saves-whole : {r : ℕ} {after : List ℕ} → isSize (length first) ≡ true → length second ≡ length first → isEmpty second ≡ true
       → told r after ≡ told (numberFrom 8 3 first) (savedFlash first) → told (r * 256) after ≡ salvageOf first second
-  unfolding refusalOf
+  unfolding salvageOf refusalOf
   saves-whole e f b q =
-      ap (λ (x : Told). told (x .number * 256) (x .second)) q
-      ∙ by-refusal 0 (λ i. pick (not (e i)) 1 (pick (not (eq-eqb (length second) (length first) f i) || not (b i)) 12 0))
+      ap (λ (x : Told). told (x .number * 256) (x .second)) q ∙ by-none all second e (eq-eqb (length second) (length first) f) b
 
   pub blank-second : length second ≡ length first → isEmpty second ≡ true → second ≡ blanks (length first)
   blank-second f b = sym (blank-words second b) ∙ ap blanks f

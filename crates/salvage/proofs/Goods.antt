@@ -115,12 +115,12 @@ module _ (words : List ℕ) where
   end = 1 + length (wordsIn valid)
 
   -- what a good sector is found to be
-  record Goods : Type 0 where
-    follows : canFollow words ≡ true
-    all : length valid ≡ segmentsOf header
-    blank : isEmpty (drop end words) ≡ true
+  pub record Goods : Type 0 where
+    pub follows : canFollow words ≡ true
+    pub all : length valid ≡ segmentsOf header
+    pub blank : isEmpty (drop end words) ≡ true
 
-  goods : (n : ℕ) → statusOf words ≡ Status.Good n → Goods
+  pub goods : (n : ℕ) → statusOf words ≡ Status.Good n → Goods
   goods n e =
       let g = good-tells words n e in
       let f = file-tells words n (g .file) in
@@ -206,15 +206,18 @@ module _ (words : List ℕ) where
               let n : end ≡ suc (length (wordsIn valid)) = omega arith in
               ap (λ (k : ℕ). take k (w ∷ ws)) n ∙ ap (λ (l : List ℕ). w ∷ l) (sym e)
 
-      pub saves-copied : saved (kept (length valid) How.Copied) (laid (blanks (length words)) 0 (fileOf header valid)) ≡ savedOf words
-      unfolding savedOf laid
-      saves-copied =
-          let fits : end ≤ length words = file-tells words end (file-told words end head (found .walked)) .fits in
+      pub file-blank : laid (blanks (length words)) 0 (fileOf header valid) ≡ words
+      unfolding laid
+      file-blank =
           let rest : drop (0 + length (fileOf header valid)) (blanks (length words)) ≡ drop end words =
           both-blank (drop (0 + length (fileOf header valid)) (blanks (length words))) (drop end words) (empty-drop (0 + length (fileOf header valid)) (blanks (length words)) (empty-blanks (length words))) blank
           (omega (arith, length-drop (0 + length (fileOf header valid)) (blanks (length words)), length-drop end words, length-replicate {A = ℕ} (length words) 0xFFFF)) in
-          (λ i. saved (kept (all i) How.Copied) (sym front i ++ rest i))
-          ∙ ap (saved (kept (segmentsOf header) How.Copied)) (take-append-drop end words)
+          (λ i. sym front i ++ rest i) ∙ take-append-drop end words
+
+      pub saves-copied : saved (kept (length valid) How.Copied) (laid (blanks (length words)) 0 (fileOf header valid)) ≡ savedOf words
+      unfolding savedOf
+      saves-copied =
+          (λ i. saved (kept (all i) How.Copied) (file-blank i))
           ∙ ap (λ (s : Status). savedAs s words) (sym (status-good words end (file-told words end head (found .walked)) blank))
 
 -- what `keep` asks for, and leaves of a sector whose headers can be followed

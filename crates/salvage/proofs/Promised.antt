@@ -233,7 +233,7 @@ same-size words = by (statusOf words)
 
 -- all the valid ones, in order
 
-valid-ones : (n : ℕ) (words : List ℕ) (at : ℕ) → validFrom n words at ≡ validOnes (divided n words at)
+pub valid-ones : (n : ℕ) (words : List ℕ) (at : ℕ) → validFrom n words at ≡ validOnes (divided n words at)
 unfolding validFrom divided validOnes
 valid-ones zero words at = refl
 valid-ones (suc n) words at = by (spanEnd words at) (λ end. valid-ones n words end)
@@ -380,10 +380,12 @@ module _ (words : List ℕ) where
 
 pub promised : Promised savedOf
 promised = record {
-  size = same-size;
-  sound = λ words. fine words .0;
+  each = λ words. record {
+    size = same-size words;
+    sound = fine words .0;
+    copied = as-it-is words;
+    reduced = λ e h. subst (Reduces words) (bad-reduced words h ∙ as-bad words e) (reduces words h);
+    lost = λ e h. sym (bad-lost words h ∙ as-bad words e);
+  };
   again = λ words. fine words .1;
-  copied = as-it-is;
-  reduced = λ words e h. subst (Reduces words) (bad-reduced words h ∙ as-bad words e) (reduces words h);
-  lost = λ words e h. sym (bad-lost words h ∙ as-bad words e);
 }

@@ -8,7 +8,7 @@ use native.Mathlib.Omega.{arith}
 use lib.Dec.{eqb}
 use lib.ListN.{length, length-append, length-replicate}
 use lib.Seq.{take-at}
-use borrow.Author.Tests.{eqb-true, eqb-false, eq-eqb, ne-eqb}
+use borrow.Author.Tests.{eqb-true, eqb-false, eq-eqb}
 use Rattle.base.specs.Pick.{pick}
 use Rattle.base.specs.Words.{part, blanks}
 use Rattle.base.proofs.Part.{part-append}
@@ -17,16 +17,16 @@ use Rattle.flash.specs.Status.{isEmpty, statusOf}
 use Rattle.flash.proofs.Geometry.{sector-least, sector-most, is-sector, length-sector}
 use Rattle.flash.proofs.Statuses.{empty-blanks}
 use Rattle.salvage.specs.Sector.{kept, Saved, savedOf}
-use Rattle.salvage.specs.Flash.{isSize, sectorNumber, refusalOf, wordsFrom, numberFrom, savedFlash, Told, told, salvageOf}
+use Rattle.salvage.specs.Flash.{isSize, sectorNumber, refusalOf, wordsFrom, numberFrom, savedFlash, Told, told, unlessRefused, salvageOf}
 use Rattle.salvage.specs.Promised.{isSound}
 use Rattle.salvage.specs.Runs.{RefusedAsItWas, SavesAll, EachSaved, SaysCopied, RunAgain}
 use Rattle.salvage.proofs.Promised.{promised, same-size}
-use Rattle.salvage.proofs.Flash.{edge, begins-at, ends-at, six-bits, number-small, whole-units, by-refusal}
+use Rattle.salvage.proofs.Flash.{edge, begins-at, ends-at, six-bits, number-small, whole-units}
+use Rattle.salvage.proofs.Refusals.{stays}
 
 pub refused-as-it-was : RefusedAsItWas
-refused-as-it-was first second f =
-    sym (by-refusal first second (refusalOf first second) refl)
-    ∙ ap (λ (b : Bool). pick b (told (numberFrom 8 3 first * 256) (savedFlash first)) (told (refusalOf first second) second)) (ne-eqb (refusalOf first second) 0 f)
+unfolding salvageOf
+refused-as-it-was first second f = stays (told (numberFrom 8 3 first * 256) (savedFlash first)) second (refusalOf first second) f
 
 -- the sectors from one on stand where they belong, behind words as many as there are before it
 module _ (first : List ℕ) where
@@ -140,7 +140,7 @@ right-size first second e = by (isSize (length first)) refl e
     by true q f = q
     by false q f = absurd (omega (arith, f))
 
-saves-all : (first : List ℕ) → isSize (length first) ≡ true → SavesAll first (told (numberFrom 8 3 first * 256) (savedFlash first))
+pub saves-all : (first : List ℕ) → isSize (length first) ≡ true → SavesAll first (told (numberFrom 8 3 first * 256) (savedFlash first))
 saves-all first ok =
     let n : ℕ = numberFrom 8 3 first in
     let top : n * 256 / 256 ≡ n = omega arith in
@@ -148,7 +148,7 @@ saves-all first ok =
       size = saved-long first ok;
       before = take-at (blanks (length first / 16)) (wordsFrom 8 3 first) (length first / 16) (length-replicate (length first / 16) 0xFFFF);
       saved = saved-sector first ok;
-      sound = λ s e. ap (λ (w : List ℕ). isSound (statusOf w)) (saved-sector first ok s e) ∙ promised .sound (sectorOf first s);
+      sound = λ s e. ap (λ (w : List ℕ). isSound (statusOf w)) (saved-sector first ok s e) ∙ promised .each (sectorOf first s) .sound;
       fine = omega arith;
       told = λ s e.
           let at : 3 + (s - 3) ≡ s = omega (arith, sector-least s e) in
@@ -159,7 +159,8 @@ saves-all first ok =
     }
 
 not-refused : (first second : List ℕ) → refusalOf first second ≡ 0 → told (numberFrom 8 3 first * 256) (savedFlash first) ≡ salvageOf first second
-not-refused first second e = by-refusal first second 0 e
+unfolding salvageOf
+not-refused first second e = sym (ap (λ (r : ℕ). unlessRefused r (told (numberFrom 8 3 first * 256) (savedFlash first)) second) e)
 
 pub each-saved : EachSaved
 each-saved first second e = subst (SavesAll first) (not-refused first second e) (saves-all first (right-size first second e))

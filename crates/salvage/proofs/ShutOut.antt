@@ -30,15 +30,15 @@ has = refl
 
 not-keeping : Promised keeping → ⊥
 unfolding statusOf isEmpty fileEnd walk headerOk segmentEnd spanOf memoryOf pageOf lengthOk pageOk bodyOk segmentOk fcsFrom fcsWord fcsBits fcsBit laid wordsIn leads spanEnd divided validOnes
-not-keeping p = false≢true (p .sound sector)
+not-keeping p = false≢true (p .each sector .sound)
 
 not-dropping : Promised dropping → ⊥
 unfolding statusOf isEmpty fileEnd walk headerOk segmentEnd spanOf memoryOf pageOf lengthOk pageOk bodyOk segmentOk fcsFrom fcsWord fcsBits fcsBit laid wordsIn leads spanEnd divided validOnes before
-not-dropping p = let n : _≡_ {A = ℕ} 1 2 = ap length (p .reduced sector bad has .segments) in absurd (omega (arith, n))
+not-dropping p = let n : _≡_ {A = ℕ} 1 2 = ap length (p .each sector .reduced bad has .segments) in absurd (omega (arith, n))
 
 not-forgetting : Promised forgetting → ⊥
 unfolding statusOf isEmpty fileEnd walk headerOk segmentEnd spanOf memoryOf pageOf lengthOk pageOk bodyOk segmentOk fcsFrom fcsWord fcsBits fcsBit laid wordsIn leads spanEnd divided validOnes savedOf validFrom
-not-forgetting p = false≢true (p .sound sector)
+not-forgetting p = false≢true (p .each sector .sound)
 
 pub shut-out : ShutOut
 shut-out = record { keeping = not-keeping; dropping = not-dropping; forgetting = not-forgetting }

@@ -12,12 +12,16 @@ use Rattle.salvage.specs.Sector.{savedOf}
 use Rattle.salvage.specs.declared.How.{How}
 use Rattle.salvage.specs.declared.Kept.{Kept}
 
--- Refusal 1, the first flash has neither 32,768 nor 262,144 words; then 12, the second has another size or isn't blank; 0 where neither holds.
+-- Refusal 1, the first flash has neither size; then 12, the second has another size or isn't blank; 0 where neither holds.
+abbrev pub refusalBy : Bool → Bool → Bool → ℕ
+refusalBy isSized isAsLarge isBlank = pick (not isSized) 1 (pick (not isAsLarge || not isBlank) 12 0)
+
+-- On words: the sizes are 32,768 and 262,144.
 abbrev pub isSize : ℕ → Bool
 isSize n = eqb n 32768 || eqb n 262144
 
 unfoldable pub refusalOf : List ℕ → List ℕ → ℕ
-refusalOf first second = pick (not (isSize (length first))) 1 (pick (not (eqb (length second) (length first)) || not (isEmpty second)) 12 0)
+refusalOf first second = refusalBy (isSize (length first)) (eqb (length second) (length first)) (isEmpty second)
 
 -- The sectors from one on, so many, as they are saved, one behind the other.
 unfoldable pub wordsFrom : ℕ → ℕ → List ℕ → List ℕ
@@ -49,5 +53,8 @@ pub record Told : Type 0 where
 abbrev pub told : ℕ → List ℕ → Told
 told number second = record { number = number; second = second }
 
+abbrev pub unlessRefused : ℕ → Told → List ℕ → Told
+unlessRefused refusal saves second = pick (eqb refusal 0) saves (told refusal second)
+
 unfoldable pub salvageOf : List ℕ → List ℕ → Told
-salvageOf first second = pick (eqb (refusalOf first second) 0) (told (numberFrom 8 3 first * 256) (savedFlash first)) (told (refusalOf first second) second)
+salvageOf first second = unlessRefused (refusalOf first second) (told (numberFrom 8 3 first * 256) (savedFlash first)) second

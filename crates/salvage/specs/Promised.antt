@@ -13,7 +13,7 @@ use Rattle.image.specs.declared.End.{End}
 use Rattle.flash.specs.Status.{statusOf}
 use Rattle.flash.specs.declared.Status.{Status}
 use Rattle.salvage.specs.Follow.{spanEnd, wordsIn}
-use Rattle.salvage.specs.Sector.{kept, Saved, saved, lost, canFollow}
+use Rattle.salvage.specs.Sector.{kept, Saved, saved, lost, canFollow, savedOf}
 use Rattle.salvage.specs.declared.How.{How}
 
 -- Empty or good; and how many segments such a sector has.
@@ -61,14 +61,22 @@ pub record Reduces (words : List ℕ) (s : Saved) : Type 0 where
   pub segments : segmentsIn (s .words) ≡ validOnes (segmentsIn words)
   pub header : getD (s .words) 0 0 / 16 ≡ getD words 0 0 / 16
 
-pub record Promised (save : List ℕ → Saved) : Type 0 where
+-- What is promised of one sector, by its words and what was saved of them.
+pub record SavedAs (words : List ℕ) (s : Saved) : Type 0 where
   -- what is written is as large as its source, and empty or good
-  pub size : (words : List ℕ) → length (save words .words) ≡ length words
-  pub sound : (words : List ℕ) → isSound (statusOf (save words .words)) ≡ true
-  -- a run on it changes nothing, and says that it was copied, with as many segments
-  pub again : (words : List ℕ) → save (save words .words) ≡ saved (kept (save words .kept .segments) How.Copied) (save words .words)
+  pub size : length (s .words) ≡ length words
+  pub sound : isSound (statusOf (s .words)) ≡ true
   -- an empty sector and a good one go over as they are
-  pub copied : (words : List ℕ) → isSound (statusOf words) ≡ true → save words ≡ saved (kept (standing (statusOf words) words) How.Copied) words
+  pub copied : isSound (statusOf words) ≡ true → s ≡ saved (kept (standing (statusOf words) words) How.Copied) words
   -- a bad one with a valid segment is reduced to all that it has, any other is lost
-  pub reduced : (words : List ℕ) → isSound (statusOf words) ≡ false → hasValid words ≡ true → Reduces words (save words)
-  pub lost : (words : List ℕ) → isSound (statusOf words) ≡ false → hasValid words ≡ false → save words ≡ lost words
+  pub reduced : isSound (statusOf words) ≡ false → hasValid words ≡ true → Reduces words s
+  pub lost : isSound (statusOf words) ≡ false → hasValid words ≡ false → s ≡ lost words
+
+-- And of any that saves sectors: a run on what is written changes nothing, and says that it was copied, with as many segments.
+pub record Promised (save : List ℕ → Saved) : Type 0 where
+  pub each : (words : List ℕ) → SavedAs words (save words)
+  pub again : (words : List ℕ) → save (save words .words) ≡ saved (kept (save words .kept .segments) How.Copied) (save words .words)
+
+-- The promise leaves no choice: what keeps it is what we save.
+abbrev pub OnlyOne : Type 0
+OnlyOne = (words : List ℕ) (s : Saved) → SavedAs words s → s ≡ savedOf words

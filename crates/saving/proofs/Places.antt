@@ -28,7 +28,7 @@ whole-words bs even b = sym (bytes-words 2 (length bs / 2) bs (omega arith) b �
 pub stored-out : (words second made : List ℕ) {end : List ℕ} {r : Kept} → wordsOf 2 second ≡ blanks (length words) → Below 65536 made → saved r made ≡ savedOf words
     → end ≡ storeWords 2 made second → saved r (wordsOf 2 end) ≡ savedOf words
 stored-out words second made {end} {r} b low e q =
-    let n : length made ≡ length words = ap (λ (s : Saved). length (s .words)) e ∙ promised .size words in
+    let n : length made ≡ length words = ap (λ (s : Saved). length (s .words)) e ∙ promised .each words .size in
     let m : length second / 2 ≡ length words = sym (length-words-of 2 second) ∙ ap length b ∙ length-replicate (length words) 0xFFFF in
     ap (λ (ws : List ℕ). saved r ws) (ap (wordsOf 2) q ∙ words-stored second made (n ∙ sym m) low) ∙ e
 
