@@ -4,6 +4,8 @@
 use Rattle.demands.specs.Settled.{Settles}
 use Rattle.logodwen.proofs as Logodwen
 use Rattle.lines.proofs as Lines
+use Rattle.salvage.proofs as Salvage
+use Rattle.saving.proofs as Saving
 
 -- The seven entries, the list of requests, the check sequence, the reader of captured replies, and the one that saves a flash.
 pub record EntriesSettled : Type 0 where
@@ -18,6 +20,13 @@ pub record EntriesSettled : Type 0 where
   pub fcs : Settles Logodwen.sequence.logodwen6_fcs.Kinds.ps Logodwen.sequence.logodwen6_fcs.Kinds.r Logodwen.sequence.logodwen6_fcs.Reads.Learnt
   pub capture : Settles Logodwen.captured.logodwen6_capture.Kinds.ps Logodwen.captured.logodwen6_capture.Kinds.r Logodwen.captured.logodwen6_capture.Reads.Learnt
   pub salvage : Settles Logodwen.salvaged.logodwen6_salvage.Kinds.ps Logodwen.salvaged.logodwen6_salvage.Kinds.r Logodwen.salvaged.logodwen6_salvage.Reads.Learnt
+
+-- What is saved: of a sector, of a flash in words and in bytes, and the number of a sector (02, request 14).
+pub record SavingSettled : Type 0 where
+  pub sector : Settles Salvage.save.Kinds.ps Salvage.save.Kinds.r Salvage.save.Reads.Learnt
+  pub number : Settles Salvage.whole.sector_number.Kinds.ps Salvage.whole.sector_number.Kinds.r Salvage.whole.sector_number.Reads.Learnt
+  pub words : Settles Salvage.whole.salvage.Kinds.ps Salvage.whole.salvage.Kinds.r Salvage.whole.salvage.Reads.Learnt
+  pub bytes : Settles Saving.salvage.Kinds.ps Saving.salvage.Kinds.r Saving.salvage.Reads.Learnt
 
 -- The readers of lines, the bench's and captures: what a line says, and each word of the buffer.
 pub record LinesSettled : Type 0 where
