@@ -1,7 +1,7 @@
 /* logodwen.h: the reference node for a host in C (liblogodwen.a).
 
    A node is a state machine without memory of its own: the host keeps the node's state as 208 bytes, its flash, its memories, its Q-List
-   and its event area as runs of bytes, and lends them to each call. There are eight calls, and two entries that need no node:
+   and its event area as runs of bytes, and lends them to each call. There are eight calls, and three entries that need no node:
 
        logodwen_start      a node starts on a flash
        logodwen_request    a packet from a master came in on a link
@@ -13,6 +13,7 @@
        logodwen_slow       the slow-control step: the entry of the Q-List whose turn it is, handed out if it is due
        logodwen_fcs        the check sequence of words
        logodwen_capture    whether words are a group's reply, as this or another node may have sent it, and if not, from which word on
+       logodwen_salvage    what is readable of a flash with bad sectors, saved in a second one
 
    A call either does all that it answers, or is refused and changes nothing. Every call ends, gives an answer for any numbers and any
    bytes that it is lent, and touches no byte outside the lent runs: that is proved, so no input has to be kept away from it.
@@ -46,13 +47,13 @@
    at the same time in different threads; calls that share a run (the state above all) may not.
 
    Words: a word is two bytes, a word of program memory (PM) four, the low byte first. Of a PM word the low 24 bits count, and a store
-   clears the others. The eight calls and logodwen_capture take lengths in bytes (`_len`); bytes that are not a whole word at the end of a
-   run, or not a whole record of the Q-List, are ignored, and stay as they are. Only a flash with a byte over is refused: it has one of two
-   sizes, to the byte. The helpers count in words (`words`, `count`, `room`), or in records.
+   clears the others. The eight calls, logodwen_capture and logodwen_salvage take lengths in bytes (`_len`); bytes that are not a whole word at
+   the end of a run, or not a whole record of the Q-List, are ignored, and stay as they are. Only a flash with a byte over is refused: it has
+   one of two sizes, to the byte. The helpers count in words (`words`, `count`, `room`), or in records.
 
    The flash has bench size, 32,768 words, or full size, 262,144: the host picks one at start, and lends as many bytes from then on. Both have
-   the same sectors at the same addresses; those of a full flash are eight times as long. Only start reads all of it. A command on a file
-   reads its sector, a File Write those up to the one that it takes, an erasure sets its words, and nothing else touches the flash.
+   the same sectors at the same addresses; those of a full flash are eight times as long. Of the calls only start reads all of it. A command
+   on a file reads its sector, a File Write those up to the one that it takes, an erasure sets its words, and nothing else touches the flash.
 
    Times are in ticks of 10 ms and count modulo 2^32. A slave that has not answered 60 ticks after it was asked, or sent
    NEXT, is late. An entry of the Q-List is due once its time has come, for 2^31 ticks, which is 248 days. */
@@ -118,6 +119,7 @@ extern "C" {
 #define LOGODWEN_STACK_SLOW 4096u
 #define LOGODWEN_STACK_FCS 4096u
 #define LOGODWEN_STACK_CAPTURE 4096u
+#define LOGODWEN_STACK_SALVAGE 4096u /* STACK_SALVAGE: to be measured */
 
 /* The kinds of node. */
 #define LOGODWEN_CDP 1u  /* has no slaves */
@@ -149,6 +151,7 @@ extern "C" {
 #define LOGODWEN_REFUSED_BUSY 6u         /* a request with words, or an event build, while a request or a build is pending */
 #define LOGODWEN_REFUSED_UNASKED 7u      /* a reply or a poll with nothing pending, or a reply from a slave that is not being asked */
 #define LOGODWEN_REFUSED_OVERRUN 10u     /* of a list of requests, and its only one: a packet, or its three words, runs past the list's end */
+#define LOGODWEN_REFUSED_SECOND 12u      /* of a salvage, after 1: the second flash differs in size from the first, or isn't blank */
 
 /* What a call that is not refused answers: see logodwen_answer and those below it. */
 #define LOGODWEN_REPLY 1u     /* a reply to the master stands in the reply buffer, or has no words */
@@ -163,6 +166,11 @@ extern "C" {
 #define LOGODWEN_ASK_EVENT 9u /* build, reply, poll: a slave is to be sent Read Event, the one word 0x012E with BC 3 */
 #define LOGODWEN_NO_EVENT 10u /* reply, poll: the build is over, and no slave had data: there is no event */
 #define LOGODWEN_BUILT 11u    /* reply, poll: the build is over, and an event stands in the event area, to be read by Read Event */
+
+/* What came of a sector in a salvage: see logodwen_saved. */
+#define LOGODWEN_COPIED 1u  /* it is empty or good, and stands in the second flash as it is */
+#define LOGODWEN_REDUCED 2u /* it is bad: its valid segments stand there, as a good file */
+#define LOGODWEN_LOST 3u    /* it is bad, and nothing of it is kept: the second flash is empty there */
 
 /* The entries. Names that begin with logodwen6_ are the symbols of the archive; a host writes the short names below. */
 
@@ -309,6 +317,19 @@ uint16_t logodwen6_fcs(const uint8_t *bytes, size_t len);
                            words, that answer is the group's reply, and it has no fragments */
 uint64_t logodwen6_capture(uint32_t mask, const uint8_t *words, size_t words_len);
 
+/* Saves what is readable of a flash with bad sectors in a second one, of which every sector is empty or good then. It needs no node. Refused:
+   1 or 12; then no byte is written. Answers what came of each of the sectors 3 to 10 (logodwen_saved) and how many segments of it are kept
+   (logodwen_kept):
+     - one that is empty or good goes over as it is (LOGODWEN_COPIED);
+     - a bad one whose first word can begin a file, and whose 1 to 14 segments can be followed by their headers inside the sector, none with
+       an odd length in PM, keeps those that are valid, in their order, under the same first word but for their number, with FFFF behind them
+       (LOGODWEN_REDUCED). All can be: what was bad then stood behind the file;
+     - any other, and one that has no valid segment, is left out: the sector stays empty (LOGODWEN_LOST).
+   Names go over as they are, also where several sectors have one. A salvage of the second flash changes nothing more: all is copied.
+     first                 65,536 or 524,288 bytes, which are only read
+     second                as many, all FF; those of sectors 0 to 2 stay so. It overlaps `first` nowhere: a flash is not saved into itself */
+uint64_t logodwen6_salvage(const uint8_t *first, size_t first_len, uint8_t *second, size_t second_len);
+
 #define logodwen_start logodwen6_start
 #define logodwen_request logodwen6_request
 #define logodwen_requests logodwen6_requests
@@ -318,11 +339,13 @@ uint64_t logodwen6_capture(uint32_t mask, const uint8_t *words, size_t words_len
 #define logodwen_erase logodwen6_erase
 #define logodwen_slow logodwen6_slow
 #define logodwen_capture logodwen6_capture
+#define logodwen_salvage logodwen6_salvage
 
 /* The same of so many words. It ends a segment's body and every reply that has words. */
 static inline uint16_t logodwen_fcs(const uint8_t *bytes, size_t words) { return logodwen6_fcs(bytes, 2 * words); }
 
-/* ---- What was answered, taken apart. A call that is refused has no other part. ---- */
+/* ---- What was answered, taken apart. A call that is refused has no other part. What logodwen_salvage answers has a form of its own: its
+   refusal is read as any other, and the rest by logodwen_saved and logodwen_kept alone, which stand below, with the sectors. ---- */
 
 /* What a part that an answer doesn't have is: no BC, no slave and no place. */
 #define LOGODWEN_NONE 0xFFFFFFFFu
@@ -414,6 +437,7 @@ static inline const char *logodwen_refusal_text(unsigned refusal) {
     case LOGODWEN_REFUSED_LIST_SIZE: return "9: the Q-List is above 910 records, or has fewer than are listed";
     case LOGODWEN_REFUSED_OVERRUN: return "10: a packet, or its three words, runs past the end of the list";
     case LOGODWEN_REFUSED_EVENTS_SIZE: return "11: the event area is below 12,288 words";
+    case LOGODWEN_REFUSED_SECOND: return "12: the second flash differs in size from the first, or isn't blank";
     default: return "not a refusal";
     }
 }
@@ -614,6 +638,26 @@ static inline size_t logodwen_sector_start(size_t flash_len, unsigned sector) {
 /* Its address in Summary and Erase, the same in both sizes; 0 of a number that is none. */
 static inline unsigned logodwen_sector_address(unsigned sector) {
     return !logodwen_is_sector(sector) ? 0 : sector == LOGODWEN_SECTOR_FIRST ? 0x0200u : 0x0400u * (sector - LOGODWEN_SECTOR_FIRST);
+}
+
+/* What logodwen_salvage answers of a sector, in six bits. For the two below. */
+static inline unsigned logodwen_salvaged(uint64_t answered, unsigned sector) {
+    return logodwen_is_sector(sector) ? (unsigned)(answered >> (8 + 6 * (sector - LOGODWEN_SECTOR_FIRST)) & 63u) : 0;
+}
+
+/* Of logodwen_salvage: what came of a sector, LOGODWEN_COPIED, LOGODWEN_REDUCED or LOGODWEN_LOST; and how many of its segments the second
+   flash has. 0 of a number that is no sector's, and where it was refused. */
+static inline unsigned logodwen_saved(uint64_t answered, unsigned sector) { return logodwen_salvaged(answered, sector) >> 4; }
+static inline unsigned logodwen_kept(uint64_t answered, unsigned sector) { return logodwen_salvaged(answered, sector) & 15u; }
+
+/* What came of a sector as text. */
+static inline const char *logodwen_saved_text(unsigned saved) {
+    switch (saved) {
+    case LOGODWEN_COPIED: return "copied";
+    case LOGODWEN_REDUCED: return "reduced";
+    case LOGODWEN_LOST: return "lost";
+    default: return "not told";
+    }
 }
 
 /* ---- Files and segments.

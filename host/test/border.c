@@ -1,6 +1,7 @@
 /* Tests of the border: each refusal and their order, odd lengths, NULL with length 0, guard bytes round every run, alignment, a flash of
    either size, files in several packets, lengths in the directory, remains behind a file, names that several sectors have, slaves that answer in
-   packets, the Q-List, captured group replies, lists of requests, event builds, the parts of what is answered, and the layout of the state.
+   packets, the Q-List, captured group replies, lists of requests, event builds, saving what is readable, the parts of what is answered, and
+   the layout of the state.
    Every run stands between guard bytes; after each call they are looked at, and after a refused one every byte of every run too. */
 #include "../../include/logodwen.h"
 #include "long_file.h"
@@ -22,13 +23,13 @@ static void check(int holds, const char *text, int line) {
 
 /* Runs. */
 
-enum { STATE, FLASH, PM, DM, IO, AREA, LIST, EVENTS, REPLY, PACKET, REPLIES, RUNS }; /* of a list of requests PACKET has its packets */
+enum { STATE, FLASH, PM, DM, IO, AREA, LIST, EVENTS, REPLY, PACKET, REPLIES, SECOND, RUNS }; /* of a list of requests PACKET has its packets */
 enum { GUARD = 64 };
-static const char *const names[RUNS] = {"state", "flash", "pm", "dm", "io", "area", "list", "events", "reply", "packet", "replies"};
+static const char *const names[RUNS] = {"state", "flash", "pm", "dm", "io", "area", "list", "events", "reply", "packet", "replies", "second"};
 static size_t rooms[RUNS] = {LOGODWEN_STATE_BYTES + 8, 0,                        LOGODWEN_PM_BYTES + 16,         LOGODWEN_DM_BYTES + 8,
                              LOGODWEN_IO_BYTES + 8,    LOGODWEN_AREA_BYTES + 8,  LOGODWEN_LIST_BYTES + 28,       LOGODWEN_EVENTS_BYTES + 8,
-                             LOGODWEN_REPLY_BYTES + 8, LOGODWEN_SLAVE_REPLY_BYTES + 8, 2 * LOGODWEN_REPLIES_BYTES + 8};
-static size_t flash_bytes = LOGODWEN_FLASH_BYTES; /* of the flash that is lent: its room goes by that */
+                             LOGODWEN_REPLY_BYTES + 8, LOGODWEN_SLAVE_REPLY_BYTES + 8, 2 * LOGODWEN_REPLIES_BYTES + 8, 0};
+static size_t flash_bytes = LOGODWEN_FLASH_BYTES; /* of the flash that is lent, and of the second one: their room goes by that */
 static uint8_t *blocks[RUNS], *runs[RUNS], *copies[RUNS]; /* a block holds guard bytes, a run, guard bytes */
 static size_t lengths[RUNS];
 
@@ -45,7 +46,7 @@ static size_t unit(void) { return flash_bytes / 2 / 16; }
 
 /* Runs that begin `shift` bytes past an aligned place. */
 static void lay_out(size_t shift) {
-    rooms[FLASH] = flash_bytes + 8;
+    rooms[FLASH] = rooms[SECOND] = flash_bytes + 8;
     for (int run = 0; run < RUNS; run++) {
         size_t size = rooms[run] + 2 * GUARD + 16;
         free(blocks[run]);
@@ -62,8 +63,9 @@ static void lay_out(size_t shift) {
     }
     memset(runs[STATE], 0, rooms[STATE]);
     memset(runs[FLASH], 0xFF, rooms[FLASH]);
+    memset(runs[SECOND], 0xFF, rooms[SECOND]);
     const size_t usual[RUNS] = {LOGODWEN_STATE_BYTES, flash_bytes,           256, 128, 128, LOGODWEN_AREA_BYTES, LOGODWEN_LIST_BYTES,
-                                LOGODWEN_EVENTS_BYTES, LOGODWEN_REPLY_BYTES, 0,   2 * LOGODWEN_REPLIES_BYTES};
+                                LOGODWEN_EVENTS_BYTES, LOGODWEN_REPLY_BYTES, 0,   2 * LOGODWEN_REPLIES_BYTES, flash_bytes};
     memcpy(lengths, usual, sizeof lengths);
 }
 
@@ -2330,6 +2332,131 @@ static void test_series_event(void) {
     CHECK(is_kept(1, 0, 0));
 }
 
+/* Saving what is readable (02, request 14): the flash is the first one, and SECOND the second. */
+
+static uint64_t salvage_at(int line) {
+    remember();
+    uint64_t answered = logodwen_salvage(lent(FLASH), lengths[FLASH], lent(SECOND), lengths[SECOND]);
+    look_round(logodwen_refusal(answered), line);
+    check(is_same(FLASH, 0, rooms[FLASH]), "the first flash stays", line);
+    return answered;
+}
+#define SALVAGE() salvage_at(__LINE__)
+
+/* A number that says of a sector what came of it, and how many segments are kept. */
+static uint64_t saved(unsigned sector, uint64_t how, uint64_t kept) { return (how << 4 | kept) << (8 + 6 * (sector - LOGODWEN_SECTOR_FIRST)); }
+
+static void put_in_sector(uint8_t *flash, unsigned sector, size_t count, const uint16_t *words) {
+    for (size_t i = 0; i < count; i++)
+        logodwen_put(flash, logodwen_sector_start(flash_bytes, sector) + i, words[i]);
+}
+#define SECTOR_OF(flash, sector, ...) \
+    put_in_sector(flash, sector, sizeof(uint16_t[]){__VA_ARGS__} / 2, (const uint16_t[]){__VA_ARGS__})
+
+/* A segment of two DM words; its FCS, or a wrong one. */
+#define SEGMENT(fcs) 0x4003, 0x2000, 0xCAFE, 0xF00D, fcs
+
+/* Lays the flash, and what the second one then has. Answers the number that a salvage answers. A header of blank words says 16,383 words of IO: it
+   leads out of a sector of bench size, and in one of full size to the place behind them. */
+static uint64_t lay_damaged(uint8_t *expected) {
+    static const uint8_t data[4] = {0xFE, 0xCA, 0x0D, 0xF0};
+    const uint16_t right = logodwen_fcs(data, 2), wrong = right ^ 1;
+    const bool is_followed = flash_bytes == LOGODWEN_FLASH_FULL_BYTES;
+    uint8_t *flash = runs[FLASH];
+    memset(expected, 0xFF, flash_bytes);
+    memset(flash, 0x5A, 2 * unit()); /* sectors 0 to 2 do not go over */
+    SECTOR_OF(flash, 3, 0x7211, SEGMENT(right));
+    SECTOR_OF(expected, 3, 0x7211, SEGMENT(right));
+    SECTOR_OF(flash, 4, 0x7213, SEGMENT(wrong), SEGMENT(right), SEGMENT(wrong));
+    SECTOR_OF(expected, 4, 0x7211, SEGMENT(right));
+    SECTOR_OF(flash, 5, 0x6212, SEGMENT(right), SEGMENT(right));
+    SECTOR_OF(expected, 5, 0x6212, SEGMENT(right), SEGMENT(right));
+    logodwen_put(flash, logodwen_sector_start(flash_bytes, 6) - 1, 0x7FFF); /* behind that file, up to the last bit of the sector */
+    SECTOR_OF(flash, 6, 0x7211, SEGMENT(wrong));
+    SECTOR_OF(flash, 7, 0xB211, SEGMENT(right));
+    SECTOR_OF(flash, 8, 0x7212, SEGMENT(right), 0x0003, 0x0000);
+    SECTOR_OF(flash, 9, 0x7212, SEGMENT(right), 0xFFFF, 0xFFFF);
+    if (is_followed)
+        SECTOR_OF(expected, 9, 0x7211, SEGMENT(right));
+    return saved(3, LOGODWEN_COPIED, 1) | saved(4, LOGODWEN_REDUCED, 1) | saved(5, LOGODWEN_REDUCED, 2) | saved(6, LOGODWEN_LOST, 0)
+           | saved(7, LOGODWEN_LOST, 0) | saved(8, LOGODWEN_LOST, 0) | saved(10, LOGODWEN_COPIED, 0)
+           | (is_followed ? saved(9, LOGODWEN_REDUCED, 1) : saved(9, LOGODWEN_LOST, 0));
+}
+
+/* At every shift from an aligned place; and a salvage of what was saved, which changes nothing. */
+static void test_salvage(void) {
+    static uint8_t expected[LOGODWEN_FLASH_FULL_BYTES];
+    for (size_t shift = 0; shift < 9; shift++) {
+        lay_out(shift);
+        uint64_t answered = lay_damaged(expected), again = 0;
+        CHECK(SALVAGE() == answered && memcmp(runs[SECOND], expected, flash_bytes) == 0);
+        for (unsigned sector = LOGODWEN_SECTOR_FIRST; sector <= LOGODWEN_SECTOR_LAST; sector++)
+            again |= saved(sector, LOGODWEN_COPIED, logodwen_kept(answered, sector));
+        memcpy(runs[FLASH], expected, flash_bytes);
+        memset(runs[SECOND], 0xFF, flash_bytes);
+        CHECK(SALVAGE() == again && memcmp(runs[SECOND], expected, flash_bytes) == 0);
+    }
+}
+
+/* Refusal 1 before 12; of the second flash each byte counts, and none behind it. */
+static void test_salvage_refusals(void) {
+    const size_t others[] = {0, 1, 2, flash_bytes / 2, flash_bytes - 2, flash_bytes - 1, flash_bytes + 1, flash_bytes + 2};
+    const size_t places[] = {0, 1, 2 * unit(), flash_bytes / 2 + 1, flash_bytes - 2, flash_bytes - 1};
+    static uint8_t expected[LOGODWEN_FLASH_FULL_BYTES];
+    lay_out(0);
+    uint64_t answered = lay_damaged(expected);
+    for (size_t i = 0; i < sizeof others / sizeof *others; i++) {
+        lengths[FLASH] = others[i];
+        CHECK(SALVAGE() == LOGODWEN_REFUSED_FLASH_SIZE);
+        lengths[SECOND] = others[i];
+        CHECK(SALVAGE() == LOGODWEN_REFUSED_FLASH_SIZE);
+        lengths[FLASH] = flash_bytes;
+        CHECK(SALVAGE() == LOGODWEN_REFUSED_SECOND);
+        lengths[SECOND] = flash_bytes;
+    }
+    for (size_t i = 0; i < sizeof places / sizeof *places; i++) {
+        runs[SECOND][places[i]] ^= (uint8_t)(1u << i);
+        CHECK(SALVAGE() == LOGODWEN_REFUSED_SECOND);
+        lengths[FLASH]--;
+        CHECK(SALVAGE() == LOGODWEN_REFUSED_FLASH_SIZE);
+        lengths[FLASH]++;
+        runs[SECOND][places[i]] = 0xFF;
+    }
+    runs[SECOND][flash_bytes] = 0;
+    CHECK(SALVAGE() == answered && memcmp(runs[SECOND], expected, flash_bytes) == 0);
+    CHECK(SALVAGE() == LOGODWEN_REFUSED_SECOND); /* now it is written */
+}
+
+/* Two flashes, each of a size that a flash may have. */
+static void test_salvage_sizes(void) {
+    const size_t sizes[2] = {LOGODWEN_FLASH_BYTES, LOGODWEN_FLASH_FULL_BYTES};
+    uint64_t empty = 0;
+    for (unsigned sector = LOGODWEN_SECTOR_FIRST; sector <= LOGODWEN_SECTOR_LAST; sector++)
+        empty |= saved(sector, LOGODWEN_COPIED, 0);
+    lay_out(0);
+    for (size_t first = 0; first < 2; first++)
+        for (size_t second = 0; second < 2; second++) {
+            lengths[FLASH] = sizes[first];
+            lengths[SECOND] = sizes[second];
+            CHECK(SALVAGE() == (first == second ? empty : LOGODWEN_REFUSED_SECOND));
+        }
+}
+
+/* The parts of the number, of each sector; a refusal has none, and neither has a number that is no sector's. */
+static void test_salvage_answers(void) {
+    for (unsigned sector = LOGODWEN_SECTOR_FIRST; sector <= LOGODWEN_SECTOR_LAST; sector++)
+        for (unsigned other = 0; other < 14; other++) {
+            unsigned how = other == sector ? LOGODWEN_LOST : 0, kept = other == sector ? 15 : 0;
+            uint64_t answered = saved(sector, LOGODWEN_LOST, 15);
+            CHECK(logodwen_saved(answered, other) == how && logodwen_kept(answered, other) == kept);
+            CHECK(logodwen_refusal(answered) == LOGODWEN_DONE && logodwen_saved(LOGODWEN_REFUSED_SECOND, other) == 0);
+        }
+    CHECK(logodwen_saved(saved(4, LOGODWEN_COPIED, 9), 4) == LOGODWEN_COPIED && logodwen_kept(saved(4, LOGODWEN_COPIED, 9), 4) == 9);
+    CHECK(logodwen_saved(UINT64_MAX, UINT32_MAX) == 0 && logodwen_kept(UINT64_MAX, 2) == 0 && logodwen_kept(UINT64_MAX, 11) == 0);
+    CHECK(strcmp(logodwen_saved_text(LOGODWEN_COPIED), "copied") == 0 && strcmp(logodwen_saved_text(LOGODWEN_REDUCED), "reduced") == 0);
+    CHECK(strcmp(logodwen_saved_text(LOGODWEN_LOST), "lost") == 0 && strcmp(logodwen_saved_text(0), "not told") == 0);
+}
+
 static void test_texts(void) {
     CHECK(strcmp(logodwen_reply_text(zero_length(0)), "NEXT") == 0 && strcmp(logodwen_reply_text(zero_length(1)), "ERROR") == 0);
     CHECK(strcmp(logodwen_reply_text(zero_length(2)), "ABORT") == 0 && strcmp(logodwen_reply_text(zero_length(3)), "END") == 0);
@@ -2337,9 +2464,9 @@ static void test_texts(void) {
     CHECK(logodwen_is_next(zero_length(0)) && !logodwen_is_next(zero_length(3)) && !logodwen_is_next(LOGODWEN_REFUSED_BUSY));
     CHECK(!logodwen_is_next((uint64_t)LOGODWEN_REPLY << 8 | (uint64_t)1 << 32)
           && !logodwen_is_next((uint64_t)LOGODWEN_WAITING << 8));
-    for (unsigned refusal = 1; refusal <= 11; refusal++)
+    for (unsigned refusal = 1; refusal <= 12; refusal++)
         CHECK(strtoul(logodwen_refusal_text(refusal), NULL, 10) == refusal);
-    CHECK(strcmp(logodwen_refusal_text(0), "done") == 0 && strcmp(logodwen_refusal_text(12), "not a refusal") == 0);
+    CHECK(strcmp(logodwen_refusal_text(0), "done") == 0 && strcmp(logodwen_refusal_text(13), "not a refusal") == 0);
     CHECK(logodwen_done(done(0xFFFFFFFF)) == 0xFFFFFFFF && logodwen_done(LOGODWEN_REFUSED_OVERRUN) == 0);
     CHECK(logodwen_refusal(done(3)) == LOGODWEN_DONE && logodwen_answer(done(3)) == 0 && logodwen_bc(done(3)) == LOGODWEN_NONE);
     CHECK(logodwen_place(done(3)) == LOGODWEN_NONE && !logodwen_is_next(done(3)) && logodwen_slave(done(3)) == LOGODWEN_NONE);
@@ -2382,7 +2509,7 @@ static void test_to_send(void) {
     CHECK(!logodwen_to_send(zero_length(0), request, 3, &sent) && !logodwen_to_send(with_words(3), request, 3, &sent));
     CHECK(!logodwen_to_send((uint64_t)LOGODWEN_WAITING << 8, request, 3, &sent) && !logodwen_to_send(broken(0), request, 3, &sent));
     CHECK(!logodwen_to_send(handed(1), request, 3, &sent) && !logodwen_to_send(nothing(), request, 3, &sent));
-    for (uint64_t refusal = 0; refusal < 12; refusal++)
+    for (uint64_t refusal = 0; refusal < 13; refusal++)
         CHECK(!logodwen_to_send(refusal, request, 3, &sent) && sent.bc == 9);
 }
 
@@ -2416,6 +2543,7 @@ int main(void) {
     at_both_sizes(test_long_files);
     flash_bytes = LOGODWEN_FLASH_FULL_BYTES;
     test_series_of_long_file();
+    test_salvage_sizes();
     flash_bytes = LOGODWEN_FLASH_BYTES;
     test_group();
     test_packets();
@@ -2469,6 +2597,9 @@ int main(void) {
     test_build_bytes();
     test_build_lengths();
     test_series_event();
+    at_both_sizes(test_salvage);
+    at_both_sizes(test_salvage_refusals);
+    test_salvage_answers();
     test_texts();
     test_to_send();
     for (int run = 0; run < RUNS; run++) {

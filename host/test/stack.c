@@ -12,7 +12,7 @@
 
 enum { STACK = 4 << 20, PAINT = 0xC5, MOST = 160 * 1024 };
 
-static uint8_t flash[LOGODWEN_FLASH_FULL_BYTES], pm[LOGODWEN_PM_BYTES], dm[LOGODWEN_DM_BYTES], io[LOGODWEN_IO_BYTES],
+static uint8_t flash[LOGODWEN_FLASH_FULL_BYTES], second[LOGODWEN_FLASH_FULL_BYTES], pm[LOGODWEN_PM_BYTES], dm[LOGODWEN_DM_BYTES], io[LOGODWEN_IO_BYTES],
     packet[LOGODWEN_SLAVE_REPLY_BYTES];
 static struct logodwen_node node = {
     .flash = flash, .pm = pm, .dm = dm, .io = io, .pm_len = sizeof pm, .dm_len = sizeof dm, .io_len = sizeof io};
@@ -217,6 +217,32 @@ static void captures(void) {
         exit(2);
 }
 
+/* A flash of which sectors go over whole, in part and not at all: files that fill their sectors, with one segment of each broken, or a word behind
+   them, or their first word no file's. */
+static void lay_damaged(void) {
+    logodwen_node_blank(&node);
+    memset(second, 0xFF, sizeof second);
+    for (unsigned sector = LOGODWEN_SECTOR_FIRST; sector <= LOGODWEN_SECTOR_LAST; sector++) {
+        uint8_t *bytes = flash + 2 * logodwen_sector_start(node.flash_len, sector);
+        size_t words = logodwen_sector_words(node.flash_len, sector) - 1;
+        lay_long_file(bytes, NAME, words);
+        if (sector % 4 == 1)
+            bytes[10] ^= 1;
+        else if (sector % 4 == 2)
+            bytes[2 * words] ^= 1;
+        else if (sector % 4 == 3)
+            bytes[1] ^= 0x80;
+    }
+}
+
+static void salvages(void) {
+    answered = logodwen_salvage(flash, node.flash_len, second, node.flash_len);
+    if (logodwen_saved(answered, 3) != LOGODWEN_LOST || logodwen_saved(answered, 4) != LOGODWEN_COPIED
+        || logodwen_saved(answered, 5) != (is_full() ? LOGODWEN_REDUCED : LOGODWEN_LOST) /* the only segment of a bench sector */
+        || logodwen_saved(answered, 6) != LOGODWEN_REDUCED)
+        exit(2);
+}
+
 /* Measuring. */
 
 static void (*work)(void);
@@ -276,6 +302,8 @@ static int measure_all(size_t flash_len) {
     lay_list();
     wrong += measure("requests", lists, LOGODWEN_STACK_REQUESTS);
     wrong += measure("start", starts, LOGODWEN_STACK_START); /* with files to judge */
+    lay_damaged();
+    wrong += measure("salvage", salvages, LOGODWEN_STACK_SALVAGE);
     return wrong;
 }
 

@@ -23,6 +23,7 @@ enum { LONG_STORED_WRONG = 44, ABORT_ENDED };                                   
 enum { ODD_TAKEN = 46, OTHER_SIZE_TAKEN, FRONT_ALONE, BYTES_SWAPPED, LONG_REFUSED, LENGTH_CUT }; /* of a flash of either size */
 enum { ALL_TOUCHED = 52 };                                                                      /* of what a call looks at */
 enum { HANDED_TWICE = 53, NUMBER_LOST, LINK_DROPS_BUILD, BUILT_OVER, ERRORS_UNCOUNTED, EVENT_SEALED, NUMBER_NOT_RESET }; /* of events */
+enum { SECOND_OVERLOOKED = 60, SECOND_ODD_TAKEN, SECOND_TESTED_FIRST, REFUSED_YET_SAVED, FRONT_COPIED, FIRST_BLANKED, KEPT_SWAPPED }; /* of a salvage */
 enum { DIRECTORY_BYTES = 64, ENTRY_WORDS = 4, FIRST = 0, STATUS = 2, LENGTH = 3 };
 enum { REPETITIONS = 1, DUE = 10 }; /* in a record: a word, and a byte */
 
@@ -482,6 +483,41 @@ uint64_t logodwen6_slow(uint32_t now, uint8_t *state, size_t state_len, uint8_t 
 }
 
 uint16_t logodwen6_fcs(const uint8_t *bytes, size_t len) { return model_fcs(bytes, len / 2); }
+
+/* A salvage that is refused, with a fault: 12 is answered before 1, or the second flash is written all the same. */
+static uint64_t refused_with_fault(uint64_t answered, const uint8_t *first, size_t first_len, uint8_t *second, size_t second_len) {
+    if (FAULT == SECOND_TESTED_FIRST && second_len != first_len)
+        return LOGODWEN_REFUSED_SECOND;
+    if (FAULT == REFUSED_YET_SAVED && answered == LOGODWEN_REFUSED_SECOND && second_len == first_len)
+        memcpy(second, first, first_len);
+    return answered;
+}
+
+/* One that is done, with a fault: sectors 0 to 2 go over too, those of the first flash are erased, or the two parts of what is told of a sector
+   stand in the other order. */
+static uint64_t saved_with_fault(uint64_t answered, const uint8_t *first, size_t len, uint8_t *second) {
+    if (FAULT == FRONT_COPIED)
+        memcpy(second, first, len / 16);
+    if (FAULT == FIRST_BLANKED)
+        memset((uint8_t *)(uintptr_t)first, 0xFF, len / 16);
+    if (FAULT != KEPT_SWAPPED)
+        return answered;
+    uint64_t swapped = 0;
+    for (unsigned sector = LOGODWEN_SECTOR_FIRST; sector <= LOGODWEN_SECTOR_LAST; sector++) {
+        uint64_t told = logodwen_kept(answered, sector) << 2 | logodwen_saved(answered, sector);
+        swapped |= told << (8 + 6 * (sector - LOGODWEN_SECTOR_FIRST));
+    }
+    return swapped;
+}
+
+uint64_t logodwen6_salvage(const uint8_t *first, size_t first_len, uint8_t *second, size_t second_len) {
+    if (FAULT == SECOND_OVERLOOKED && second_len == first_len && logodwen_is_flash_len(first_len))
+        memset(second, 0xFF, second_len);
+    uint64_t answered = model_salvage(first, first_len, second, FAULT == SECOND_ODD_TAKEN ? second_len & ~(size_t)1 : second_len);
+    if (logodwen_refusal(answered) != LOGODWEN_DONE)
+        return refused_with_fault(answered, first, first_len, second, second_len);
+    return saved_with_fault(answered, first, first_len, second);
+}
 
 /* A captured group reply, with a fault: an FCS is taken for right, whatever it is, or words left over are not looked at. */
 static uint64_t capture_with_fault(uint64_t answered, uint32_t mask, const uint8_t *words) {
