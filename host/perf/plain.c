@@ -24,8 +24,7 @@ uint16_t plain_fcs(const uint16_t *words, size_t n) {
     return c;
 }
 
-/* Where the valid segment at a place ends, or 0. */
-static size_t plain_segment_end(const uint16_t *words, size_t n, size_t at) {
+size_t plain_segment_end(const uint16_t *words, size_t n, size_t at) {
     if (n - at < 2)
         return 0;
     unsigned memory = words[at] >> 14, length = words[at] & 0x3FFF, page = words[at + 1] >> 14;

@@ -9,6 +9,9 @@
 /* The table algorithm of section 16.2 of the note. */
 uint16_t plain_fcs(const uint16_t *words, size_t n);
 
+/* Where the valid segment at a place ends, or 0. */
+size_t plain_segment_end(const uint16_t *words, size_t n, size_t at);
+
 /* The length of the valid file that a run starts with, or 0. */
 size_t plain_file_end(const uint16_t *words, size_t n);
 

@@ -10,5 +10,6 @@ int perf_memory_runs(void);
 int perf_group_runs(void);
 int perf_border_runs(void);
 int perf_capture_runs(void);
+int perf_salvage_runs(void);
 
 #endif
