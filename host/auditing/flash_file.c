@@ -29,43 +29,14 @@ static bool can_not_be_kept(const struct flash_file *file, const char *cause, ch
 
 /* Where it stands. */
 
-/* A file of another name in the folder of the flash. */
-static char *beside(const char *real, const char *ending) {
-    size_t room = strlen(real) + strlen(ending) + 2, folder = (size_t)(strrchr(real, '/') + 1 - real);
-    char *path = malloc(room);
-    if (path != NULL)
-        snprintf(path, room, "%.*s.%s%s", (int)folder, real, real + folder, ending);
-    return path;
-}
-
-/* The place of a file that isn't there: its folder's, and its name. */
-static char *place_of_new(const char *path) {
-    const char *slash = strrchr(path, '/'), *name = slash == NULL ? path : slash + 1;
-    size_t length = strlen(path) + 3;
-    char *folder = malloc(length), *real = NULL;
-    if (folder == NULL)
-        return NULL;
-    snprintf(folder, length, "%.*s.", (int)(name - path), path);
-    char *found = realpath(folder, NULL);
-    free(folder);
-    if (found == NULL || (real = malloc(strlen(found) + strlen(name) + 2)) == NULL)
-        return NULL;
-    sprintf(real, "%s/%s", strcmp(found, "/") == 0 ? "" : found, name);
-    free(found);
-    return real;
-}
-
 static bool is_placed(struct flash_file *file, char *why) {
-    struct look look;
-    file->real = realpath(file->path, NULL);
-    if (file->real == NULL && errno == ENOENT && look_at_name(file->path, &look))
+    file->real = place_of(file->path);
+    if (file->real == NULL && place_is_astray(file->path))
         return can_not_be_kept(file, "a link that leads nowhere", why);
-    if (file->real == NULL && errno == ENOENT)
-        file->real = place_of_new(file->path);
     if (file->real == NULL)
         return is_not_kept(file, file->path, why);
-    file->lock_path = beside(file->real, ".audit-lock");
-    file->beside = beside(file->real, ".audit-new");
+    file->lock_path = place_beside(file->real, ".audit-lock");
+    file->beside = place_beside(file->real, ".audit-new");
     return (file->lock_path != NULL && file->beside != NULL) || say(why, "out of memory");
 }
 
@@ -91,12 +62,6 @@ static bool is_waited_for(const struct flash_file *file, int lock) {
     return is_locked;
 }
 
-/* Whether the file that was locked still has its name: the one before may have taken it away. */
-static bool is_there(const char *path, int lock) {
-    struct look named, locked;
-    return look_at_name(path, &named) && look_into(lock, &locked) && named.device == locked.device && named.inode == locked.inode;
-}
-
 static bool is_locked(struct flash_file *file, char *why) {
     for (;;) {
         struct flock held;
@@ -112,7 +77,7 @@ static bool is_locked(struct flash_file *file, char *why) {
             close(lock);
             return false;
         }
-        if (is_there(file->lock_path, lock)) {
+        if (place_is_there(file->lock_path, lock)) { /* else the one before has taken it away */
             file->lock = lock;
             return true;
         }
@@ -138,11 +103,8 @@ static bool may_be_kept(struct flash_file *file, char *why) {
         return errno == ENOENT || is_not_kept(file, file->real, why);
     if (!file->look.is_file)
         return can_not_be_kept(file, "no regular file, so it can't be kept", why);
-    if ((file->look.mode & 0222u) == 0 || access(file->real, W_OK) != 0)
-        return can_not_be_kept(file, "read-only, so it is not kept; to allow it: chmod u+w", why);
-    if (file->look.names > 1)
-        return can_not_be_kept(file, "it has more than one name (hard links), of which only one would be kept", why);
-    return (file->look.owner == geteuid() || geteuid() == 0) || can_not_be_kept(file, "another user owns it, and keeping it would change that", why);
+    const char *objection = place_objection(file->real, &file->look);
+    return objection == NULL || can_not_be_kept(file, objection, why);
 }
 
 /* Reading. */
@@ -201,30 +163,6 @@ void flash_file_close(struct flash_file *file) {
 
 /* Writing. */
 
-static bool are_written(int out, const uint8_t *bytes, size_t count) {
-    while (count > 0) {
-        ssize_t put = write(out, bytes, count);
-        if (put < 0 && errno == EINTR)
-            continue;
-        if (put <= 0)
-            return false;
-        bytes += put;
-        count -= (size_t)put;
-    }
-    return true;
-}
-
-/* The mode and owner of the file that it takes the place of. */
-static bool is_alike(const struct flash_file *file, int out) {
-    struct look made;
-    if (file->is_new)
-        return true;
-    if (!look_into(out, &made))
-        return false;
-    bool is_owned = made.owner == file->look.owner && made.group == file->look.group;
-    return (is_owned || fchown(out, file->look.owner, file->look.group) == 0) && fchmod(out, file->look.mode) == 0;
-}
-
 /* The file beside it, anew (O_EXCL follows no link): one that stands there was left by an audit that was killed, since the lock is ours. */
 static int made_beside(const struct flash_file *file) {
     int flags = O_WRONLY | O_CREAT | O_EXCL, out = open(file->beside, flags, file->is_new ? 0666 : 0600);
@@ -233,27 +171,14 @@ static int made_beside(const struct flash_file *file) {
     return out;
 }
 
-/* The name's change, written through to the disk as far as the system can. */
-static void settle_folder(const char *real) {
-    char *folder = strdup(real);
-    if (folder == NULL)
-        return;
-    strrchr(folder, '/')[1] = 0;
-    int at = open(folder, O_RDONLY);
-    if (at >= 0) {
-        fsync(at);
-        close(at);
-    }
-    free(folder);
-}
-
 bool flash_file_write(struct flash_file *file, const struct logodwen_node *node, char *why) {
     int out = made_beside(file);
     if (out < 0)
         return is_not_kept(file, file->beside, why);
-    bool is_done = are_written(out, node->flash, node->flash_len) && is_alike(file, out) && fsync(out) == 0;
+    bool is_done = place_is_written(out, node->flash, node->flash_len) && (file->is_new || place_is_alike(out, &file->look));
+    is_done = is_done && fsync(out) == 0;
     if (close(out) == 0 && is_done && rename(file->beside, file->real) == 0) {
-        settle_folder(file->real);
+        place_settle(file->real);
         return true;
     }
     is_not_kept(file, file->beside, why);

@@ -1,5 +1,5 @@
-/* What the programs behind host/audit and host/capture have in common: texts, which files, files as words, the command line, and the lines
-   that are printed. Words are two bytes, the low byte first, and count from 0. */
+/* What the programs behind host/audit, host/capture and host/salvage have in common: texts, which files, files as words, where files stand, the
+   command line, and the lines that are printed. Words are two bytes, the low byte first, and count from 0. */
 #ifndef COMMON_H
 #define COMMON_H
 
@@ -8,7 +8,7 @@
 #include <stdbool.h>
 #include <stdio.h>
 
-#define RELEASE "1.0" /* of the audit, the bench and the capture: the tools around the node */
+#define RELEASE "1.0" /* of the audit, the bench, the capture and the salvage: the tools around the node */
 
 /* Which of the programs it is, as its command is called; each says so in its main.c. */
 extern const char program[];
@@ -51,6 +51,20 @@ struct look {
 bool look_at(const char *path, struct look *look);      /* where links lead */
 bool look_at_name(const char *path, struct look *look); /* a link itself */
 bool look_into(int file, struct look *look);
+bool look_is_same(const struct look *one, const struct look *other); /* one file, by whatever names */
+
+/* Where a file stands that is written whole or not at all (places.c): it is written beside its place, and then takes its name. */
+
+char *place_of(const char *path);          /* where it stands, or is to stand, with no link on the way; NULL where it can't, with errno */
+bool place_is_astray(const char *path);    /* whether place_of can't say since it is a link that leads nowhere */
+char *place_beside(const char *real, const char *ending); /* a hidden file in its folder, of its name and an ending; NULL without memory */
+bool place_is_written(int out, const uint8_t *bytes, size_t count);
+bool place_is_there(const char *path, int file); /* whether an open file still has its name */
+void place_settle(const char *real);             /* the name's change, written through to the disk as far as the system can */
+
+/* Of a file that is there: why no other may take its name, mode and owner, or NULL; and that an open one takes its mode and owner. */
+const char *place_objection(const char *real, const struct look *look);
+bool place_is_alike(int out, const struct look *look);
 
 /* What is asked (asked.c): the options that every program has, and its files and folders. */
 

@@ -29,3 +29,5 @@ bool look_at(const char *path, struct look *look) { return looked(AT_FDCWD, path
 bool look_at_name(const char *path, struct look *look) { return looked(AT_FDCWD, path, AT_SYMLINK_NOFOLLOW, look); }
 
 bool look_into(int file, struct look *look) { return looked(file, "", AT_EMPTY_PATH, look); }
+
+bool look_is_same(const struct look *one, const struct look *other) { return one->device == other->device && one->inode == other->inode; }
