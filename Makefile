@@ -54,10 +54,12 @@ perf: tools
 	@cd $(home) && host/build build/perf target/staticlib/libperf.a target/staticlib/liblogodwen.a host/perf/*.c host/model/*.c
 	@cd $(home) && host/run build/perf
 
-# The stored vectors and the answers to the bench's scripts anew, by the model: for a change of what is tested, never of what is right.
+# The stored vectors, the answers to the bench's scripts and the example of a damaged dump anew, by the model: for a change of what is tested,
+# never of what is right.
 vectors: tools
 	@cd $(home) && python3 model/vectors.py write
 	@cd $(home) && python3 model/bench.py write
+	@cd $(home) && python3 model/salvage_example.py write
 
 tools:
 	@mkdir -p $(home)/build
