@@ -119,7 +119,7 @@ extern "C" {
 #define LOGODWEN_STACK_SLOW 4096u
 #define LOGODWEN_STACK_FCS 4096u
 #define LOGODWEN_STACK_CAPTURE 4096u
-#define LOGODWEN_STACK_SALVAGE 4096u /* STACK_SALVAGE: to be measured */
+#define LOGODWEN_STACK_SALVAGE 135168u
 
 /* The kinds of node. */
 #define LOGODWEN_CDP 1u  /* has no slaves */
