@@ -168,9 +168,9 @@ extern "C" {
 #define LOGODWEN_BUILT 11u    /* reply, poll: the build is over, and an event stands in the event area, to be read by Read Event */
 
 /* What came of a sector in a salvage: see logodwen_saved. */
-#define LOGODWEN_COPIED 1u  /* it is empty or good, and stands in the second flash as it is */
-#define LOGODWEN_REDUCED 2u /* it is bad: its valid segments stand there, as a good file */
-#define LOGODWEN_LOST 3u    /* it is bad, and nothing of it is kept: the second flash is empty there */
+#define LOGODWEN_SAVED_COPIED 1u  /* it is empty or good, and stands in the second flash as it is */
+#define LOGODWEN_SAVED_REDUCED 2u /* it is bad: its valid segments stand there, as a good file */
+#define LOGODWEN_SAVED_LOST 3u    /* it is bad, and nothing of it is kept: the second flash is empty there */
 
 /* The entries. Names that begin with logodwen6_ are the symbols of the archive; a host writes the short names below. */
 
@@ -320,11 +320,11 @@ uint64_t logodwen6_capture(uint32_t mask, const uint8_t *words, size_t words_len
 /* Saves what is readable of a flash with bad sectors in a second one, of which every sector is empty or good then. It needs no node. Refused:
    1 or 12; then no byte is written. Answers what came of each of the sectors 3 to 10 (logodwen_saved) and how many segments of it are kept
    (logodwen_kept):
-     - one that is empty or good goes over as it is (LOGODWEN_COPIED);
+     - one that is empty or good goes over as it is (LOGODWEN_SAVED_COPIED);
      - a bad one whose first word can begin a file, and whose 1 to 14 segments can be followed by their headers inside the sector, none with
        an odd length in PM, keeps those that are valid, in their order, under the same first word but for their number, with FFFF behind them
-       (LOGODWEN_REDUCED). All can be: what was bad then stood behind the file;
-     - any other, and one that has no valid segment, is left out: the sector stays empty (LOGODWEN_LOST).
+       (LOGODWEN_SAVED_REDUCED). All can be: what was bad then stood behind the file;
+     - any other, and one that has no valid segment, is left out: the sector stays empty (LOGODWEN_SAVED_LOST).
    Names go over as they are, also where several sectors have one. A salvage of the second flash changes nothing more: all is copied.
      first                 65,536 or 524,288 bytes, which are only read
      second                as many, all FF; those of sectors 0 to 2 stay so. It overlaps `first` nowhere: a flash is not saved into itself */
@@ -645,17 +645,17 @@ static inline unsigned logodwen_salvaged(uint64_t answered, unsigned sector) {
     return logodwen_is_sector(sector) ? (unsigned)(answered >> (8 + 6 * (sector - LOGODWEN_SECTOR_FIRST)) & 63u) : 0;
 }
 
-/* Of logodwen_salvage: what came of a sector, LOGODWEN_COPIED, LOGODWEN_REDUCED or LOGODWEN_LOST; and how many of its segments the second
-   flash has. 0 of a number that is no sector's, and where it was refused. */
+/* Of logodwen_salvage: what came of a sector, LOGODWEN_SAVED_COPIED, LOGODWEN_SAVED_REDUCED or LOGODWEN_SAVED_LOST; and how many of its
+   segments the second flash has. 0 of a number that is no sector's, and where it was refused. */
 static inline unsigned logodwen_saved(uint64_t answered, unsigned sector) { return logodwen_salvaged(answered, sector) >> 4; }
 static inline unsigned logodwen_kept(uint64_t answered, unsigned sector) { return logodwen_salvaged(answered, sector) & 15u; }
 
 /* What came of a sector as text. */
 static inline const char *logodwen_saved_text(unsigned saved) {
     switch (saved) {
-    case LOGODWEN_COPIED: return "copied";
-    case LOGODWEN_REDUCED: return "reduced";
-    case LOGODWEN_LOST: return "lost";
+    case LOGODWEN_SAVED_COPIED: return "copied";
+    case LOGODWEN_SAVED_REDUCED: return "reduced";
+    case LOGODWEN_SAVED_LOST: return "lost";
     default: return "not told";
     }
 }

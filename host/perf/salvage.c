@@ -10,7 +10,7 @@
 
 #include <string.h>
 
-enum { SEGMENTS = 4, COPIED = LOGODWEN_COPIED << 4, REDUCED = LOGODWEN_REDUCED << 4, LOST = LOGODWEN_LOST << 4 };
+enum { SEGMENTS = 4, COPIED = LOGODWEN_SAVED_COPIED << 4, REDUCED = LOGODWEN_SAVED_REDUCED << 4, LOST = LOGODWEN_SAVED_LOST << 4 };
 
 static uint16_t first[FULL], second[FULL], expected[FULL];
 static volatile uint64_t answered;

@@ -9,6 +9,6 @@ void report_sectors(uint64_t answered) {
 bool report_is_lost(uint64_t answered) {
     bool is_lost = false;
     for (unsigned sector = LOGODWEN_SECTOR_FIRST; sector <= LOGODWEN_SECTOR_LAST; sector++)
-        is_lost = is_lost || logodwen_saved(answered, sector) == LOGODWEN_LOST;
+        is_lost = is_lost || logodwen_saved(answered, sector) == LOGODWEN_SAVED_LOST;
     return is_lost;
 }

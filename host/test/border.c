@@ -2378,9 +2378,9 @@ static uint64_t lay_damaged(uint8_t *expected) {
     SECTOR_OF(flash, 9, 0x7212, SEGMENT(right), 0xFFFF, 0xFFFF);
     if (is_followed)
         SECTOR_OF(expected, 9, 0x7211, SEGMENT(right));
-    return saved(3, LOGODWEN_COPIED, 1) | saved(4, LOGODWEN_REDUCED, 1) | saved(5, LOGODWEN_REDUCED, 2) | saved(6, LOGODWEN_LOST, 0)
-           | saved(7, LOGODWEN_LOST, 0) | saved(8, LOGODWEN_LOST, 0) | saved(10, LOGODWEN_COPIED, 0)
-           | (is_followed ? saved(9, LOGODWEN_REDUCED, 1) : saved(9, LOGODWEN_LOST, 0));
+    return saved(3, LOGODWEN_SAVED_COPIED, 1) | saved(4, LOGODWEN_SAVED_REDUCED, 1) | saved(5, LOGODWEN_SAVED_REDUCED, 2)
+           | saved(6, LOGODWEN_SAVED_LOST, 0) | saved(7, LOGODWEN_SAVED_LOST, 0) | saved(8, LOGODWEN_SAVED_LOST, 0)
+           | (is_followed ? saved(9, LOGODWEN_SAVED_REDUCED, 1) : saved(9, LOGODWEN_SAVED_LOST, 0)) | saved(10, LOGODWEN_SAVED_COPIED, 0);
 }
 
 /* At every shift from an aligned place; and a salvage of what was saved, which changes nothing. */
@@ -2391,7 +2391,7 @@ static void test_salvage(void) {
         uint64_t answered = lay_damaged(expected), again = 0;
         CHECK(SALVAGE() == answered && memcmp(runs[SECOND], expected, flash_bytes) == 0);
         for (unsigned sector = LOGODWEN_SECTOR_FIRST; sector <= LOGODWEN_SECTOR_LAST; sector++)
-            again |= saved(sector, LOGODWEN_COPIED, logodwen_kept(answered, sector));
+            again |= saved(sector, LOGODWEN_SAVED_COPIED, logodwen_kept(answered, sector));
         memcpy(runs[FLASH], expected, flash_bytes);
         memset(runs[SECOND], 0xFF, flash_bytes);
         CHECK(SALVAGE() == again && memcmp(runs[SECOND], expected, flash_bytes) == 0);
@@ -2432,7 +2432,7 @@ static void test_salvage_sizes(void) {
     const size_t sizes[2] = {LOGODWEN_FLASH_BYTES, LOGODWEN_FLASH_FULL_BYTES};
     uint64_t empty = 0;
     for (unsigned sector = LOGODWEN_SECTOR_FIRST; sector <= LOGODWEN_SECTOR_LAST; sector++)
-        empty |= saved(sector, LOGODWEN_COPIED, 0);
+        empty |= saved(sector, LOGODWEN_SAVED_COPIED, 0);
     lay_out(0);
     for (size_t first = 0; first < 2; first++)
         for (size_t second = 0; second < 2; second++) {
@@ -2446,15 +2446,17 @@ static void test_salvage_sizes(void) {
 static void test_salvage_answers(void) {
     for (unsigned sector = LOGODWEN_SECTOR_FIRST; sector <= LOGODWEN_SECTOR_LAST; sector++)
         for (unsigned other = 0; other < 14; other++) {
-            unsigned how = other == sector ? LOGODWEN_LOST : 0, kept = other == sector ? 15 : 0;
-            uint64_t answered = saved(sector, LOGODWEN_LOST, 15);
+            unsigned how = other == sector ? LOGODWEN_SAVED_LOST : 0, kept = other == sector ? 15 : 0;
+            uint64_t answered = saved(sector, LOGODWEN_SAVED_LOST, 15);
             CHECK(logodwen_saved(answered, other) == how && logodwen_kept(answered, other) == kept);
             CHECK(logodwen_refusal(answered) == LOGODWEN_DONE && logodwen_saved(LOGODWEN_REFUSED_SECOND, other) == 0);
         }
-    CHECK(logodwen_saved(saved(4, LOGODWEN_COPIED, 9), 4) == LOGODWEN_COPIED && logodwen_kept(saved(4, LOGODWEN_COPIED, 9), 4) == 9);
+    uint64_t fourth = saved(4, LOGODWEN_SAVED_COPIED, 9);
+    CHECK(logodwen_saved(fourth, 4) == LOGODWEN_SAVED_COPIED && logodwen_kept(fourth, 4) == 9);
     CHECK(logodwen_saved(UINT64_MAX, UINT32_MAX) == 0 && logodwen_kept(UINT64_MAX, 2) == 0 && logodwen_kept(UINT64_MAX, 11) == 0);
-    CHECK(strcmp(logodwen_saved_text(LOGODWEN_COPIED), "copied") == 0 && strcmp(logodwen_saved_text(LOGODWEN_REDUCED), "reduced") == 0);
-    CHECK(strcmp(logodwen_saved_text(LOGODWEN_LOST), "lost") == 0 && strcmp(logodwen_saved_text(0), "not told") == 0);
+    CHECK(strcmp(logodwen_saved_text(LOGODWEN_SAVED_COPIED), "copied") == 0);
+    CHECK(strcmp(logodwen_saved_text(LOGODWEN_SAVED_REDUCED), "reduced") == 0);
+    CHECK(strcmp(logodwen_saved_text(LOGODWEN_SAVED_LOST), "lost") == 0 && strcmp(logodwen_saved_text(0), "not told") == 0);
 }
 
 static void test_texts(void) {

@@ -199,12 +199,14 @@ static void compare(void) {
 
 /* Whether the sectors of a size are a tenth at least of each kind. */
 static bool are_mixed(const unsigned long *kinds) {
-    unsigned long all = kinds[LOGODWEN_COPIED] + kinds[LOGODWEN_REDUCED] + kinds[LOGODWEN_LOST];
-    return all != 0 && 10 * kinds[LOGODWEN_COPIED] >= all && 10 * kinds[LOGODWEN_REDUCED] >= all && 10 * kinds[LOGODWEN_LOST] >= all;
+    unsigned long all = kinds[LOGODWEN_SAVED_COPIED] + kinds[LOGODWEN_SAVED_REDUCED] + kinds[LOGODWEN_SAVED_LOST];
+    return all != 0 && 10 * kinds[LOGODWEN_SAVED_COPIED] >= all && 10 * kinds[LOGODWEN_SAVED_REDUCED] >= all
+           && 10 * kinds[LOGODWEN_SAVED_LOST] >= all;
 }
 
 static void print_kinds(const char *size, const unsigned long *kinds) {
-    printf("; at %s size %lu sectors copied, %lu reduced, %lu lost", size, kinds[LOGODWEN_COPIED], kinds[LOGODWEN_REDUCED], kinds[LOGODWEN_LOST]);
+    printf("; at %s size %lu sectors copied, %lu reduced, %lu lost", size, kinds[LOGODWEN_SAVED_COPIED], kinds[LOGODWEN_SAVED_REDUCED],
+           kinds[LOGODWEN_SAVED_LOST]);
 }
 
 int main(int count, char **arguments) {

@@ -237,9 +237,9 @@ static void lay_damaged(void) {
 
 static void salvages(void) {
     answered = logodwen_salvage(flash, node.flash_len, second, node.flash_len);
-    if (logodwen_saved(answered, 3) != LOGODWEN_LOST || logodwen_saved(answered, 4) != LOGODWEN_COPIED
-        || logodwen_saved(answered, 5) != (is_full() ? LOGODWEN_REDUCED : LOGODWEN_LOST) /* the only segment of a bench sector */
-        || logodwen_saved(answered, 6) != LOGODWEN_REDUCED)
+    if (logodwen_saved(answered, 3) != LOGODWEN_SAVED_LOST || logodwen_saved(answered, 4) != LOGODWEN_SAVED_COPIED
+        || logodwen_saved(answered, 5) != (is_full() ? LOGODWEN_SAVED_REDUCED : LOGODWEN_SAVED_LOST) /* the only segment of a bench sector */
+        || logodwen_saved(answered, 6) != LOGODWEN_SAVED_REDUCED)
         exit(2);
 }
 
