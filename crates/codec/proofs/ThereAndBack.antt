@@ -8,7 +8,7 @@ use mathlib.Core.List.{List, [], _++_, append-assoc, append-nil}
 use lib.ListN.{length, getD, drop, length-append}
 use lib.Seq.{drop-at}
 use lib.Dec.{eqb}
-use borrow.Author.Tests.{eq-eqb, ne-eqb, leb-true}
+use borrow.Author.Tests.{eq-eqb, eqb-true, ne-eqb, leb-true}
 use Rattle.base.specs.Words.{Below}
 use Rattle.base.proofs.Pick.{no, and-left, and-right}
 use Rattle.flash.specs.Geometry.{isSector}
@@ -165,6 +165,12 @@ decoded-encoded n ok t =
     let back : nodeIn (encodeOf n) ≡ n = node-back n ok t in
     let same : alike (encodeOf (nodeIn (encodeOf n))) (encodeOf n) ≡ true = ap (λ (m : Node). alike (encodeOf m) (encodeOf n)) back ∙ alike-same (encodeOf n) in
     (and-both (eq-eqb (length (encodeOf n)) 208 (length-encoded n t)) (and-both same (ap stateOk back ∙ ok)), back)
+
+-- bytes of a state are 208
+pub state-long : (bytes : List ℕ) → areState bytes ≡ true → length bytes ≡ 208
+unfolding areState
+state-long bytes h =
+    eqb-true (length bytes) 208 (and-left (eqb (length bytes) 208) (alike (encodeOf (nodeIn bytes)) bytes && stateOk (nodeIn bytes)) h)
 
 pub encoded-decoded : EncodedDecoded
 unfolding areState

@@ -1,5 +1,6 @@
 // Words and a node's state as bytes, and back: what every entry of the C border reads of the runs it is lent, and stores into them.
 
+pub mod in_place;
 pub mod state;
 pub mod words;
 

@@ -54,7 +54,8 @@ fn tally_of(x: u16) -> Tally
     }
 }
 
-fn progress_of(erasing: Erasing) -> Progress
+// What is erasing, as the numbers in the state bytes.
+pub fn progress_of(erasing: Erasing) -> Progress
     ensures { λ r. ⌜ r ≡ progressOf erasing ⌝ }
 {
     match erasing {
@@ -353,7 +354,8 @@ fn masks_in(bytes: &[u8]) -> [u32; 16]
     words
 }
 
-fn directory_in(bytes: &[u8]) -> [u16; 32]
+// The directory.
+pub fn directory_in(bytes: &[u8]) -> [u16; 32]
     requires { ⌜ length (now bytes) ≡ 208 ⌝ }
     ensures { λ r. ⌜ r ≡ wordsIn 2 32 (drop 108 (now (bytes .entry))) ⌝ }
 {
@@ -386,6 +388,14 @@ fn progress_in(bytes: &[u8]) -> Progress
         sector: byte(bytes, 14) as usize,
         done: word32(bytes, 24) as usize,
     }
+}
+
+// What is erasing.
+pub fn erasing_in(bytes: &[u8]) -> Erasing
+    requires { ⌜ length (now bytes) ≡ 208 ⌝ }
+    ensures { λ r. ⌜ r ≡ erasingOf (progressIn (now (bytes .entry))) ⌝ }
+{
+    erasing_of(progress_in(bytes))
 }
 
 fn wait_in(bytes: &[u8]) -> Wait
@@ -448,7 +458,7 @@ pub fn node_in(bytes: &[u8]) -> Node
     let masks = masks_in(bytes);
     let directory = directory_in(bytes);
     let given = given_in(bytes);
-    let erasing = erasing_of(progress_in(bytes));
+    let erasing = erasing_in(bytes);
     let pending = pending_of(wait_in(bytes));
     let writing = writing_of(standing_in(bytes));
     let listing = listing_in(bytes);

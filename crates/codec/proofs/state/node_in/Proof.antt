@@ -1,6 +1,6 @@
 -- `codec::state::node_in` meets its contract. Assumes nothing.
 use mathlib.Core.Path.{ap, _∙_}
-use Rattle.codec.specs.StateBytes.{erasingOf, pendingOf, writingOf, nodeIn}
+use Rattle.codec.specs.StateBytes.{pendingOf, writingOf, nodeIn}
 use Rattle.node.specs.State.{node, counts}
 use borrow.Author.Needs.{needs}
 use Rattle.codec.proofs.state.node_in.Statement.{statement}
@@ -15,11 +15,8 @@ directory-in-requires c κs = search needs
 given-in-requires : tie.Need-given-in-requires
 given-in-requires c κs = search needs
 
-progress-in-requires : tie.Need-progress-in-requires
-progress-in-requires c κs = search needs
-
-erasing-of-requires : tie.Need-erasing-of-requires
-erasing-of-requires c κs = search needs
+erasing-in-requires : tie.Need-erasing-in-requires
+erasing-in-requires c κs = search needs
 
 wait-in-requires : tie.Need-wait-in-requires
 wait-in-requires c κs = search needs
@@ -48,12 +45,12 @@ word16-requires-2 c κs = search needs
 byte-requires : tie.Need-byte-requires
 byte-requires c κs = search needs
 
-cast-t14 : tie.Need-cast-t14
-cast-t14 c = search needs
+cast-t13 : tie.Need-cast-t13
+cast-t13 c = search needs
 
 returns : tie.Need-returns
 unfolding nodeIn
-returns c = λ i. node ((c .before .before .before .before .before .before .before .before .before .before .before .before .before .masks-in .ensures) i) ((c .before .before .before .before .before .before .before .before .before .before .before .before .directory-in .ensures) i) ((c .before .before .before .before .before .before .before .before .before .before .before .given-in .ensures) i) ((c .byte .ensures) i) (counts ((c .before .before .word16 .ensures) i) ((c .before .word162 .ensures) i)) ((c .before .before .before .before .before .before .before .before .before .erasing-of .ensures ∙ ap erasingOf (c .before .before .before .before .before .before .before .before .before .before .progress-in .ensures)) i) ((c .before .before .before .before .before .before .before .pending-of .ensures ∙ ap pendingOf (c .before .before .before .before .before .before .before .before .wait-in .ensures)) i) ((c .before .before .before .before .before .writing-of .ensures ∙ ap writingOf (c .before .before .before .before .before .before .standing-in .ensures)) i) ((c .before .before .before .before .listing-in .ensures) i) ((c .before .before .before .events-in .ensures) i)
+returns c = λ i. node ((c .before .before .before .before .before .before .before .before .before .before .before .before .masks-in .ensures) i) ((c .before .before .before .before .before .before .before .before .before .before .before .directory-in .ensures) i) ((c .before .before .before .before .before .before .before .before .before .before .given-in .ensures) i) ((c .byte .ensures) i) (counts ((c .before .before .word16 .ensures) i) ((c .before .word162 .ensures) i)) ((c .before .before .before .before .before .before .before .before .before .erasing-in .ensures) i) ((c .before .before .before .before .before .before .before .pending-of .ensures ∙ ap pendingOf (c .before .before .before .before .before .before .before .before .wait-in .ensures)) i) ((c .before .before .before .before .before .writing-of .ensures ∙ ap writingOf (c .before .before .before .before .before .before .standing-in .ensures)) i) ((c .before .before .before .before .listing-in .ensures) i) ((c .before .before .before .events-in .ensures) i)
 
 pub node-in-spec : {M : Type 1} → statement M
 node-in-spec =
@@ -62,8 +59,7 @@ node-in-spec =
     masks-in-requires
     directory-in-requires
     given-in-requires
-    progress-in-requires
-    erasing-of-requires
+    erasing-in-requires
     wait-in-requires
     pending-of-requires
     standing-in-requires
@@ -73,5 +69,5 @@ node-in-spec =
     word16-requires
     word16-requires-2
     byte-requires
-    cast-t14
+    cast-t13
     returns)
