@@ -190,7 +190,7 @@ pub record NodeSettled : Type 0 where
   pub routing-word-at : Settles Node.routing.word_at.Kinds.ps Node.routing.word_at.Kinds.r Node.routing.word_at.Reads.Learnt
   pub routing-route-of : Settles Node.routing.route_of.Kinds.ps Node.routing.route_of.Kinds.r Node.routing.route_of.Reads.Learnt
   pub answering-says : Settles Node.answering.says.Kinds.ps Node.answering.says.Kinds.r Node.answering.says.Reads.Learnt
-  pub blanking-set-step : Settles Node.blanking.set_step.Kinds.ps Node.blanking.set_step.Kinds.r Node.blanking.set_step.Reads.Learnt
+  pub blanking-stepped-directory : Settles Node.blanking.stepped_directory.Kinds.ps Node.blanking.stepped_directory.Kinds.r Node.blanking.stepped_directory.Reads.Learnt
   pub changing-end-as : Settles Node.changing.end_as.Kinds.ps Node.changing.end_as.Kinds.r Node.changing.end_as.Reads.Learnt
   pub changing-is-new : Settles Node.changing.is_new.Kinds.ps Node.changing.is_new.Kinds.r Node.changing.is_new.Reads.Learnt
   pub changing-to-erase : Settles Node.changing.to_erase.Kinds.ps Node.changing.to_erase.Kinds.r Node.changing.to_erase.Reads.Learnt

@@ -12,7 +12,7 @@ use Rattle.base.specs.Pick.{pick}
 use Rattle.base.proofs.Pick.{no, and-left, and-right}
 use Rattle.node.specs.State.{refusalNumber}
 use Rattle.node.specs.Effect.{Lent, Outcome, outcome}
-use Rattle.node.specs.Valid.{sizeOk, kindOk, portsOk, stateOk}
+use Rattle.node.specs.Valid.{sizeOk, kindOk, portsOk}
 use Rattle.node.specs.Refusals.{startVerdict}
 use Rattle.node.specs.Calls.{given, startBy, startOf}
 use Rattle.node.specs.declared.Answer.{Answer}
@@ -20,13 +20,14 @@ use Rattle.node.specs.declared.Refusal.{Refusal}
 use Rattle.node.specs.declared.Turn.{Turn}
 use Rattle.node.specs.declared.Verdict.{Verdict}
 use Rattle.node.proofs.Verdicts.{or-neither}
-use Rattle.codec.specs.StateBytes.{encodeOf, nodeIn, alike, areState}
+use Rattle.codec.specs.StateBytes.{encodeOf, areState}
 use Rattle.series.specs.Requests.{Row, rowed}
 use Rattle.series.specs.declared.Rowed.{Rowed}
 use Rattle.logodwen.specs.Number.{fields, answerNumber}
 use Rattle.logodwen.specs.Causes.{bytesOk, lentOk, keptOk, recordsOk, linkOk, requestCheck, replyCheck, pollCheck, buildCheck, eraseCheck, slowCheck}
 use Rattle.codec.proofs.Small.{one-of}
-use Rattle.touch.specs.InBytes.{inBytes}
+pub use Rattle.codec.proofs.ThereAndBack.{state-long}
+use Rattle.touch.specs.InBytes.{Coded, coded, codedOf, inBytes}
 use Rattle.logodwen.specs.Entry.{answered, told, entered, listed}
 
 pub entered-fine : (v : Verdict) (state : List ℕ) (runs : Lent) (o : Outcome) {t : Turn} {l : Lent} {number : ℕ} {after : List ℕ} → v ≡ Verdict.Fine
@@ -34,16 +35,17 @@ pub entered-fine : (v : Verdict) (state : List ℕ) (runs : Lent) (o : Outcome) 
 entered-fine v state runs o {t} {l} fine made numbered encoded =
     (λ i. answered (numbered i) (encoded i) l) ∙ ap told made ∙ sym (ap (λ (w : Verdict). entered w state runs o) fine)
 
+-- the same where the state bytes are changed where they stand
+pub entered-coded : (v : Verdict) (state : List ℕ) (runs : Lent) (o : Outcome) {answer : Answer} {l : Lent} {number : ℕ} {after : List ℕ} → v ≡ Verdict.Fine
+    → coded answer after l ≡ codedOf (inBytes o runs) → number ≡ answerNumber answer → answered number after l ≡ entered v state runs o
+entered-coded v state runs o {answer} {l} {number} {after} fine made numbered =
+    ap (λ (k : ℕ). answered k after l) numbered ∙ ap (λ (c : Coded). answered (answerNumber (c .answer)) (c .state) (c .runs)) made
+    ∙ sym (ap (λ (w : Verdict). entered w state runs o) fine)
+
 pub entered-refused : (v : Verdict) (state : List ℕ) (runs : Lent) (o : Outcome) (r : Refusal) {number : ℕ} → v ≡ Verdict.No r → number ≡ refusalNumber r
     → answered number state runs ≡ entered v state runs o
 entered-refused v state runs o r e numbered =
     ap (λ (n : ℕ). answered n state runs) numbered ∙ sym (ap (λ (w : Verdict). entered w state runs o) e)
-
--- bytes of a state are 208
-pub state-long : (bytes : List ℕ) → areState bytes ≡ true → length bytes ≡ 208
-unfolding areState
-state-long bytes h =
-    eqb-true (length bytes) 208 (and-left (eqb (length bytes) 208) (alike (encodeOf (nodeIn bytes)) bytes && stateOk (nodeIn bytes)) h)
 
 -- where the verdict is fine no cause holds
 

@@ -21,6 +21,7 @@ use crate::taking::take;
 use codec::state::encode;
 use codec::state::is_state;
 use codec::state::node_in;
+use node::Answer;
 use node::Verdict;
 use node::eventing::take_build;
 use node::refusals::refusal_number;
@@ -273,7 +274,7 @@ pub extern "C" fn logodwen6_build(clock: u32, state: &mut [u8], events: &[u8]) -
     }
 }
 
-// Erase progress.
+// Erase progress: of the state it changes so few bytes that it changes them where they stand.
 #[no_mangle]
 pub extern "C" fn logodwen6_erase(budget: u64, state: &mut [u8], flash: &mut [u8]) -> u64
     ensures { λ r. ⌜ answered r (now (state .exit)) (lentFlash (now (flash .exit))) ≡ eraseEntry budget (now (state .entry)) (now (flash .entry)) ⌝ }
@@ -281,12 +282,8 @@ pub extern "C" fn logodwen6_erase(budget: u64, state: &mut [u8], flash: &mut [u8
     let verdict = erase_check(state, flash.len());
     match verdict {
         Verdict::Fine => {
-            let node = node_in(state);
-            let turn = on_erase(node, budget as usize, flash);
-            let next = turn.node;
-            let answer = turn.answer;
-            encode(next, state);
-            answer_number(answer)
+            let count = on_erase(budget as usize, state, flash);
+            answer_number(Answer::Erased(count))
         }
         Verdict::No(refusal) => refusal_number(refusal) as u64,
     }

@@ -22,7 +22,8 @@ use Rattle.node.specs.declared.Turn.{Turn}
 use Rattle.node.specs.declared.Verdict.{Verdict}
 use Rattle.node.proofs.Blanks.{step-idle, step-set}
 use Rattle.codec.specs.Bytes.{wordsIn, wordsOf, bytesOf, storeWords}
-use Rattle.touch.specs.InBytes.{inBytes}
+use Rattle.codec.specs.StateBytes.{encodeOf}
+use Rattle.touch.specs.InBytes.{Coded, coded, codedOf, inBytes}
 use Rattle.codec.proofs.Runs.{length-words, length-words-of, store-words, store-laid, below-words}
 use Rattle.touch.proofs.InSector.{unitIn, unit-is, sector-within, words-stored, below-laid}
 use Rattle.codec.proofs.ThereAndBack.{bytes-kept}
@@ -66,14 +67,15 @@ module _ (n : Node) (budget : ℕ) (flash : List ℕ) (p : Progress) (e : n .era
   unit : unitIn flash ≡ unitOf fw
   unit = sym (unit-is flash)
 
-  pub erase-left : {count first : ℕ} {next : Erasing} {t : Turn} {end : List ℕ} → count ≡ min budget (sizeOf (unitIn flash) (p .sector) - p .done)
+  -- and the state's bytes are those of the node after the step
+  pub erase-left : {count first : ℕ} {next : Erasing} {after end : List ℕ} → count ≡ min budget (sizeOf (unitIn flash) (p .sector) - p .done)
       → next ≡ erasingAfter (unitIn flash) (Erasing.Sector p) budget
       → end ≡ laid flash ((startOf (unitIn flash) (p .sector) + p .done) * 2) (bytesOf 2 (blanks count))
       → first ≡ firstOf (sectorOf (wordsOf 2 end) (p .sector))
-      → t ≡ steppedTo n (p .sector) first count next
-      → outcome t (lentFlash end) ≡ inBytes (applied n (lentFlash fw) (eraseEffect n budget fw)) (lentFlash flash)
+      → after ≡ encodeOf (steppedTo n (p .sector) first count next .node)
+      → coded (Answer.Erased count) after (lentFlash end) ≡ codedOf (inBytes (applied n (lentFlash fw) (eraseEffect n budget fw)) (lentFlash flash))
   unfolding eraseCount erased wordsOf
-  erase-left {count} {first} {next} {t} {end} c x m f s =
+  erase-left {count} {first} {next} {after} {end} c x m f s =
       let u : ℕ = unitIn flash in
       let at : ℕ = startOf u (p .sector) + p .done in
       let k : Blanked flash fw at count =
@@ -86,14 +88,20 @@ module _ (n : Node) (budget : ℕ) (flash : List ℕ) (p : Progress) (e : n .era
       let low : Below 65536 done = subst (Below 65536) is (below-laid fw (blanks count) at (below-words (length flash / 2) flash (omega arith) b) (below-blanks count)) in
       let words : wordsOf 2 end ≡ done = ap (wordsOf 2) stored ∙ words-stored flash done long low in
       let first-is : first ≡ firstOf (sectorOf done (p .sector)) = f ∙ ap (λ (l : List ℕ). firstOf (sectorOf l (p .sector))) words in
+      let t : Turn = steppedTo n (p .sector) first count next in
+      let left : outcome t (lentFlash end) ≡ inBytes (applied n (lentFlash fw) (eraseEffect n budget fw)) (lentFlash flash) =
       left-flash (λ (w : List ℕ). applied n (lentFlash w) (eraseEffect n budget w)) flash fw refl
-      (step-set n budget fw p e c′ refl x′ first first-is s) stored
+      (step-set n budget fw p e c′ refl x′ first first-is refl) stored in
+      ap (λ (l : List ℕ). coded (Answer.Erased count) l (lentFlash end)) s ∙ ap codedOf left
 
-pub idle-left : (n : Node) (budget : ℕ) (flash : List ℕ) → n .erasing ≡ Erasing.Nothing → Below 256 flash
-    → outcome (turn n (Answer.Erased 0)) (lentFlash flash) ≡ inBytes (applied n (lentFlash (wordsOf 2 flash)) (eraseEffect n budget (wordsOf 2 flash))) (lentFlash flash)
-idle-left n budget flash e b =
+-- nothing is erasing: every byte stays
+pub idle-left : (n : Node) (budget : ℕ) (flash : List ℕ) {state : List ℕ} → n .erasing ≡ Erasing.Nothing → Below 256 flash → encodeOf n ≡ state
+    → coded (Answer.Erased 0) state (lentFlash flash) ≡ codedOf (inBytes (applied n (lentFlash (wordsOf 2 flash)) (eraseEffect n budget (wordsOf 2 flash))) (lentFlash flash))
+idle-left n budget flash {state} e b s =
+    let left : outcome (turn n (Answer.Erased 0)) (lentFlash flash) ≡ inBytes (applied n (lentFlash (wordsOf 2 flash)) (eraseEffect n budget (wordsOf 2 flash))) (lentFlash flash) =
     left-flash (λ (w : List ℕ). applied n (lentFlash w) (eraseEffect n budget w)) flash (wordsOf 2 flash) refl
-    (step-idle n budget (wordsOf 2 flash) e) (sym (bytes-kept 2 flash b))
+    (step-idle n budget (wordsOf 2 flash) e) (sym (bytes-kept 2 flash b)) in
+    ap (λ (l : List ℕ). coded (Answer.Erased 0) l (lentFlash flash)) (sym s) ∙ ap codedOf left
 
 -- by the verdict
 module _ (n : Node) (budget : ℕ) (flash : List ℕ) where
@@ -101,10 +109,10 @@ module _ (n : Node) (budget : ℕ) (flash : List ℕ) where
   unfolding eraseOf
   erase-judged = ap (λ (k : ℕ). judged (eraseVerdict n k) n (lentFlash (wordsOf 2 flash)) (eraseEffect n budget (wordsOf 2 flash))) (length-words-of 2 flash)
 
-  abbrev by : Verdict → Outcome
-  by v = inBytes (judged v n (lentFlash (wordsOf 2 flash)) (eraseEffect n budget (wordsOf 2 flash))) (lentFlash flash)
+  abbrev by : Verdict → Coded
+  by v = codedOf (inBytes (judged v n (lentFlash (wordsOf 2 flash)) (eraseEffect n budget (wordsOf 2 flash))) (lentFlash flash))
 
-  pub erase-taken : {o : Outcome} → eraseVerdict n (length flash / 2) ≡ Verdict.Fine
-      → o ≡ inBytes (applied n (lentFlash (wordsOf 2 flash)) (eraseEffect n budget (wordsOf 2 flash))) (lentFlash flash)
-      → o ≡ inBytes (eraseOf n budget (wordsOf 2 flash)) (lentFlash flash)
-  erase-taken v h = h ∙ sym (ap by v) ∙ sym (ap (λ (o : Outcome). inBytes o (lentFlash flash)) erase-judged)
+  pub erase-taken : {k : Coded} → eraseVerdict n (length flash / 2) ≡ Verdict.Fine
+      → k ≡ codedOf (inBytes (applied n (lentFlash (wordsOf 2 flash)) (eraseEffect n budget (wordsOf 2 flash))) (lentFlash flash))
+      → k ≡ codedOf (inBytes (eraseOf n budget (wordsOf 2 flash)) (lentFlash flash))
+  erase-taken v h = h ∙ sym (ap by v) ∙ sym (ap (λ (o : Outcome). codedOf (inBytes o (lentFlash flash))) erase-judged)

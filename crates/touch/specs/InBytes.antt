@@ -5,7 +5,9 @@ use mathlib.Core.List.{List}
 use lib.ListN.{take}
 use Rattle.memory.specs.Segment.{Memories, memories}
 use Rattle.node.specs.Effect.{Further, further, Lent, lent, Outcome, outcome}
+use Rattle.node.specs.declared.Answer.{Answer}
 use Rattle.codec.specs.Bytes.{wordsOf, storeWords}
+use Rattle.codec.specs.StateBytes.{encodeOf}
 
 -- The words of the memories, and the words stored back.
 abbrev pub memoryWords : Memories → Memories
@@ -38,3 +40,15 @@ runsLeft l before =
 -- What a call comes to, with the runs in bytes.
 abbrev pub inBytes : Outcome → Lent → Outcome
 inBytes o before = outcome (o .turn) (runsLeft (o .after) before)
+
+-- What a call comes to, with the state in bytes too.
+pub record Coded : Type 0 where
+  pub answer : Answer
+  pub state : List ℕ
+  pub runs : Lent
+
+abbrev pub coded : Answer → List ℕ → Lent → Coded
+coded answer state runs = record { answer = answer; state = state; runs = runs }
+
+abbrev pub codedOf : Outcome → Coded
+codedOf o = coded (o .turn .answer) (encodeOf (o .turn .node)) (o .after)

@@ -1,23 +1,28 @@
-// Erase progress: of the flash the words that it sets, and the sector's first.
+// Erase progress: of the flash the words that it sets, and the sector's first; of the state bytes the erasure and the directory, where they
+// stand.
 ghost use mathlib.Core.Path.{_≡_};
+ghost use mathlib.Core.Bool.{true};
 ghost use Prim.Native.Nat.{min, _+_, _-_, _*_, _/_, _≤_};
 ghost use lib.ListN.{length};
-ghost use Rattle.node.specs.Effect.{outcome, applied};
+ghost use Rattle.node.specs.Effect.{applied};
 ghost use Rattle.node.specs.Refusals.{eraseVerdict};
+ghost use Rattle.node.specs.declared.Answer.{Answer};
 ghost use Rattle.node.specs.declared.Verdict.{Verdict};
-ghost use Rattle.node.specs.Calls.{lentFlash, eraseOf, eraseEffect};
+ghost use Rattle.node.specs.Calls.{lentFlash, eraseOf, eraseEffect, steppedTo};
 ghost use Rattle.base.specs.Words.{laid, blanks};
 ghost use Rattle.flash.specs.declared.Erasing.{Erasing};
 ghost use Rattle.codec.specs.Bytes.{wordsOf, bytesOf};
-ghost use Rattle.touch.specs.InBytes.{inBytes};
+ghost use Rattle.codec.specs.StateBytes.{encodeOf, nodeIn, areState};
+ghost use Rattle.touch.specs.InBytes.{inBytes, coded, codedOf};
 use crate::sectors::first_in;
 use base::least;
+use codec::in_place::put_flash;
+use codec::state::directory_in;
+use codec::state::erasing_in;
 use codec::words::blank16;
 use flash::Erasing;
 use flash::Progress;
-use node::Answer;
-use node::Node;
-use node::Turn;
+use node::blanking::stepped_directory;
 
 // Sets words of a sector of which so many are done: as many as the budget says, or the rest.
 fn blank_sector(bytes: &mut [u8], start: usize, size: usize, done: usize, budget: usize) -> usize
@@ -32,10 +37,20 @@ fn blank_sector(bytes: &mut [u8], start: usize, size: usize, done: usize, budget
     count
 }
 
-// A step of an erasure: of the flash the words that are set, and the sector's first word.
-fn erase_sector(node: Node, progress: Progress, budget: usize, flash: &mut [u8]) -> Turn
-    requires { ⌜ node .erasing ≡ Erasing.Sector progress ⌝ }
-    ensures { λ r. ⌜ outcome r (lentFlash (now (flash .exit))) ≡ inBytes (applied node (lentFlash (wordsOf 2 (now (flash .entry)))) (eraseEffect node budget (wordsOf 2 (now (flash .entry))))) (lentFlash (now (flash .entry))) ⌝ }
+// Stores what a step changes of a state, which set so many words of a sector whose first word then is this.
+fn put_step(sector: usize, first: u16, count: usize, next: Erasing, state: &mut [u8])
+    requires { ⌜ areState (now state) ≡ true ⌝ }
+    ensures { λ _. ⌜ now (state .exit) ≡ encodeOf (steppedTo (nodeIn (now (state .entry))) sector first count next .node) ⌝ }
+{
+    let directory = directory_in(state);
+    let stepped = stepped_directory(directory, sector, first, count, next);
+    put_flash(stepped, next, state);
+}
+
+// A step of an erasure: how many words it sets.
+fn erase_sector(progress: Progress, budget: usize, state: &mut [u8], flash: &mut [u8]) -> usize
+    requires { ⌜ (areState (now state) ≡ true) × (nodeIn (now state) .erasing ≡ Erasing.Sector progress) ⌝ }
+    ensures { λ r. ⌜ coded (Answer.Erased r) (now (state .exit)) (lentFlash (now (flash .exit))) ≡ codedOf (inBytes (applied (nodeIn (now (state .entry))) (lentFlash (wordsOf 2 (now (flash .entry)))) (eraseEffect (nodeIn (now (state .entry))) budget (wordsOf 2 (now (flash .entry))))) (lentFlash (now (flash .entry)))) ⌝ }
 {
     let sector = progress.sector;
     let done = progress.done;
@@ -44,25 +59,25 @@ fn erase_sector(node: Node, progress: Progress, budget: usize, flash: &mut [u8])
     let size = flash::sectors::sector_size(words, sector);
     let start = flash::sectors::sector_start(words, sector);
     let count = blank_sector(flash, start, size, done, budget);
-    node::blanking::set_step(node, sector, first_in(flash, sector), count, next)
+    put_step(sector, first_in(flash, sector), count, next, state);
+    count
 }
 
-fn erase_taken(node: Node, budget: usize, flash: &mut [u8]) -> Turn
-    ensures { λ r. ⌜ outcome r (lentFlash (now (flash .exit))) ≡ inBytes (applied node (lentFlash (wordsOf 2 (now (flash .entry)))) (eraseEffect node budget (wordsOf 2 (now (flash .entry))))) (lentFlash (now (flash .entry))) ⌝ }
+fn erase_taken(budget: usize, state: &mut [u8], flash: &mut [u8]) -> usize
+    requires { ⌜ areState (now state) ≡ true ⌝ }
+    ensures { λ r. ⌜ coded (Answer.Erased r) (now (state .exit)) (lentFlash (now (flash .exit))) ≡ codedOf (inBytes (applied (nodeIn (now (state .entry))) (lentFlash (wordsOf 2 (now (flash .entry)))) (eraseEffect (nodeIn (now (state .entry))) budget (wordsOf 2 (now (flash .entry))))) (lentFlash (now (flash .entry)))) ⌝ }
 {
-    let erasing = node.erasing;
+    let erasing = erasing_in(state);
     match erasing {
-        Erasing::Nothing => Turn {
-            node,
-            answer: Answer::Erased(0),
-        },
-        Erasing::Sector(progress) => erase_sector(node, progress, budget, flash),
+        Erasing::Nothing => 0,
+        Erasing::Sector(progress) => erase_sector(progress, budget, state, flash),
     }
 }
 
-pub fn on_erase(node: Node, budget: usize, flash: &mut [u8]) -> Turn
-    requires { ⌜ eraseVerdict node (length (now flash) / 2) ≡ Verdict.Fine ⌝ }
-    ensures { λ r. ⌜ outcome r (lentFlash (now (flash .exit))) ≡ inBytes (eraseOf node budget (wordsOf 2 (now (flash .entry)))) (lentFlash (now (flash .entry))) ⌝ }
+// Erase progress on state bytes that are those of a state: how many words it sets.
+pub fn on_erase(budget: usize, state: &mut [u8], flash: &mut [u8]) -> usize
+    requires { ⌜ (areState (now state) ≡ true) × (eraseVerdict (nodeIn (now state)) (length (now flash) / 2) ≡ Verdict.Fine) ⌝ }
+    ensures { λ r. ⌜ coded (Answer.Erased r) (now (state .exit)) (lentFlash (now (flash .exit))) ≡ codedOf (inBytes (eraseOf (nodeIn (now (state .entry))) budget (wordsOf 2 (now (flash .entry)))) (lentFlash (now (flash .entry)))) ⌝ }
 {
-    erase_taken(node, budget, flash)
+    erase_taken(budget, state, flash)
 }

@@ -1,17 +1,13 @@
 -- `logodwen::logodwen6_erase` meets its contract. Assumes nothing.
-use mathlib.Core.Path.{sym, ap, _∙_}
-use Prim.Native.Nat.{_/_}
+use mathlib.Core.Path.{sym, _∙_}
 use lib.ListN.{length}
 use Rattle.codec.specs.Bytes.{wordsOf}
 use Rattle.codec.specs.StateBytes.{nodeIn}
-use Rattle.logodwen.proofs.Entering.{entered-fine, entered-refused, state-long, erase-fine}
+use Rattle.logodwen.proofs.Entering.{entered-coded, entered-refused, erase-fine}
 use Rattle.logodwen.proofs.Fine.{erase-verdict}
 use Rattle.logodwen.specs.Causes.{eraseCheck}
-use Rattle.touch.specs.InBytes.{inBytes}
 use Rattle.logodwen.specs.Entry.{eraseEntry}
-use Rattle.node.specs.Refusals.{eraseVerdict}
 use Rattle.node.specs.Calls.{eraseOf, lentFlash}
-use Rattle.node.specs.declared.Node.{Node}
 use borrow.Author.Needs.{needs}
 use Rattle.logodwen.proofs.logodwen6_erase.Statement.{statement}
 use Rattle.logodwen.proofs.logodwen6_erase.Tie as tie
@@ -22,17 +18,11 @@ erase-check-requires c κs = search needs
 enum-told : tie.Need-enum-told
 enum-told c = search needs
 
-node-in-requires : tie.Need-node-in-requires
-node-in-requires c κs = state-long (c .before .before .before .before .before .before .before .args .state .now) ((erase-fine (c .before .before .before .before .before .before .before .args .state .now) (length (c .before .before .before .before .before .before .before .args .flash .now)) (sym (c .before .before .before .erase-check .ensures) ∙ c .before .enum-told .given .1)) .1)
-
 on-erase-requires : tie.Need-on-erase-requires
 on-erase-requires c κs =
-    let a = c .before .before .before .before .before .before .before .before .before .args in
-    let check = sym (c .before .before .before .before .before .erase-check .ensures) ∙ c .before .before .before .enum-told .given .1 in
-    ap (λ (n : Node). eraseVerdict n (length (a .flash .now) / 2)) (c .before .node-in .ensures) ∙ erase-verdict (a .state .now) (length (a .flash .now)) check
-
-encode-requires : tie.Need-encode-requires
-encode-requires c κs = state-long (c .before .before .before .before .before .before .before .before .before .before .before .before .before .before .args .state .now) ((erase-fine (c .before .before .before .before .before .before .before .before .before .before .before .before .before .before .args .state .now) (length (c .before .before .before .before .before .before .before .before .before .before .before .before .before .before .args .flash .now)) (sym (c .before .before .before .before .before .before .before .before .before .before .erase-check .ensures) ∙ c .before .before .before .before .before .before .before .before .enum-told .given .1)) .1)
+    let a = c .before .before .before .before .before .before .before .before .args in
+    let check = sym (c .before .before .before .before .erase-check .ensures) ∙ c .before .before .enum-told .given .1 in
+    (erase-fine (a .state .now) (length (a .flash .now)) check .1, erase-verdict (a .state .now) (length (a .flash .now)) check)
 
 answer-number-requires : tie.Need-answer-number-requires
 answer-number-requires c κs = search needs
@@ -54,7 +44,10 @@ same-length-2 c = search needs
 
 returns : tie.Need-returns
 unfolding eraseEntry
-returns c = entered-fine (eraseCheck (c .before .before .before .before .before .before .before .before .before .before .before .before .before .before .before .before .before .before .args .state .now) (length (c .before .before .before .before .before .before .before .before .before .before .before .before .before .before .before .before .before .before .args .flash .now))) (c .before .before .before .before .before .before .before .before .before .before .before .before .before .before .before .before .before .before .args .state .now) (lentFlash (c .before .before .before .before .before .before .before .before .before .before .before .before .before .before .before .before .before .before .args .flash .now)) (eraseOf (nodeIn (c .before .before .before .before .before .before .before .before .before .before .before .before .before .before .before .before .before .before .args .state .now)) (c .before .before .before .before .before .before .before .before .before .before .before .before .before .before .before .before .before .before .args .budget) (wordsOf 2 (c .before .before .before .before .before .before .before .before .before .before .before .before .before .before .before .before .before .before .args .flash .now))) (sym (c .before .before .before .before .before .before .before .before .before .before .before .before .before .before .erase-check .ensures) ∙ c .before .before .before .before .before .before .before .before .before .before .before .before .enum-told .given .1) (c .before .before .before .before .before .before .before .before .on-erase .ensures ∙ ap (λ (n : Node). inBytes (eraseOf n (c .before .before .before .before .before .before .before .before .before .before .before .before .before .before .before .before .before .before .args .budget) (wordsOf 2 (c .before .before .before .before .before .before .before .before .before .before .before .before .before .before .before .before .before .before .args .flash .now))) (lentFlash (c .before .before .before .before .before .before .before .before .before .before .before .before .before .before .before .before .before .before .args .flash .now))) (c .before .before .before .before .before .before .before .before .before .before .node-in .ensures)) (c .answer-number .ensures) (c .before .before .before .encode .ensures)
+returns c =
+    let a = c .before .before .before .before .before .before .before .before .before .before .before .before .before .before .args in
+    entered-coded (eraseCheck (a .state .now) (length (a .flash .now))) (a .state .now) (lentFlash (a .flash .now)) (eraseOf (nodeIn (a .state .now)) (a .budget) (wordsOf 2 (a .flash .now)))
+    (sym (c .before .before .before .before .before .before .before .before .before .before .erase-check .ensures) ∙ c .before .before .before .before .before .before .before .before .enum-told .given .1) (c .before .before .before .before .before .on-erase .ensures) (c .answer-number .ensures)
 
 same-length-3 : tie.Need-same-length-3
 same-length-3 c = search needs
@@ -69,9 +62,7 @@ logodwen6-erase-spec =
     (tie.spec
     erase-check-requires
     enum-told
-    node-in-requires
     on-erase-requires
-    encode-requires
     answer-number-requires
     enum-known-verdict
     refusal-number-requires
