@@ -15,7 +15,7 @@ use Rattle.flash.specs.declared.Status.{Status}
 use Rattle.flash.proofs.Statuses.{empty-words, empty-word}
 use Rattle.salvage.specs.Follow.{leads, wordsIn}
 use Rattle.salvage.specs.Sector.{kept, Saved, saved, fileOf, canFollow, savedOf}
-use Rattle.salvage.specs.Promised.{isSound, segmentsIn, validOnes, hasValid, Reduces, SavedAs, OnlyOne}
+use Rattle.salvage.specs.Promised.{isSound, segmentsIn, validOnes, hasValid, Reduces, WellSaved, OnlyOne}
 use Rattle.salvage.specs.declared.How.{How}
 use Rattle.salvage.proofs.Goods.{goods, has-word, file-blank}
 use Rattle.salvage.proofs.Promised.{valid-ones, promised}
@@ -62,7 +62,7 @@ module _ (words : List ℕ) (has : hasValid words ≡ true) where
 pub only-one : OnlyOne
 only-one words s p = by (isSound (statusOf words)) refl
   where
-    q : SavedAs words (savedOf words)
+    q : WellSaved words (savedOf words)
     q = promised .each words
 
     on : (h : Bool) → isSound (statusOf words) ≡ false → hasValid words ≡ h → s ≡ savedOf words

@@ -62,7 +62,7 @@ pub record Reduces (words : List ℕ) (s : Saved) : Type 0 where
   pub header : getD (s .words) 0 0 / 16 ≡ getD words 0 0 / 16
 
 -- What is promised of one sector, by its words and what was saved of them.
-pub record SavedAs (words : List ℕ) (s : Saved) : Type 0 where
+pub record WellSaved (words : List ℕ) (s : Saved) : Type 0 where
   -- what is written is as large as its source, and empty or good
   pub size : length (s .words) ≡ length words
   pub sound : isSound (statusOf (s .words)) ≡ true
@@ -74,9 +74,9 @@ pub record SavedAs (words : List ℕ) (s : Saved) : Type 0 where
 
 -- And of any that saves sectors: a run on what is written changes nothing, and says that it was copied, with as many segments.
 pub record Promised (save : List ℕ → Saved) : Type 0 where
-  pub each : (words : List ℕ) → SavedAs words (save words)
+  pub each : (words : List ℕ) → WellSaved words (save words)
   pub again : (words : List ℕ) → save (save words .words) ≡ saved (kept (save words .kept .segments) How.Copied) (save words .words)
 
 -- The promise leaves no choice: what keeps it is what we save.
 abbrev pub OnlyOne : Type 0
-OnlyOne = (words : List ℕ) (s : Saved) → SavedAs words s → s ≡ savedOf words
+OnlyOne = (words : List ℕ) (s : Saved) → WellSaved words s → s ≡ savedOf words

@@ -17,7 +17,7 @@ use Rattle.flash.specs.Status.{isEmpty}
 use Rattle.flash.proofs.Statuses.{empty-blanks}
 use Rattle.salvage.specs.Sector.{Saved, saved, savedOf}
 use Rattle.salvage.specs.Flash.{howNumber, sectorNumber, numberFrom, wordsFrom, savedFlash, Told, told}
-use Rattle.salvage.specs.Promised.{SavedAs}
+use Rattle.salvage.specs.Promised.{WellSaved}
 use Rattle.salvage.specs.Runs.{bitsOf, SavesAll}
 use Rattle.salvage.specs.declared.Kept.{Kept}
 use Rattle.salvage.proofs.Saves.{blank-words}
@@ -196,7 +196,7 @@ module _ (first : List ℕ) (low : Below 256 first) (sized : isSize (length firs
       kept = savedOf (sectorOf X s) .kept;
       told = all .told s e;
       saved =
-          subst (λ (ws : List ℕ). SavedAs (sectorOf X s) (saved (savedOf (sectorOf X s) .kept) ws)) (sym (ap (λ (ws : List ℕ). sectorOf ws s) back ∙ all .saved s e))
+          subst (λ (ws : List ℕ). WellSaved (sectorOf X s) (saved (savedOf (sectorOf X s) .kept) ws)) (sym (ap (λ (ws : List ℕ). sectorOf ws s) back ∙ all .saved s e))
           (promised .each (sectorOf X s));
     };
     others = all .others;

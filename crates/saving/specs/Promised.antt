@@ -11,7 +11,7 @@ use Rattle.bytes.specs.Bytes.{wordsOf}
 use Rattle.flash.specs.Geometry.{isSector, sectorOf}
 use Rattle.salvage.specs.Sector.{saved}
 use Rattle.salvage.specs.Flash.{sectorNumber, Told}
-use Rattle.salvage.specs.Promised.{SavedAs}
+use Rattle.salvage.specs.Promised.{WellSaved}
 use Rattle.salvage.specs.Runs.{bitsOf}
 use Rattle.salvage.specs.declared.Kept.{Kept}
 use Rattle.saving.specs.InBytes.{salvageIn}
@@ -46,7 +46,7 @@ pub record Stays (second : List ℕ) (t : Told) : Type 0 where
 pub record SectorSaved (first : List ℕ) (t : Told) (s : ℕ) : Type 0 where
   pub kept : Kept
   pub told : bitsOf (t .number) s ≡ sectorNumber kept
-  pub saved : SavedAs (sectorOf (wordsOf 2 first) s) (saved kept (sectorOf (wordsOf 2 (t .second)) s))
+  pub saved : WellSaved (sectorOf (wordsOf 2 first) s) (saved kept (sectorOf (wordsOf 2 (t .second)) s))
 
 -- A flash: as large as the first; sectors 0 to 2, the first sixteenth of the bytes, blank; sectors 3 to 10 saved; and nothing else told.
 pub record FlashSaved (first : List ℕ) (t : Told) : Type 0 where
