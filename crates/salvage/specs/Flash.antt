@@ -45,7 +45,7 @@ unfoldable pub numberFrom : ℕ → ℕ → List ℕ → ℕ
 numberFrom zero s first = 0
 numberFrom (suc n) s first = numberFrom n (s + 1) first * 64 + sectorNumber (savedOf (sectorOf first s) .kept)
 
--- The number answered, and the second flash: the refusal in bits 7-0, and nothing is written; or above them what is told of the sectors.
+-- The number answered, and the second flash.
 pub record Told : Type 0 where
   pub number : ℕ
   pub second : List ℕ
@@ -53,6 +53,8 @@ pub record Told : Type 0 where
 abbrev pub told : ℕ → List ℕ → Told
 told number second = record { number = number; second = second }
 
+-- A run that is refused tells the refusal, in bits 7-0, and leaves the second flash as it was. Any other has 0 there, and above them what is told of the
+-- sectors.
 abbrev pub unlessRefused : ℕ → Told → List ℕ → Told
 unlessRefused refusal saves second = pick (eqb refusal 0) saves (told refusal second)
 
