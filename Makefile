@@ -50,8 +50,8 @@ install: tools
 # Proved functions and the calls at the C border, against plain C in one process.
 perf: tools
 	@$(home)/host/fresh
-	@cd $(home) && { host/lock rt staticlib perf >build/perf.log 2>&1 || { cat build/perf.log; exit 1; }; }
-	@cd $(home) && host/build build/perf target/staticlib/libperf.a target/staticlib/liblogodwen.a host/perf/*.c host/model/*.c
+	@cd $(home) && { (cd crates/perf && ../../host/lock rt lib) >build/perf.log 2>&1 </dev/null || { cat build/perf.log; exit 1; }; }
+	@cd $(home) && host/build build/perf crates/perf/out/libperf.a target/staticlib/liblogodwen.a host/perf/*.c host/model/*.c
 	@cd $(home) && host/run build/perf
 
 # The stored vectors, the answers to the bench's scripts and the example of a damaged dump anew, by the model: for a change of what is tested,
@@ -67,4 +67,4 @@ tools:
 	@$(home)/host/need python3 python3
 
 clean:
-	cd $(home) && rm -rf build target
+	cd $(home) && rm -rf build target crates/*/out
