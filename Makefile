@@ -51,7 +51,8 @@ install: tools
 perf: tools
 	@$(home)/host/fresh
 	@cd $(home) && { (cd crates/perf && ../../host/lock rt lib) >build/perf.log 2>&1 </dev/null || { cat build/perf.log; exit 1; }; }
-	@cd $(home) && host/build build/perf crates/perf/out/libperf.a target/staticlib/liblogodwen.a host/perf/*.c host/model/*.c
+	@cd $(home) && cp crates/perf/out/libperf.a target/staticlib/libperf.a
+	@cd $(home) && host/build build/perf target/staticlib/libperf.a target/staticlib/liblogodwen.a host/perf/*.c host/model/*.c
 	@cd $(home) && host/run build/perf
 
 # The stored vectors, the answers to the bench's scripts and the example of a damaged dump anew, by the model: for a change of what is tested,
