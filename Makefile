@@ -31,7 +31,7 @@ test: tools
 
 # The library for a host in C, target/staticlib/liblogodwen.a, proved and built from nothing, with a record of what it was built from.
 lib: tools
-	@echo "lib: proving and building from nothing, which takes about eight minutes on two cores" >&2
+	@echo "lib: proving and building from nothing, which takes about half an hour on two cores where nothing is proved here yet" >&2
 	@$(home)/host/lib from-nothing
 
 # Whether archive, header and record belong together, and to these sources.
