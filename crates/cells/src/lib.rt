@@ -2,9 +2,10 @@
 // first. What is written here over `Cell` holds of both.
 #![tactic(auto)]
 
-ghost use Rattle.std.specs.Prelude.{◌≡◌, ℕ, List, [], ◌+◌, ◌≤◌, ◌<◌, length, slice_index, slice_set, slice_range};
+ghost use Rattle.std.specs.Prelude.{◌≡◌, ℕ, List, [], ◌+◌, ◌≤◌, ◌<◌, ◌==◌, ◌&&◌, length, drop, slice_index, slice_set, slice_range};
 ghost use Rattle.std.proofs.Common.{arith};
-ghost use Rattle.base.specs.Words.{laid};
+ghost use Rattle.std.specs.List.{list_all};
+ghost use Rattle.base.specs.Words.{laid, blanks};
 ghost use Rattle.bytewise.specs.Bytes.{words_of};
 ghost use Rattle.cells.specs.Runs.{rest_of, two_bytes, four_bytes};
 
@@ -161,4 +162,44 @@ pub fn copy<W: Word, T: Cell<W>, F: Cell<W>>(to: &mut [T], at: usize, from: &[F]
     for i in 0..F::count(from) {
         T::put(to, at + i, F::get(from, i));
     }
+}
+
+/// Sets n words to FFFF, from a place on.
+#[tactic(auto, using(crate::proofs::Blanks::blanks_lemmas))]
+pub fn blank<C: Cell<u16>>(run: &mut [C], at: usize, n: usize)
+    requires { at + n ≤ length (C.words run.old) }
+    ensures words { C.words run.new ≡ laid (C.words run.old) at (blanks n) }
+    ensures rest { C.rest run.new ≡ C.rest run.old }
+{
+    for i in 0..n {
+        C::put(run, at + i, 0xFFFF);
+    }
+}
+
+// Whether the words from one on up to another are FFFF. Each is looked at: with no early end a processor takes many at once.
+#[tactic(auto, using(crate::proofs::Blanks::all_turn))]
+fn are_ones<C: Cell<u16>>(run: &[C], from: usize, to: usize) -> bool
+    requires ordered { from ≤ to }
+    requires inside { to ≤ length (C.words run.now) }
+    ensures { (result && list_all (λ w. w == 0xFFFF) (drop to (C.words run.now))) ≡ list_all (λ w. w == 0xFFFF) (drop from (C.words run.now)) }
+{
+    let mut ones = true;
+    for i in from..to {
+        ones &= C::get(run, i) == 0xFFFF;
+    }
+    ones
+}
+
+/// Whether all words are FFFF: block by block, up to the first one with another word.
+#[tactic(auto, using(crate::proofs::Blanks::all_end))]
+pub fn is_blank<C: Cell<u16>>(run: &[C]) -> bool
+    ensures { result ≡ list_all (λ w. w == 0xFFFF) (C.words run.now) }
+{
+    let n = C::count(run);
+    for block in 0..n / 64 {
+        if !are_ones(run, block * 64, block * 64 + 64) {
+            return false;
+        }
+    }
+    are_ones(run, n / 64 * 64, n)
 }
