@@ -8,10 +8,10 @@ use mathlib.Core.Path.{◌≡◌, sym, ap, ◌∙◌}
 use lib.ListN.{length, get_or, take, drop, set, take-append-drop, length-drop}
 use Rattle.std.specs.List.{slice_range}
 use lib.Seq.{take_at, drop_at, length-take-le}
-use Rattle.base.specs.Words.{laid}
+use Rattle.base.specs.Words.{laid, Below}
 use Rattle.base.proofs.Laid.{length-laid, laid-append_right, laid-append_left}
 use Rattle.bytewise.specs.Bytes.{digits_of, number_at, words_in, words_of}
-use Rattle.bytewise.proofs.Runs.{length_digits, value_digits, length-words_of, word_in, laid_front, part_each}
+use Rattle.bytewise.proofs.Runs.{length_digits, value_digits, length-words_of, word_in, laid_front, part_each, below_each}
 use Rattle.cells.specs.Runs.{rest_of, two_bytes, four_bytes}
 
 pub count_words : (k : ℕ) (bytes : List ℕ) → length bytes / k ≡ length (words_of k bytes)
@@ -77,5 +77,14 @@ part_words k i j bytes pos h inside fits =
     let e : j * k - i * k ≡ (j - i) * k = omega (arith, rw between at (add-mul i (j - i) k)) in
     ap (λ (m : ℕ). words_of k (take m (drop (i * k) bytes))) e
     ∙ part_each k i (j - i) (length bytes / k) bytes pos (omega arith) fits
+
+-- each word is one
+pub two_below : (bytes : List ℕ) → Below 256 bytes → Below 0x10000 (words_of 2 bytes)
+unfolding words_of
+two_below bytes h = below_each 2 (length bytes / 2) bytes (omega arith) h
+
+pub four_below : (bytes : List ℕ) → Below 256 bytes → Below 0x100000000 (words_of 4 bytes)
+unfolding words_of
+four_below bytes h = below_each 4 (length bytes / 4) bytes (omega arith) h
 
 pub ruleset words_in_bytes = (two_bytes, four_bytes, count_words, get_words, put_words, rest_put, part_words)

@@ -5,21 +5,28 @@
 ghost use Rattle.std.specs.Prelude.{◌≡◌, ℕ, List, [], ◌+◌, ◌≤◌, ◌<◌, ◌==◌, ◌&&◌, length, drop, slice_index, slice_set, slice_range};
 ghost use Rattle.std.proofs.Common.{arith};
 ghost use Rattle.std.specs.List.{list_all};
-ghost use Rattle.base.specs.Words.{laid, blanks};
+ghost use Rattle.base.specs.Words.{laid, blanks, Below};
 ghost use Rattle.bytewise.specs.Bytes.{words_of};
 ghost use Rattle.cells.specs.Runs.{rest_of, two_bytes, four_bytes};
 
 /// A word, as the number that it is.
 pub trait Word: Copy {
     ghost number: { Self → ℕ };
+
+    // Each is below this.
+    ghost size: { ℕ };
 }
 
 impl Word for u16 {
     ghost number = { λ word. word };
+
+    ghost size = { 0x10000 };
 }
 
 impl Word for u32 {
     ghost number = { λ word. word };
+
+    ghost size = { 0x100000000 };
 }
 
 /// A cell of runs in which words of the kind `W` stand.
@@ -50,6 +57,10 @@ pub trait Cell<W: Word>: Copy {
         requires inside { to ≤ length (words run.now) }
         ensures { words result.now ≡ slice_range (words run.now) from to };
 
+    /// Nothing at all: a step of a proof that needs each word of a run to be one.
+    fn are_words(run: &[Self])
+        ensures { Below W.size (words run.now) };
+
     // A run has no more words than cells.
     ghost within: { (run : List Self) → length (words run) ≤ length run };
 }
@@ -76,6 +87,8 @@ impl Cell<u16> for u16 {
     fn part(run: &[u16], from: usize, to: usize) -> &[u16] {
         &run[from..to]
     }
+
+    fn are_words(_run: &[u16]) {}
 }
 
 impl Cell<u32> for u32 {
@@ -100,6 +113,8 @@ impl Cell<u32> for u32 {
     fn part(run: &[u32], from: usize, to: usize) -> &[u32] {
         &run[from..to]
     }
+
+    fn are_words(_run: &[u32]) {}
 }
 
 #[tactic(auto, using(crate::proofs::Bytes::words_in_bytes))]
@@ -125,6 +140,8 @@ impl Cell<u16> for u8 {
     fn part(run: &[u8], from: usize, to: usize) -> &[u8] {
         &run[from * 2..to * 2]
     }
+
+    fn are_words(_run: &[u8]) {}
 }
 
 #[tactic(auto, using(crate::proofs::Bytes::words_in_bytes))]
@@ -150,6 +167,8 @@ impl Cell<u32> for u8 {
     fn part(run: &[u8], from: usize, to: usize) -> &[u8] {
         &run[from * 4..to * 4]
     }
+
+    fn are_words(_run: &[u8]) {}
 }
 
 /// Words laid into a run from a place on, where they fit; the rest of it stays.
